@@ -1,0 +1,13 @@
+use Rattle.std.proofs.Common.{sym}
+use Rattle.st_model.proofs.Links.{link_found}
+use Rattle.st_model.proofs.instance.Instance.link_cost.Goals as goal
+
+pub returns-in_err-index : goal.returns-in_err-index
+returns-in_err-index c =
+    let none = link_found c.self.inside.links.items _ c.args.a c.args.b _ _ (record { a = 0; b = 0; cost = 0 }) _ c.self.invariant.1 c.min.ensures c.max.ensures c.in_err-index.ensures.index in
+    rw (c.from_residual.ensures, ← c.self.view_is) (sym none)
+
+pub returns : goal.returns
+returns c =
+    let found = link_found c.self.inside.links.items _ c.args.a c.args.b _ _ c.index.result.now _ c.self.invariant.1 c.min.ensures c.max.ensures c.in_ok-index.ensures.index in
+    rw (c.index.ensures, ← c.self.view_is) (sym found)

@@ -1,0 +1,46 @@
+-- A branch of the search: vertices that are to be reached, and vertices that are to be avoided.
+use Rattle.std.specs.Prelude.{ℕ, IsTrue, IsFalse, Bool, not, ◌&&◌, ◌||◌, if◌then◌else◌, nat_lt, List, [], ◌∷◌, All}
+use Rattle.std.specs.List.Sorted.{IsStrictlyIncreasing}
+use Rattle.st_model.specs.declared.branch.Branch.{Branch}
+use Rattle.st_model.specs.declared.tree.Tree.{Tree}
+use Rattle.st_model.specs.Lists.{has}
+use Rattle.st_model.specs.Network.{Network, IsVertex, is_required}
+use Rattle.st_model.specs.Arborescence.{reached}
+
+-- a set of vertices as it is written: ascending, so each once, and all from 1 to n
+pub record IsVertexSet (n : ℕ) (set : List ℕ) : Type 0 where
+  pub ascending : IsStrictlyIncreasing set
+  pub in_range : All (IsVertex n) set
+
+-- no vertex is both inside and outside
+pub record IsBranch (I : Network) (B : Branch) : Type 0 where
+  pub inside : IsVertexSet I.n B.inside
+  pub outside : IsVertexSet I.n B.outside
+  pub apart : (v : ℕ) → IsTrue (has B.inside v) → IsFalse (has B.outside v)
+
+-- the tree reaches all of the inside and none of the outside
+pub record Belongs (B : Branch) (t : Tree) : Type 0 where
+  pub inside : (v : ℕ) → IsTrue (has B.inside v) → IsTrue (has (reached t) v)
+  pub outside : (v : ℕ) → IsTrue (has B.outside v) → IsFalse (has (reached t) v)
+
+abbrev pub is_present : Branch → ℕ → Bool
+is_present B v = not (has B.outside v)
+
+abbrev pub is_undecided : Branch → ℕ → Bool
+is_undecided B v = not (has B.inside v) && not (has B.outside v)
+
+-- every tree of the branch reaches v: it is required or inside
+abbrev pub is_certain : Network → Branch → ℕ → Bool
+is_certain I B v = is_required I v || has B.inside v
+
+-- the set with v, in its place
+abbrev pub with_vertex : List ℕ → ℕ → List ℕ
+with_vertex [] v = v ∷ []
+with_vertex (x ∷ xs) v = if nat_lt x v then x ∷ with_vertex xs v else v ∷ x ∷ xs
+
+-- the two halves of a branch at an undecided vertex
+abbrev pub with_inside : Branch → ℕ → Branch
+with_inside B v = record { inside = with_vertex B.inside v; outside = B.outside }
+
+abbrev pub with_outside : Branch → ℕ → Branch
+with_outside B v = record { inside = B.inside; outside = with_vertex B.outside v }

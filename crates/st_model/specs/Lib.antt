@@ -1,0 +1,5 @@
+pub mod Lists
+pub mod Network
+pub mod Stated
+pub mod Arborescence
+pub mod Branch

@@ -1,0 +1,21 @@
+//! Instances of the Steiner tree problem in graphs, trees in them, and what a tree costs.
+//!
+//! An `Instance` is seen as a network: its vertices, one link for each pair that is joined, and
+//! what each vertex needs. `is_tree` and `tree_cost` compute the definitions *tree* and *cost*,
+//! on which every promise of this repository rests. A caller may rely on `is an instance`: ends
+//! are different vertices, no pair stands twice, and all that can be paid stays below 2^63.
+#![tactic(auto)]
+
+mod branch;
+mod instance;
+mod link;
+mod listed;
+mod need;
+mod tree;
+
+pub use branch::Branch;
+pub use instance::{Instance, MAX_VERTICES};
+pub use link::Link;
+pub use listed::Listed;
+pub use need::Need;
+pub use tree::Tree;
