@@ -1,8 +1,13 @@
-ghost use Rattle.std.specs.Prelude.{◌≡◌};
-ghost use Rattle.st_model.specs.Network.{IsInstance, IsVertex, link, need_of};
+ghost use Rattle.std.specs.Prelude.{◌≡◌, ◌+◌, ◌^◌, ◌<◌, ◌≤◌, IfOk, All};
+ghost use Rattle.st_model.specs.declared.instance.TheConstants.{MAX_VERTICES};
+ghost use Rattle.st_model.specs.Lists.{total};
+ghost use Rattle.st_model.specs.Network.{IsInstance, IsVertex, link, need_of, prize};
+ghost use Rattle.st_model.specs.Stated.{network_of};
 
+use crate::build::{merge_links, merge_needs};
 use crate::{Link, Need};
 use indexmap::IndexSet;
+use std::alloc::{AllocError, Global};
 use std::marker::Model;
 
 /// The greatest number of vertices of an instance.
@@ -32,6 +37,32 @@ impl Model for Instance {
 }
 
 impl Instance {
+    /// The instance of these vertices, links and needs. Of several links between two vertices the
+    /// cheapest counts, and a link with equal ends none. Of several needs of a vertex Required
+    /// wins, else the greatest prize; a vertex of which nothing is stated pays 0.
+    pub fn build(
+        alloc: Global,
+        vertices: u32,
+        links: &[Link],
+        needs: &[(u32, Need)],
+    ) -> Result<Instance, AllocError>
+        requires some_vertex { 1 ≤ vertices }
+        requires few_vertices { vertices ≤ MAX_VERTICES }
+        requires ends { All (λ l. IsVertex vertices l.a × IsVertex vertices l.b) links.now }
+        requires needs { All (λ stated. IsVertex vertices stated.0) needs.now }
+        requires amount { total (λ l. l.cost) links.now + total (λ stated. prize stated.1) needs.now < 2 ^ 63 }
+        ensures { IfOk result (λ i. i ≡ network_of vertices links.now needs.now) }
+    {
+        let (links, pairs) = merge_links(alloc, links)?;
+        let needs = merge_needs(alloc, vertices, needs)?;
+        Ok(Instance {
+            vertices,
+            links,
+            pairs,
+            needs,
+        })
+    }
+
     /// How many vertices there are; they are numbered from 1.
     pub fn vertices(&self) -> u32
         ensures count { result ≡ self.now.n }

@@ -7,6 +7,7 @@
 #![tactic(auto)]
 
 mod branch;
+mod build;
 mod instance;
 mod link;
 mod listed;
