@@ -4,3 +4,4 @@ pub mod Sums
 pub mod Needs
 pub mod Building
 pub mod Putting
+pub mod Judging

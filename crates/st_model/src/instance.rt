@@ -1,4 +1,4 @@
-ghost use Rattle.std.specs.Prelude.{◌≡◌, ◌+◌, ◌^◌, ◌<◌, ◌≤◌, IfOk, All};
+ghost use Rattle.std.specs.Prelude.{◌≡◌, ◌+◌, ◌^◌, ◌<◌, ◌≤◌, IfOk, OnSome, All};
 ghost use Rattle.st_model.specs.declared.instance.TheConstants.{MAX_VERTICES};
 ghost use Rattle.st_model.specs.Lists.{total};
 ghost use Rattle.st_model.specs.Network.{IsInstance, IsVertex, link, need_of, prize};
@@ -81,7 +81,8 @@ impl Instance {
 
     /// The cost of the link between two vertices, in either order.
     pub fn link_cost(&self, a: u32, b: u32) -> Option<u64>
-        ensures { result ≡ link self.now.links a b }
+        ensures cost { result ≡ link self.now.links a b }
+        ensures in_range { OnSome result (IsVertex self.now.n a × IsVertex self.now.n b) }
     {
         let index = self.pairs.get_index_of(&(a.min(b), a.max(b)))?;
         Some(self.links[index].cost)

@@ -9,6 +9,7 @@
 mod branch;
 mod build;
 mod instance;
+mod judge;
 mod link;
 mod listed;
 mod need;
@@ -19,4 +20,4 @@ pub use instance::{Instance, MAX_VERTICES};
 pub use link::Link;
 pub use listed::Listed;
 pub use need::Need;
-pub use tree::Tree;
+pub use tree::{Tree, is_tree};
