@@ -3,3 +3,4 @@ pub mod Network
 pub mod Stated
 pub mod Arborescence
 pub mod Branch
+pub mod Made
