@@ -4,3 +4,4 @@ pub mod Stated
 pub mod Arborescence
 pub mod Branch
 pub mod Made
+pub mod Growth

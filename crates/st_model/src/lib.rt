@@ -11,6 +11,7 @@ mod instance;
 mod link;
 mod listed;
 mod need;
+mod thinning;
 mod tree;
 
 pub use branch::Branch;
