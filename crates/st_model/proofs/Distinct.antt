@@ -32,9 +32,12 @@ fewer false false p q x = omega arith
 cost_left-cons : (r : List ℕ) (v : ℕ) (l : Link) → cost_left (v ∷ r) l ≤ cost_left r l
 cost_left-cons r v l = fewer (eqb v l.a) (eqb v l.b) (has r l.a) (has r l.b) l.cost
 
--- a link that joins two vertices has them as its ends, in one order or the other
-joins-ends : (l : Link) (u v : ℕ) → joins l u v ≡ true → ((l.a ≡ u) × (l.b ≡ v)) ⊎ ((l.a ≡ v) × (l.b ≡ u))
-joins-ends l u v h = grind (arith, nat_tests)
+-- a pair between two vertices is these two, in one order or the other
+pub between-ends : (pair : ℕ × ℕ) (u v : ℕ) → is_between pair u v ≡ true → ((pair.0 ≡ u) × (pair.1 ≡ v)) ⊎ ((pair.0 ≡ v) × (pair.1 ≡ u))
+between-ends pair u v h = grind (arith, nat_tests)
+
+pub joins-ends : (l : Link) (u v : ℕ) → joins l u v ≡ true → ((l.a ≡ u) × (l.b ≡ v)) ⊎ ((l.a ≡ v) × (l.b ≡ u))
+joins-ends l u v h = between-ends (l.a, l.b) u v h
 
 has-cons_head : (r : List ℕ) (v a : ℕ) → a ≡ v → has (v ∷ r) a ≡ true
 has-cons_head r v a e = rw (e, eq-eqb v v refl) refl
@@ -111,8 +114,8 @@ link-given : (I : Network) (pairs : List (ℕ × ℕ)) (u v : ℕ) → has_pair 
 link-given I [] u v h = cc
 link-given I (pair ∷ pairs) u v h = by_test (is_between pair u v) refl h (link-given I pairs u v)
   where
-    same_cost : joins (link_of I pair) u v ≡ true → arc_cost I pair ≡ arc_cost I (u, v)
-    same_cost h = elim (joins-ends (link_of I pair) u v h) [
+    same_cost : is_between pair u v ≡ true → arc_cost I pair ≡ arc_cost I (u, v)
+    same_cost h = elim (between-ends pair u v h) [
       | inl e ↦ ap (λ o. unwrap_or o 0) (ap (λ x. link I.links x pair.1) e.0 ∙ ap (link I.links u) e.1)
       | inr e ↦ ap (λ o. unwrap_or o 0) ((ap (λ x. link I.links x pair.1) e.0 ∙ ap (link I.links v) e.1) ∙ link-comm I.links v u)
     ]

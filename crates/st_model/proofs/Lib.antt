@@ -1,3 +1,4 @@
 pub mod Links
 pub mod Distinct
 pub mod ThinLists
+pub mod ThinGrowth

@@ -19,4 +19,5 @@ pub use instance::{Instance, MAX_VERTICES};
 pub use link::Link;
 pub use listed::Listed;
 pub use need::Need;
+pub use thinning::thin;
 pub use tree::Tree;
