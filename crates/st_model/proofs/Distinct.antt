@@ -39,10 +39,11 @@ between-ends pair u v h = grind (arith, nat_tests)
 pub joins-ends : (l : Link) (u v : ℕ) → joins l u v ≡ true → ((l.a ≡ u) × (l.b ≡ v)) ⊎ ((l.a ≡ v) × (l.b ≡ u))
 joins-ends l u v h = between-ends (l.a, l.b) u v h
 
-has-cons_head : (r : List ℕ) (v a : ℕ) → a ≡ v → has (v ∷ r) a ≡ true
+-- a vertex added is there, and the others still are
+pub has-cons_head : (r : List ℕ) (v a : ℕ) → a ≡ v → has (v ∷ r) a ≡ true
 has-cons_head r v a e = rw (e, eq-eqb v v refl) refl
 
-has-cons_tail : (r : List ℕ) (v a : ℕ) → has r a ≡ true → has (v ∷ r) a ≡ true
+pub has-cons_tail : (r : List ℕ) (v a : ℕ) → has r a ≡ true → has (v ∷ r) a ≡ true
 has-cons_tail r v a h = rw h (or-true (eqb v a))
   where
     or-true : (b : Bool) → (b || true) ≡ true

@@ -1,21 +1,21 @@
 -- A tree that is being grown of given pairs, arc by arc.
-use Rattle.std.proofs.Common.{◌≡◌, ℕ, ◌+◌, ◌<◌, ◌≤◌, ◌≢◌, Bool, true, false, cond, ◌&&◌, ◌||◌, ◌⊎◌, inl, inr, eqb, List, [], ◌∷◌, ◌++◌, length, get_or, set, take, refl, sym, ap, ◌∙◌, arith, eq-eqb, subst, Option, Some, None, length-set, length-append}
+use Rattle.std.proofs.Common.{◌≡◌, ℕ, zero, suc, ◌+◌, ◌<◌, ◌≤◌, ◌≢◌, Bool, true, false, cond, ◌&&◌, ◌||◌, ◌⊎◌, inl, inr, eqb, List, [], ◌∷◌, ◌++◌, length, get_or, set, take, refl, sym, ap, ◌∙◌, arith, eq-eqb, subst, Option, Some, None, length-set, length-append}
 use Rattle.std.proofs.Math.Bool.{or_comm, or_assoc}
 use Rattle.std.specs.Prelude.{◌==◌, IsTrue, IsFalse, IsSome, All, sum_by}
 use Rattle.std.specs.List.{AllByRecursion, list_any}
 use Rattle.std.proofs.lemmas.Bool.Decides.{nat_tests, eqb_tells}
-use Rattle.std.proofs.lemmas.List.Elements.{recursion_from_All, All-push}
-use Rattle.std.proofs.lemmas.List.Folds.{list_any-append}
+use Rattle.std.proofs.lemmas.List.Elements.{recursion_from_All, All-push, All-weaker, All-more}
+use Rattle.std.proofs.lemmas.List.Folds.{list_any-append, list_any_at}
 use Rattle.std.proofs.lemmas.List.Sums.{sum_by-set}
-use Rattle.std.proofs.lemmas.List.{get_or-set_same, get_or-set_other}
+use Rattle.std.proofs.lemmas.List.{get_or-set_same, get_or-set_other, get_or_read, length-take, take-append-le}
 use Rattle.st_model.specs.declared.link.Link.{Link}
 use Rattle.st_model.specs.declared.thinning.Growth.{Growth}
 use Rattle.st_model.specs.Lists.{has}
 use Rattle.st_model.specs.Network.{Network, IsInstance, IsLinkBetween, joins, link}
 use Rattle.st_model.specs.Arborescence.{reached_from, Grows}
 use Rattle.st_model.specs.Made.{is_between, has_pair}
-use Rattle.st_model.specs.Growth.{others, neighbours, reaches, IsGrowth}
-use Rattle.st_model.proofs.Distinct.{link-comm, between-ends, joins-ends}
+use Rattle.st_model.specs.Growth.{others, neighbours, reaches, IsGrowth, HasReached}
+use Rattle.st_model.proofs.Distinct.{has-cons_head, has-cons_tail, link-comm, between-ends, joins-ends}
 
 -- one more arc reaches its head
 pub reached_from-push : (r : List ℕ) (arcs : List (ℕ × ℕ)) (u v : ℕ) → reached_from r (arcs ++ (u, v) ∷ []) ≡ v ∷ reached_from r arcs
@@ -88,3 +88,55 @@ IsGrowth-push I pairs start old new tail head growth instance links pair old_tai
         let was_one : unmarked (get_or old.marked.items head false) ≡ 1 = ap unmarked new_head in
         let before = growth.room in
         rw (arcs, marks, length-append) (omega (arith, one_less, was_one)) }
+
+-- what is reached stays so
+pub has-reached_from : (r : List ℕ) (arcs : List (ℕ × ℕ)) (v : ℕ) → IsTrue (has r v) → IsTrue (has (reached_from r arcs) v)
+has-reached_from r [] v h = h
+has-reached_from r (arc ∷ arcs) v h = has-reached_from (arc.1 ∷ r) arcs v (has-cons_tail r arc.1 v h)
+
+-- what the first arcs reach, all of them reach
+pub has-reached_from_take : (r : List ℕ) (arcs : List (ℕ × ℕ)) (k v : ℕ) → IsTrue (has (reached_from r (take k arcs)) v) → IsTrue (has (reached_from r arcs) v)
+has-reached_from_take r arcs zero v h = has-reached_from r arcs v h
+has-reached_from_take r [] (suc k) v h = h
+has-reached_from_take r (arc ∷ arcs) (suc k) v h = has-reached_from_take (arc.1 ∷ r) arcs k v h
+
+-- a vertex among the neighbours is joined by a pair
+pub neighbour-pair : (pairs : List (ℕ × ℕ)) (tail : ℕ) (heads : List ℕ) (i : ℕ) → heads ≡ neighbours pairs tail → i < length heads → IsTrue (has_pair pairs tail (get_or heads i 0))
+neighbour-pair pairs tail heads i are in_range =
+    let head = get_or heads i 0 in
+    sym (has-neighbours pairs tail head) ∙ (ap (λ (hs : List ℕ). has hs head) (sym are) ∙ list_any_at (λ x. x == head) heads i 0 in_range (eq-eqb head head refl))
+
+-- each of them is a vertex
+pub neighbour-vertex : (I : Network) (pairs : List (ℕ × ℕ)) (tail : ℕ) (heads : List ℕ) (i : ℕ) → IsInstance I → All (λ pair. IsSome (link I.links pair.0 pair.1)) pairs → heads ≡ neighbours pairs tail → i < length heads → get_or heads i 0 ≤ I.n
+neighbour-vertex I pairs tail heads i instance links are in_range =
+    (link-vertices I.n I.links tail (get_or heads i 0) (recursion_from_All _ I.links instance.ends) (link-from_pair I.links pairs tail (get_or heads i 0) (recursion_from_All _ pairs links) (neighbour-pair pairs tail heads i are in_range))).1
+
+length-take_extends : (first arcs : List (ℕ × ℕ)) → take (length first) arcs ≡ first → length first ≤ length arcs
+length-take_extends first arcs h = omega (arith, length-take (length first) arcs, ap length h)
+
+-- one more head is reached, by an arc or because it was before
+pub HasReached-push : (I : Network) (pairs : List (ℕ × ℕ)) (start : ℕ) (first : List (ℕ × ℕ)) (heads : List ℕ) (i tail : ℕ) (old new : Growth) (mark : Bool) → HasReached I pairs start first (take i heads) old → IsInstance I → All (λ pair. IsSome (link I.links pair.0 pair.1)) pairs → IsTrue (reaches start first tail) → heads ≡ neighbours pairs tail → i < length heads → mark ≡ get_or old.marked.items (get_or heads i 0) mark → mark ≡ false → new.arcs.items ≡ old.arcs.items ++ (tail, get_or heads i 0) ∷ [] → new.marked.items ≡ set old.marked.items (get_or heads i 0) true → HasReached I pairs start first (take (i + 1) heads) new
+HasReached-push I pairs start first heads i tail old new mark reached instance links reached_tail are in_range read unmarked arcs marks =
+    let head = get_or heads i 0 in
+    let small = neighbour-vertex I pairs tail heads i instance links are in_range in
+    let in_marks : head < length old.marked.items = omega (arith, reached.growth.marks, small) in
+    let tail_too = has-reached_from_take (start ∷ []) old.arcs.items (length first) tail (rw reached.extends reached_tail) in
+    let is_new = sym (get_or_read old.marked.items head mark in_marks read false) ∙ unmarked in
+    let here = has-cons_head (reached_from (start ∷ []) old.arcs.items) head head refl in
+    let others_too = All-weaker (λ x. IsTrue (reaches start old.arcs.items x)) (λ x. IsTrue (has (head ∷ reached_from (start ∷ []) old.arcs.items) x)) (λ x. has-cons_tail (reached_from (start ∷ []) old.arcs.items) head x) (take i heads) reached.heads in
+    let short : length first ≤ length old.arcs.items = length-take_extends first old.arcs.items reached.extends in
+    record {
+      growth = IsGrowth-push I pairs start old new tail head reached.growth instance links (neighbour-pair pairs tail heads i are in_range) tail_too is_new arcs marks;
+      heads = rw (arcs, reached_from-push (start ∷ []) old.arcs.items tail head) (All-more (λ x. IsTrue (has (head ∷ reached_from (start ∷ []) old.arcs.items) x)) heads i 0 in_range others_too here);
+      extends = rw (arcs, take-append-le (length first) old.arcs.items ((tail, head) ∷ []) short) reached.extends }
+
+pub HasReached-same : (I : Network) (pairs : List (ℕ × ℕ)) (start : ℕ) (first : List (ℕ × ℕ)) (heads : List ℕ) (i tail : ℕ) (old : Growth) (mark : Bool) → HasReached I pairs start first (take i heads) old → IsInstance I → All (λ pair. IsSome (link I.links pair.0 pair.1)) pairs → heads ≡ neighbours pairs tail → i < length heads → mark ≡ get_or old.marked.items (get_or heads i 0) mark → mark ≡ true → HasReached I pairs start first (take (i + 1) heads) old
+HasReached-same I pairs start first heads i tail old mark reached instance links are in_range read marked =
+    let head = get_or heads i 0 in
+    let small = neighbour-vertex I pairs tail heads i instance links are in_range in
+    let in_marks : head < length old.marked.items = omega (arith, reached.growth.marks, small) in
+    let here = sym (reached.growth.marked head small) ∙ (sym (get_or_read old.marked.items head mark in_marks read false) ∙ marked) in
+    record {
+      growth = reached.growth;
+      heads = All-more (λ x. IsTrue (reaches start old.arcs.items x)) heads i 0 in_range reached.heads here;
+      extends = reached.extends }

@@ -28,6 +28,12 @@ pub record IsGrowth (I : Network) (pairs : List (ℕ × ℕ)) (start : ℕ) (g :
   -- each arc took a vertex that wasn't marked, and the start is marked
   pub room : length g.arcs.items + sum_by (λ mark. if mark then 0 else 1) g.marked.items ≤ I.n
 
+-- a growth that went on from the first arcs, and reaches all these heads
+pub record HasReached (I : Network) (pairs : List (ℕ × ℕ)) (start : ℕ) (first : List (ℕ × ℕ)) (tips : List ℕ) (g : Growth) : Type 0 where
+  pub growth : IsGrowth I pairs start g
+  pub heads : All (λ head. IsTrue (reaches start g.arcs.items head)) tips
+  pub extends : take (length first) g.arcs.items ≡ first
+
 -- the start and the heads of the first arcs have no neighbour that isn't reached
 abbrev pub AreSettled : List (ℕ × ℕ) → ℕ → List (ℕ × ℕ) → ℕ → Type 0
 AreSettled pairs start arcs count = (v w : ℕ) → IsTrue (reaches start (take count arcs) v) → IsTrue (has_pair pairs v w) → IsTrue (reaches start arcs w)

@@ -100,7 +100,7 @@ impl Growth {
         requires heads { heads.now ≡ neighbours links.now tail }
         ensures growth { OnOk result (IsGrowth instance.now links.now start self.new) }
         ensures heads { OnOk result (All (λ head. IsTrue (reaches start self.new.arcs.items head)) heads.now) }
-        ensures extends { OnOk result (take (vec_len self.old.arcs) self.new.arcs.items ≡ self.old.arcs.items) }
+        ensures extends { OnOk result (take (length self.old.arcs.items) self.new.arcs.items ≡ self.old.arcs.items) }
     {
         for &head in heads {
             if !self.marked[head as usize] {
