@@ -5,3 +5,6 @@ pub mod Needs
 pub mod Building
 pub mod Putting
 pub mod Judging
+pub mod Distinct
+pub mod ThinLists
+pub mod ThinGrowth

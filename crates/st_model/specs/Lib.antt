@@ -5,3 +5,5 @@ pub mod Steps
 pub mod Marks
 pub mod Arborescence
 pub mod Branch
+pub mod Made
+pub mod Growth

@@ -13,6 +13,7 @@ mod judge;
 mod link;
 mod listed;
 mod need;
+mod thinning;
 mod tree;
 
 pub use branch::Branch;
@@ -21,3 +22,5 @@ pub use link::Link;
 pub use listed::Listed;
 pub use need::Need;
 pub use tree::{Tree, is_tree};
+pub use thinning::thin;
+pub use tree::Tree;

@@ -1,0 +1,153 @@
+ghost use Rattle.std.specs.Prelude.{◌≡◌, ℕ, ◌+◌, ◌<◌, ◌≤◌, [], ◌∷◌, ◌++◌, IfOk, OnOk, IsTrue, IsSome, All, map, take, length, vec_len, slice_index_or, slice_set};
+ghost use Rattle.st_model.specs.Network.{IsVertex, IsInstance, link};
+ghost use Rattle.st_model.specs.Lists.{has};
+ghost use Rattle.st_model.specs.Arborescence.{IsArborescence, reached};
+ghost use Rattle.st_model.specs.Made.{IsMadeOf, AreConnectedFrom};
+ghost use Rattle.st_model.specs.Growth.{neighbours, reaches, IsGrowth, AreSettled};
+
+use crate::{Instance, Listed, Tree};
+use std::alloc::{AllocError, Global};
+
+/// A tree of given links that reaches all their ends: those links, taken breadth first from the
+/// start, that lead to a vertex which isn't reached yet.
+pub fn thin(
+    alloc: Global,
+    instance: &Instance,
+    links: &[(u32, u32)],
+    start: u32,
+) -> Result<Tree, AllocError>
+    requires start { IsVertex instance.now.n start }
+    requires links { All (λ pair. IsSome (link instance.now.links pair.0 pair.1)) links.now }
+    requires connected { AreConnectedFrom start links.now }
+    ensures start { IfOk result (λ tree. tree.start ≡ start) }
+    ensures arborescence { IfOk result (IsArborescence instance.now) }
+    ensures made { IfOk result (IsMadeOf links.now) }
+    ensures reached { IfOk result (λ tree. All (λ pair. IsTrue (has (reached tree) pair.0) × IsTrue (has (reached tree) pair.1)) links.now) }
+{
+    let lists = neighbours_of(alloc, instance.vertices(), links)?;
+    let arcs = all_arcs(alloc, instance, links, start, &lists)?;
+    Ok(Tree {
+        start,
+        arcs: Listed::of(arcs),
+    })
+}
+
+/// Arcs from the start to every vertex that the links reach from there.
+fn all_arcs(
+    alloc: Global,
+    instance: &Instance,
+    links: &[(u32, u32)],
+    start: u32,
+    lists: &[Vec<u32>],
+) -> Result<Vec<(u32, u32)>, AllocError>
+    requires instance { IsInstance instance.now }
+    requires start { IsVertex instance.now.n start }
+    requires links { All (λ pair. IsSome (link instance.now.links pair.0 pair.1)) links.now }
+    requires length { length lists.now ≡ instance.now.n + 1 }
+    requires neighbours { (v : ℕ) → v ≤ instance.now.n → slice_index_or (map (λ list. list.items) lists.now) v [] ≡ neighbours links.now v }
+{
+    let mut growth = Growth::at(alloc, instance, links, start)?;
+    growth.reach(instance, links, start, start, &lists[start as usize])?;
+    let mut next = 0;
+    while next < growth.arcs.len() {
+        let (_, tail) = growth.arcs[next];
+        growth.reach(instance, links, start, tail, &lists[tail as usize])?;
+        next += 1;
+    }
+    Ok(growth.arcs)
+}
+
+/// A tree that is being grown: its arcs so far, and for each vertex whether it is reached.
+#[derive(Drop)]
+struct Growth {
+    arcs: Vec<(u32, u32)>,
+    marked: Vec<bool>,
+}
+
+impl Growth {
+    /// The start alone.
+    fn at(
+        alloc: Global,
+        instance: &Instance,
+        links: &[(u32, u32)],
+        start: u32,
+    ) -> Result<Self, AllocError>
+        requires { IsVertex instance.now.n start }
+        ensures growth { IfOk result (IsGrowth instance.now links.now start) }
+        ensures start { IfOk result (λ growth. growth.arcs.items ≡ []) }
+    {
+        let mut marked = vec![in alloc; false; instance.vertices() as usize + 1]?;
+        marked[start as usize] = true;
+        Ok(Growth {
+            arcs: Vec::new(alloc),
+            marked,
+        })
+    }
+
+    /// Reaches from a tail each of its neighbours that isn't reached yet.
+    fn reach(
+        &mut self,
+        instance: &Instance,
+        links: &[(u32, u32)],
+        start: u32,
+        tail: u32,
+        heads: &[u32],
+    ) -> Result<(), AllocError>
+        requires instance { IsInstance instance.now }
+        requires growth { IsGrowth instance.now links.now start self.old }
+        requires links { All (λ pair. IsSome (link instance.now.links pair.0 pair.1)) links.now }
+        requires tail { IsTrue (reaches start self.old.arcs.items tail) }
+        requires heads { heads.now ≡ neighbours links.now tail }
+        ensures growth { OnOk result (IsGrowth instance.now links.now start self.new) }
+        ensures heads { OnOk result (All (λ head. IsTrue (reaches start self.new.arcs.items head)) heads.now) }
+        ensures extends { OnOk result (take (length self.old.arcs.items) self.new.arcs.items ≡ self.old.arcs.items) }
+    {
+        for &head in heads {
+            if !self.marked[head as usize] {
+                self.arcs.push((tail, head))?;
+                self.marked[head as usize] = true;
+            }
+        }
+        Ok(())
+    }
+}
+
+/// Puts a vertex at the end of another one's list.
+fn add_neighbour(lists: &mut Vec<Vec<u32>>, at: u32, other: u32) -> Result<(), AllocError>
+    requires { at < vec_len lists.old }
+    ensures length { vec_len lists.new ≡ vec_len lists.old }
+    ensures added { OnOk result (map (λ list. list.items) lists.new.items ≡ (let old = map (λ list. list.items) lists.old.items in slice_set old at (slice_index_or old at [] ++ other ∷ []))) }
+{
+    lists[at as usize].push(other)?;
+    Ok(())
+}
+
+/// For each vertex from 0 to `last` the other ends of the pairs that end there.
+fn neighbours_of(
+    alloc: Global,
+    last: u32,
+    pairs: &[(u32, u32)],
+) -> Result<Vec<Vec<u32>>, AllocError>
+    requires { All (λ pair. (pair.0 ≤ last) × (pair.1 ≤ last)) pairs.now }
+    ensures length { IfOk result (λ lists. vec_len lists ≡ last + 1) }
+    ensures neighbours { IfOk result (λ lists. (v : ℕ) → v ≤ last → slice_index_or (map (λ list. list.items) lists.items) v [] ≡ neighbours pairs.now v) }
+{
+    let mut lists = no_neighbours(alloc, last)?;
+    for &(a, b) in pairs {
+        add_neighbour(&mut lists, a, b)?;
+        add_neighbour(&mut lists, b, a)?;
+    }
+    Ok(lists)
+}
+
+/// An empty list for each vertex from 0 to `last`.
+fn no_neighbours(alloc: Global, last: u32) -> Result<Vec<Vec<u32>>, AllocError>
+    ensures length { IfOk result (λ lists. vec_len lists ≡ last + 1) }
+    ensures empty { IfOk result (λ lists. (v : ℕ) → slice_index_or (map (λ list. list.items) lists.items) v [] ≡ []) }
+{
+    let mut lists = Vec::new(alloc);
+    for _ in 0..=last {
+        lists.push(Vec::new(alloc))?;
+    }
+    Ok(lists)
+}
