@@ -5,6 +5,7 @@ pub mod Needs
 pub mod Building
 pub mod Putting
 pub mod Judging
+pub mod Costs
 pub mod Distinct
 pub mod ThinLists
 pub mod ThinGrowth

@@ -49,8 +49,9 @@ link-from_pair ls (pair ∷ pairs) u v links h = by_test (is_between pair u v) r
 
     by_test : (b : Bool) → is_between pair u v ≡ b → (b || has_pair pairs u v) ≡ true → (IsTrue (has_pair pairs u v) → IsSome (link ls u v)) → IsSome (link ls u v)
     by_test true is h rest = elim (between-ends pair u v is) [
-      inl e ↦ turned u v e.0 e.1
-      | inr e ↦ rw link-comm (turned v u e.0 e.1) ]
+      | inl e ↦ turned u v e.0 e.1
+      | inr e ↦ rw link-comm (turned v u e.0 e.1)
+    ]
     by_test false is h rest = rest h
 
 -- a link's ends are vertices
@@ -60,14 +61,17 @@ link-vertices n (l ∷ ls) u v ends h = by_test (joins l u v) refl h (link-verti
   where
     by_test : (b : Bool) → joins l u v ≡ b → IsSome (cond b (Some l.cost) (link ls u v)) → (IsSome (link ls u v) → (u ≤ n) × (v ≤ n)) → (u ≤ n) × (v ≤ n)
     by_test true is h rest = let low = ends.0.ordered in let high = ends.0.high in elim (joins-ends l u v is) [
-      inl e ↦ (omega (arith, e.0), omega (arith, e.1)) | inr e ↦ (omega (arith, e.1), omega (arith, e.0)) ]
+      | inl e ↦ (omega (arith, e.0), omega (arith, e.1))
+      | inr e ↦ (omega (arith, e.1), omega (arith, e.0))
+    ]
     by_test false is h rest = rest h
 
 -- the marks after another one
 marks-set : (n : ℕ) (r : List ℕ) (marks : List Bool) (v : ℕ) → v < length marks → ((x : ℕ) → x ≤ n → get_or marks x false ≡ has r x) → (x : ℕ) → x ≤ n → get_or (set marks v true) x false ≡ has (v ∷ r) x
 marks-set n r marks v in_range marked x small = elim (eqb_tells v x) [
-  inl e ↦ rw (e.0, ← e.1) (get_or-set_same marks v true false in_range)
-  | inr e ↦ rw e.0 (get_or-set_other marks v x true false (λ same. e.1 (sym same)) ∙ marked x small) ]
+  | inl e ↦ rw (e.0, ← e.1) (get_or-set_same marks v true false in_range)
+  | inr e ↦ rw e.0 (get_or-set_other marks v x true false (λ same. e.1 (sym same)) ∙ marked x small)
+]
 
 -- one more arc, from a vertex that is reached to one that isn't, and its mark
 pub IsGrowth-push : (I : Network) (pairs : List (ℕ × ℕ)) (start : ℕ) (old new : Growth) (tail head : ℕ) → IsGrowth I pairs start old → IsInstance I → All (λ pair. IsSome (link I.links pair.0 pair.1)) pairs → IsTrue (has_pair pairs tail head) → IsTrue (reaches start old.arcs.items tail) → get_or old.marked.items head false ≡ false → new.arcs.items ≡ old.arcs.items ++ (tail, head) ∷ [] → new.marked.items ≡ set old.marked.items head true → IsGrowth I pairs start new
@@ -83,11 +87,12 @@ IsGrowth-push I pairs start old new tail head growth instance links pair old_tai
       marks = rw (marks, length-set) growth.marks;
       marked = rw (marks, arcs, reached_from-push (start ∷ []) old.arcs.items tail head) (marks-set I.n (reached_from (start ∷ []) old.arcs.items) old.marked.items head in_range growth.marked);
       room =
-        let unmarked : Bool → ℕ = λ mark. cond mark 0 1 in
-        let one_less = sum_by-set unmarked old.marked.items head true false in_range in
-        let was_one : unmarked (get_or old.marked.items head false) ≡ 1 = ap unmarked new_head in
-        let before = growth.room in
-        rw (arcs, marks, length-append) (omega (arith, one_less, was_one)) }
+          let unmarked : Bool → ℕ = λ mark. cond mark 0 1 in
+          let one_less = sum_by-set unmarked old.marked.items head true false in_range in
+          let was_one : unmarked (get_or old.marked.items head false) ≡ 1 = ap unmarked new_head in
+          let before = growth.room in
+          rw (arcs, marks, length-append) (omega (arith, one_less, was_one));
+    }
 
 -- what is reached stays so
 pub has-reached_from : (r : List ℕ) (arcs : List (ℕ × ℕ)) (v : ℕ) → IsTrue (has r v) → IsTrue (has (reached_from r arcs) v)
@@ -128,7 +133,8 @@ HasReached-push I pairs start first heads i tail old new mark reached instance l
     record {
       growth = IsGrowth-push I pairs start old new tail head reached.growth instance links (neighbour-pair pairs tail heads i are in_range) tail_too is_new arcs marks;
       heads = rw (arcs, reached_from-push (start ∷ []) old.arcs.items tail head) (All-more (λ x. IsTrue (has (head ∷ reached_from (start ∷ []) old.arcs.items) x)) heads i 0 in_range others_too here);
-      extends = rw (arcs, take-append-le (length first) old.arcs.items ((tail, head) ∷ []) short) reached.extends }
+      extends = rw (arcs, take-append-le (length first) old.arcs.items ((tail, head) ∷ []) short) reached.extends;
+    }
 
 pub HasReached-same : (I : Network) (pairs : List (ℕ × ℕ)) (start : ℕ) (first : List (ℕ × ℕ)) (heads : List ℕ) (i tail : ℕ) (old : Growth) (mark : Bool) → HasReached I pairs start first (take i heads) old → IsInstance I → All (λ pair. IsSome (link I.links pair.0 pair.1)) pairs → heads ≡ neighbours pairs tail → i < length heads → mark ≡ get_or old.marked.items (get_or heads i 0) mark → mark ≡ true → HasReached I pairs start first (take (i + 1) heads) old
 HasReached-same I pairs start first heads i tail old mark reached instance links are in_range read marked =
@@ -139,4 +145,5 @@ HasReached-same I pairs start first heads i tail old mark reached instance links
     record {
       growth = reached.growth;
       heads = All-more (λ x. IsTrue (reaches start old.arcs.items x)) heads i 0 in_range reached.heads here;
-      extends = reached.extends }
+      extends = reached.extends;
+    }

@@ -8,6 +8,7 @@
 
 mod branch;
 mod build;
+mod cost;
 mod instance;
 mod judge;
 mod link;
@@ -17,10 +18,10 @@ mod thinning;
 mod tree;
 
 pub use branch::Branch;
+pub use cost::tree_cost;
 pub use instance::{Instance, MAX_VERTICES};
 pub use link::Link;
 pub use listed::Listed;
 pub use need::Need;
-pub use tree::{Tree, is_tree};
 pub use thinning::thin;
-pub use tree::Tree;
+pub use tree::{Tree, is_tree};

@@ -22,9 +22,10 @@ returns c =
     let path = (goal.at.returns c).Else-not-grows in
     let marked = all_marked path in
     let judged = c.reaches_required.ensures (reached_from (c.args.tree.now.start ∷ []) c.args.tree.now.arcs) (rw c.deref.ensures.value marked) in
-    let grew = (c.if-not-grows.ensures.answer (c.args.tree.now.start ∷ []) (start_marked path)).0 refl in
-    (λ yes. record {
-      arborescence = record { start = (omega arith, omega (arith, c.vertices.ensures.count)); grows = rw c.as_slice.ensures at grew };
-      required = λ v vertex needed. judged.0 yes v vertex needed;
-    },
-    λ tree. judged.1 (λ v vertex needed. tree.required v vertex needed))
+    let grew = (c.if-not-grows.ensures.answer (c.args.tree.now.start ∷ []) (start_marked path)).0 refl in (
+      λ yes. record {
+        arborescence = record { start = (omega arith, omega (arith, c.vertices.ensures.count)); grows = rw c.as_slice.ensures at grew };
+        required = λ v vertex needed. judged.0 yes v vertex needed;
+      },
+      λ tree. judged.1 (λ v vertex needed. tree.required v vertex needed),
+    )

@@ -21,5 +21,6 @@ loop-head-preserved c =
     let links = c.args.links.now in
     let first = c.args.self.now.arcs.items in
     elim c.if-not-index.branch [
-      then-not-index+in_ok-push w ↦ HasReached-push instance links c.args.start first c.args.heads.now c.loop-head.head-index c.args.tail c.loop-head.self c.if-not-index.self c.index.result.now c.loop-head.invariant c.requires.instance c.requires.links c.requires.tail c.requires.heads c.loop-head-test.true c.index.ensures w.if-not-index.true (ap (λ (g : Growth). g.arcs.items) w.self-is ∙ w.in_ok-push.ensures.items) (ap (λ (g : Growth). g.marked.items) w.self-is)
-      | else-not-index w ↦ subst (λ (g : Growth). HasReached instance links c.args.start first (take (c.loop-head.head-index + 1) c.args.heads.now) g) (sym w.self-is) (HasReached-same instance links c.args.start first c.args.heads.now c.loop-head.head-index c.args.tail c.loop-head.self c.index.result.now c.loop-head.invariant c.requires.instance c.requires.links c.requires.heads c.loop-head-test.true c.index.ensures w.if-not-index.false) ]
+      | then-not-index+in_ok-push w ↦ HasReached-push instance links c.args.start first c.args.heads.now c.loop-head.head-index c.args.tail c.loop-head.self c.if-not-index.self c.index.result.now c.loop-head.invariant c.requires.instance c.requires.links c.requires.tail c.requires.heads c.loop-head-test.true c.index.ensures w.if-not-index.true (ap (λ (g : Growth). g.arcs.items) w.self-is ∙ w.in_ok-push.ensures.items) (ap (λ (g : Growth). g.marked.items) w.self-is)
+      | else-not-index w ↦ subst (λ (g : Growth). HasReached instance links c.args.start first (take (c.loop-head.head-index + 1) c.args.heads.now) g) (sym w.self-is) (HasReached-same instance links c.args.start first c.args.heads.now c.loop-head.head-index c.args.tail c.loop-head.self c.index.result.now c.loop-head.invariant c.requires.instance c.requires.links c.requires.heads c.loop-head-test.true c.index.ensures w.if-not-index.false)
+    ]
