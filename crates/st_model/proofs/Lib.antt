@@ -9,3 +9,4 @@ pub mod Costs
 pub mod Distinct
 pub mod ThinLists
 pub mod ThinGrowth
+pub mod ThinSettled

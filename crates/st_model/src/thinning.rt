@@ -1,8 +1,8 @@
 ghost use Rattle.std.specs.Prelude.{◌≡◌, ℕ, ◌+◌, ◌<◌, ◌≤◌, [], ◌∷◌, ◌++◌, IfOk, OnOk, IsTrue, IsSome, All, map, take, length, vec_len, slice_index_or, slice_set};
 ghost use Rattle.st_model.specs.Network.{IsVertex, IsInstance, link};
 ghost use Rattle.st_model.specs.Lists.{has};
-ghost use Rattle.st_model.specs.Arborescence.{IsArborescence, reached};
-ghost use Rattle.st_model.specs.Made.{IsMadeOf, AreConnectedFrom};
+ghost use Rattle.st_model.specs.Arborescence.{IsArborescence, Grows, reached};
+ghost use Rattle.st_model.specs.Made.{has_pair, IsMadeOf, AreConnectedFrom};
 ghost use Rattle.st_model.specs.Growth.{neighbours, reaches, IsGrowth, AreSettled};
 
 use crate::{Instance, Listed, Tree};
@@ -45,6 +45,9 @@ fn all_arcs(
     requires links { All (λ pair. IsSome (link instance.now.links pair.0 pair.1)) links.now }
     requires length { length lists.now ≡ instance.now.n + 1 }
     requires neighbours { (v : ℕ) → v ≤ instance.now.n → slice_index_or (map (λ list. list.items) lists.now) v [] ≡ neighbours links.now v }
+    ensures grows { IfOk result (λ arcs. Grows instance.now (start ∷ []) arcs.items) }
+    ensures made { IfOk result (λ arcs. All (λ arc. IsTrue (has_pair links.now arc.0 arc.1)) arcs.items) }
+    ensures settled { IfOk result (λ arcs. AreSettled links.now start arcs.items (length arcs.items)) }
 {
     let mut growth = Growth::at(alloc, instance, links, start)?;
     growth.reach(instance, links, start, start, &lists[start as usize])?;
