@@ -1,0 +1,4 @@
+pub mod Packing
+pub mod Full
+pub mod ProofTree
+pub mod Laws
