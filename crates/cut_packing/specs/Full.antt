@@ -1,5 +1,5 @@
 -- Packings to which no cut can be added: the root reaches all that has to be reached or paid for.
-use Rattle.std.specs.Prelude.{◌≡◌, ℕ, ◌<◌, IsTrue, Option, Some, None, MatchOption}
+use Rattle.std.specs.Prelude.{◌≡◌, ℕ, ◌<◌, IsTrue, Some}
 use Rattle.st_model.specs.declared.branch.Branch.{Branch}
 use Rattle.st_model.specs.Network.{Network, IsVertex, link, pays}
 use Rattle.st_model.specs.Branch.{is_present, is_certain, is_undecided}

@@ -7,7 +7,9 @@
 #![tactic(auto)]
 
 mod cut;
+mod law;
 mod packing;
 
 pub use cut::Cut;
+pub use law::{proof_tree_bounds, weak_duality};
 pub use packing::Packing;
