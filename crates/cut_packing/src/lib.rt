@@ -9,7 +9,9 @@
 mod cut;
 mod law;
 mod packing;
+mod weighing;
 
 pub use cut::Cut;
 pub use law::{proof_tree_bounds, weak_duality};
 pub use packing::Packing;
+pub use weighing::weight;
