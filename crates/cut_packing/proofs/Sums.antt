@@ -1,6 +1,6 @@
 -- Sums over lists and over vertices.
 use Rattle.std.proofs.Common.{◌≡◌, ◌≢◌, ℕ, zero, suc, ◌+◌, ◌*◌, ◌≤◌, ◌<◌, Bool, true, false, cond, ◌||◌, List, [], ◌∷◌, ◌++◌, length, take, get_or, ◌⊎◌, inl, inr, refl, sym, arith}
-use Rattle.std.specs.Prelude.{◌==◌, if◌then◌else◌, IsTrue, IsFalse, AllPairs, ⊤}
+use Rattle.std.specs.Prelude.{◌==◌, if◌then◌else◌, IsTrue, IsFalse, AllPairs}
 use Rattle.std.specs.List.{AllByRecursion}
 use Rattle.std.proofs.lemmas.Bool.{cases_lt, ne_eqb, eqb-true, eq-eqb, cond-true, cond-false, false≢true}
 use Rattle.std.proofs.lemmas.List.{take_more}
@@ -10,6 +10,7 @@ use Rattle.std.proofs.lemmas.List.Kept.{AllPairs-from_increasing}
 use Rattle.st_model.specs.Lists.{has, total, sum_to}
 use Rattle.st_model.specs.Network.{IsVertex}
 use Rattle.st_model.specs.Branch.{IsVertexSet}
+use Rattle.cut_packing.specs.VertexSet.{AllApart}
 
 -- a sum of sums is the sum of the sums
 pub total-add : {X : Type 0} (f g : X → ℕ) (xs : List X) → total (λ x. f x + g x) xs ≡ total f xs + total g xs
@@ -77,11 +78,6 @@ sum_to-at f (suc n) q h others = step (cases_lt q (suc n)) (λ below. sum_to-at 
         let last : q ≡ suc n = omega (arith, h.1) in
         let rest = sum_to-none f n (λ v in_range. others v (in_range.0, omega (arith, in_range.1)) (omega (arith, in_range.1))) in
         rw last (omega (arith, rest))
-
--- no element of the list stands in it again
-abbrev pub AllApart : List ℕ → Type 0
-AllApart [] = ⊤
-AllApart (x ∷ xs) = IsFalse (has xs x) × AllApart xs
 
 pub AllApart-from_increasing : (xs : List ℕ) → AllPairs (λ x y. x < y) xs → AllApart xs
 AllApart-from_increasing [] h = tt

@@ -1,3 +1,4 @@
+pub mod VertexSet
 pub mod Packing
 pub mod Full
 pub mod ProofTree

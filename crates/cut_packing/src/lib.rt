@@ -9,6 +9,7 @@
 mod cut;
 mod law;
 mod packing;
+mod vertex_set;
 mod weighing;
 
 pub use cut::Cut;
