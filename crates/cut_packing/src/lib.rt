@@ -6,6 +6,7 @@
 //! caller may rely on them exactly, for every packing, whatever stands in it.
 #![tactic(auto)]
 
+mod arcs;
 mod cut;
 mod law;
 mod packing;
