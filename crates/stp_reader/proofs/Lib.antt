@@ -1,2 +1,6 @@
 pub mod Cut
 pub mod Loop
+pub mod Whole
+pub mod Numerals
+pub mod LineLaws
+pub mod FileLaws
