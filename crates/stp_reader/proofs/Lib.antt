@@ -4,3 +4,4 @@ pub mod Whole
 pub mod Numerals
 pub mod LineLaws
 pub mod FileLaws
+pub mod Buildable

@@ -56,9 +56,9 @@ link_takes n line l lt e =
     let p = (number_judges 1 n lt).takes first.0.0 a.0 a.1 in
     let q = (number_judges 1 n lt).takes second.0.0 b.0 b.1 in
     let r = (number_judges 0 1000000000000 (omega arith)).takes second.0.1 cost.0 cost.1 in
-    let spelled : line ≡ link_line made = link_joined line word.0.0 word.0.1 first.0.0 first.0.1 second.0.0 second.0.1 (decimal a.0) (decimal b.0) (decimal cost.0)
-    (cut_takes 32 line word.0 word.1) (bytes_are word.0.0 (codes "E") g.0) (cut_takes 32 word.0.1 first.0 first.1) (cut_takes 32 first.0.1 second.0 second.1) p.1 q.1 r.1
-    ∙ sym (link_words (decimal a.0) (decimal b.0) (decimal cost.0)) in
+    let parts : line ≡ 69 ∷ 32 ∷ (decimal a.0 ++ 32 ∷ (decimal b.0 ++ 32 ∷ decimal cost.0)) = link_joined line word.0.0 word.0.1 first.0.0 first.0.1 second.0.0 second.0.1 (decimal a.0) (decimal b.0) (decimal cost.0)
+    (cut_takes 32 line word.0 word.1) (bytes_are word.0.0 (codes "E") g.0) (cut_takes 32 word.0.1 first.0 first.1) (cut_takes 32 first.0.1 second.0 second.1) p.1 q.1 r.1 in
+    let spelled : line ≡ link_line made = rw (link_words (decimal a.0) (decimal b.0) (decimal cost.0)) parts in
     subst (λ (m : Link). IsPlainLink n m × (line ≡ link_line m)) g.1 (record { first = p.0; second = q.0; cheap = r.0.1 }, spelled)
 
 link_again : (n : ℕ) (l : Link) → n < 2 ^ 64 → IsPlainLink n l → link_of n (link_line l) ≡ Some l
