@@ -25,12 +25,12 @@ impl Model for MemorySink {
     ghost Value = { Tape };
 
     ghost view = { λ s. record {
-        taken = s.bytes.items;
-        room = s.room;
-        most = s.most;
-        failing = s.failing.items;
-        writes = s.writes;
-        faults = s.faults
+      taken = s.bytes.items;
+      room = s.room;
+      most = s.most;
+      failing = s.failing.items;
+      writes = s.writes;
+      faults = s.faults;
     } };
 
     ghost invariant = { λ s. (0 < s.most) × (length s.bytes.items ≤ s.room) × (s.room ≤ vec_capacity s.bytes) };
@@ -42,12 +42,12 @@ impl MemorySink {
     pub fn of(alloc: Global, room: u64, most: u64, failing: Vec<u64>) -> Result<Self, AllocError>
         requires { 0 < most }
         ensures { IfOk result (λ sink. sink ≡ record {
-            taken = [];
-            room = room;
-            most = most;
-            failing = failing.items;
-            writes = 0;
-            faults = 0
+          taken = [];
+          room = room;
+          most = most;
+          failing = failing.items;
+          writes = 0;
+          faults = 0;
         }) }
     {
         let room = room as usize;
@@ -81,12 +81,12 @@ impl Sink for MemorySink {
         ensures refused { IsErr result ↔ Refuses self.old piece.now }
         ensures portion { IfOk result (λ count. count ≡ portion_of self.old piece.now) }
         ensures ok { IfOk result (λ count. self.new ≡ record self.old {
-            taken = self.old.taken ++ take count piece.now;
-            writes = one_more self.old.writes
+          taken = self.old.taken ++ take count piece.now;
+          writes = one_more self.old.writes;
         }) }
         ensures err { OnErr result (self.new ≡ record self.old {
-            writes = one_more self.old.writes;
-            faults = one_more self.old.faults
+          writes = one_more self.old.writes;
+          faults = one_more self.old.faults;
         }) }
 
         // As of every sink.

@@ -2,7 +2,7 @@ ghost use Rattle.std.specs.Prelude.{◌≡◌, ℕ, List, Option, IfSome, OnOk, 
 ghost use Rattle.st_edge.specs.Faults.{HasCause};
 ghost use Rattle.st_edge.specs.Shelf.{Loads, SameTexts, SameOtherTexts};
 
-use std::alloc::Global;
+use std::alloc::{AllocError, Global};
 
 /// Why a text was not loaded.
 #[derive(Debug, Clone, Copy, PartialEq, Eq)]
@@ -22,6 +22,26 @@ pub enum SaveFault {
     Failed,
     /// There is no memory for it.
     NoMemory,
+}
+
+impl From<AllocError> for LoadFault {
+    ghost use Rattle.st_edge.specs.declared.shelf.LoadFault.TheVariants.{NoMemory};
+
+    ghost from_gives = { λ _ fault. fault ≡ NoMemory };
+
+    fn from(_: AllocError) -> Self {
+        LoadFault::NoMemory
+    }
+}
+
+impl From<AllocError> for SaveFault {
+    ghost use Rattle.st_edge.specs.declared.shelf.SaveFault.TheVariants.{NoMemory};
+
+    ghost from_gives = { λ _ fault. fault ≡ NoMemory };
+
+    fn from(_: AllocError) -> Self {
+        SaveFault::NoMemory
+    }
 }
 
 /// Texts under names. It counts its faults: a count begins at 0, never falls and ends at 2^64 - 1.
