@@ -6,12 +6,16 @@
 //! that they are given. `DiskShelf` and `StdSink` stand over real files and the standard output, and tell nothing.
 #![tactic(auto)]
 
+mod disk_shelf;
 mod memory_shelf;
 mod memory_sink;
 mod shelf;
 mod sink;
+mod std_sink;
 
+pub use disk_shelf::DiskShelf;
 pub use memory_shelf::MemoryShelf;
 pub use memory_sink::MemorySink;
 pub use shelf::{LoadFault, SaveFault, Shelf};
 pub use sink::{Failed, Sink, send_all};
+pub use std_sink::StdSink;

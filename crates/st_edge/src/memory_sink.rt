@@ -1,7 +1,7 @@
 ghost use Rattle.std.specs.Prelude.{◌≡◌, ◌≢◌, ◌+◌, ◌<◌, ◌≤◌, ◌++◌, ◌↔◌, [], length, take, Some, Ok, IfOk, OnErr, IsErr, MatchResult};
 ghost use Rattle.st_edge.specs.Faults.{one_more, HasCause};
 ghost use Rattle.st_edge.specs.MemorySink.{Refuses, portion_of};
-ghost use Rattle.st_edge.specs.Sink.{with_more};
+ghost use Rattle.std.specs.Io.KnownBytes.{append_known};
 
 use crate::{Failed, Sink};
 use std::alloc::{AllocError, Global};
@@ -94,7 +94,7 @@ impl Sink for MemorySink {
         ensures least { piece.now ≢ [] → IfOk result (λ count. 0 < count) }
         ensures most { IfOk result (λ count. count ≤ length piece.now) }
         ensures taken { MatchResult result
-            (λ count. Some self.new.taken ≡ with_more (Some self.old.taken) (take count piece.now))
+            (λ count. Some self.new.taken ≡ append_known (Some self.old.taken) (take count piece.now))
             (λ _. Some self.new.taken ≡ Some self.old.taken) }
         ensures cause { HasCause self.old.faults self.new.faults (IsErr result) }
         ensures writes_later { self.old.writes ≤ self.new.writes }

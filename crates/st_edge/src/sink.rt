@@ -1,6 +1,7 @@
 ghost use Rattle.std.specs.Prelude.{◌≡◌, ◌≢◌, ℕ, ◌+◌, ◌<◌, ◌≤◌, [], List, length, take, Option, Ok, IfOk, OnOk, OnErr, IsErr, MatchResult};
 ghost use Rattle.st_edge.specs.Faults.{HasCause};
-ghost use Rattle.st_edge.specs.Sink.{with_more, TakesFront};
+ghost use Rattle.std.specs.Io.KnownBytes.{append_known};
+ghost use Rattle.st_edge.specs.Sink.{TakesFront};
 
 /// A sink took nothing of a piece, and won't say more.
 #[derive(Debug, Clone, Copy, PartialEq, Eq)]
@@ -23,7 +24,7 @@ pub trait Sink {
         ensures least { piece.now ≢ [] → IfOk result (λ count. 0 < count) }
         ensures most { IfOk result (λ count. count ≤ length piece.now) }
         ensures taken { MatchResult result
-            (λ count. taken self.new ≡ with_more (taken self.old) (take count piece.now))
+            (λ count. taken self.new ≡ append_known (taken self.old) (take count piece.now))
             (λ _. taken self.new ≡ taken self.old) }
         ensures cause { HasCause (faults self.old) (faults self.new) (IsErr result) }
         ensures writes_later { writes self.old ≤ writes self.new }
@@ -32,7 +33,7 @@ pub trait Sink {
 
 /// Writes until all bytes are taken or a write fails. It takes no memory.
 pub fn send_all<K: Sink>(sink: &mut K, bytes: &[u8]) -> Result<(), Failed>
-    ensures all { OnOk result (K.taken sink.new ≡ with_more (K.taken sink.old) bytes.now) }
+    ensures all { OnOk result (K.taken sink.new ≡ append_known (K.taken sink.old) bytes.now) }
     ensures front { OnErr result (TakesFront (K.taken sink.old) (K.taken sink.new) bytes.now) }
     ensures cause { HasCause (K.faults sink.old) (K.faults sink.new) (IsErr result) }
     ensures writes_later { K.writes sink.old ≤ K.writes sink.new }
