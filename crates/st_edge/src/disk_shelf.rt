@@ -1,5 +1,6 @@
-ghost use Rattle.std.specs.Prelude.{◌≡◌, ◌≢◌, ◌<◌, ◌≤◌, length, Err, IfOk, IsErrOf};
+ghost use Rattle.std.specs.Prelude.{◌≡◌, ◌≢◌, ◌<◌, ◌≤◌, ◌↔◌, length, Err, IfOk, IsErrOf};
 ghost use Rattle.std.specs.Io.{ReadsAtMost};
+ghost use Rattle.std.specs.IoError.{error_kind};
 ghost use Rattle.std.specs.Io.KnownBytes.{ReadConsumes};
 ghost use Rattle.st_edge.specs.Faults.{one_more, HasCause};
 ghost use Rattle.st_edge.specs.Shelf.{Loads};
@@ -98,8 +99,8 @@ fn load_file<R: Files>(
 ) -> Result<Vec<u8>, LoadFault>
     ensures { IfOk result (λ bytes. length bytes.items ≤ limit) }
 {
-    let mut piece = zeros(alloc, PIECE)?;
     let mut file = File::open(files, name).map_err(fault_of)?;
+    let mut piece = zeros(alloc, PIECE)?;
     read_within(alloc, &mut file, &mut piece, limit)
 }
 
@@ -142,10 +143,43 @@ fn read_piece<S: Read>(source: &mut S, piece: &mut [u8]) -> Result<usize, LoadFa
 }
 
 fn fault_of(error: io::Error) -> LoadFault
-    ensures { result ≢ LoadFault.TooLong }
+    ensures no_memory { (result ≡ LoadFault.NoMemory) ↔ (error_kind error ≡ ErrorKind.OutOfMemory) }
+    ensures never_long { result ≢ LoadFault.TooLong }
 {
     match error.kind() {
         ErrorKind::OutOfMemory => LoadFault::NoMemory,
         _ => LoadFault::Failed,
+    }
+}
+
+#[cfg(test)]
+mod tests {
+    use super::*;
+
+    /// Gives two bytes at a time, and fails after so many reads.
+    #[derive(Drop)]
+    struct Worn(u8);
+
+    impl Read for Worn {
+        fn read(&mut self, buf: &mut [u8]) -> io::Result<usize> {
+            if self.0 == 0 {
+                return Err(io::Error::from(ErrorKind::TimedOut));
+            }
+            self.0 -= 1;
+            Ok(buf.len().min(2))
+        }
+    }
+
+    #[test]
+    fn a_read_that_fails_in_mid_stream_is_told(rt: HostRuntime) {
+        for (reads, limit, want) in [
+            (0, 9, LoadFault::Failed),
+            (2, 9, LoadFault::Failed),
+            (2, 4, LoadFault::Failed),
+            (2, 3, LoadFault::TooLong),
+        ] {
+            let read = read_within(rt.alloc(), &mut Worn(reads), &mut [0; 4], limit);
+            assert_eq!(rt; read.err(), Some(want), "{reads} reads, limit {limit}");
+        }
     }
 }

@@ -19,3 +19,6 @@ pub use memory_sink::MemorySink;
 pub use shelf::{LoadFault, SaveFault, Shelf};
 pub use sink::{Failed, Sink, send_all};
 pub use std_sink::StdSink;
+
+#[cfg(test)]
+mod tests;
