@@ -1,5 +1,5 @@
 -- A shelf in memory, and the text under a name.
-use Rattle.std.specs.Prelude.{ℕ, List, [], ◌∷◌, Option, None, Some, Contains, if◌then◌else◌, string_bytes}
+use Rattle.std.specs.Prelude.{ℕ, List, [], ◌∷◌, Option, None, Some, Contains, if◌then◌else◌, map, string_bytes}
 use Rattle.std.specs.Str.{bytes_eq}
 use Rattle.std.specs.declared.alloc.Global.{Global}
 use Rattle.std.specs.declared.string.String.{String}
@@ -17,8 +17,7 @@ pub record Holding : Type 0 where
 
 -- the names and texts as bytes
 abbrev pub texts_of : List (String Global × Vec ℕ Global) → List (List ℕ × List ℕ)
-texts_of [] = []
-texts_of (text ∷ texts) = (string_bytes text.0, text.1.items) ∷ texts_of texts
+texts_of texts = map (λ text. (string_bytes text.0, text.1.items)) texts
 
 -- the text under a name, the first one if there are several
 abbrev pub text_at : List (List ℕ × List ℕ) → List ℕ → Option (List ℕ)

@@ -16,7 +16,7 @@ use std::{fs, io};
 /// How many bytes a load asks a file for at once.
 const PIECE: usize = 1 << 16;
 
-/// Files, by their paths. What they hold is not known.
+/// Files, by their paths, as the runtime reaches them. What they hold is not known.
 #[derive(Drop)]
 pub struct DiskShelf<R> {
     files: R,
@@ -54,6 +54,7 @@ impl<R: Files> Shelf for DiskShelf<R> {
 
     ghost write_faults = { λ s. s.write_faults };
 
+    /// A directory, a name that isn't there and a name without permission are `Failed`.
     fn load(&mut self, alloc: Global, name: &str, limit: u64) -> Result<Vec<u8>, LoadFault>
         ensures counted { IsErrOf result LoadFault.Failed
             → self.new ≡ record self.old { read_faults = one_more self.old.read_faults } }
@@ -71,6 +72,7 @@ impl<R: Files> Shelf for DiskShelf<R> {
         result
     }
 
+    /// The file is made, or emptied and written again: after `Failed` or `NoMemory` it may hold a front of the bytes.
     fn save(&mut self, name: &str, bytes: &[u8]) -> Result<(), SaveFault>
         ensures counted { IsErrOf result SaveFault.Failed
             → self.new ≡ record self.old { write_faults = one_more self.old.write_faults } }
@@ -80,14 +82,11 @@ impl<R: Files> Shelf for DiskShelf<R> {
         ensures cause { HasCause self.old.write_faults self.new.write_faults (IsErrOf result SaveFault.Failed) }
         ensures read_faults { self.new.read_faults ≡ self.old.read_faults }
     {
-        match fs::write(&self.files, name, bytes) {
-            Ok(()) => Ok(()),
-            Err(error) if error.kind() == ErrorKind::OutOfMemory => Err(SaveFault::NoMemory),
-            Err(_) => {
-                self.write_faults = self.write_faults.saturating_add(1);
-                Err(SaveFault::Failed)
-            }
+        let result = fs::write(&self.files, name, bytes).map_err(save_fault_of);
+        if let Err(SaveFault::Failed) = result {
+            self.write_faults = self.write_faults.saturating_add(1);
         }
+        result
     }
 }
 
@@ -99,7 +98,7 @@ fn load_file<R: Files>(
 ) -> Result<Vec<u8>, LoadFault>
     ensures { IfOk result (λ bytes. length bytes.items ≤ limit) }
 {
-    let mut file = File::open(files, name).map_err(fault_of)?;
+    let mut file = File::open(files, name).map_err(load_fault_of)?;
     let mut piece = zeros(alloc, PIECE)?;
     read_within(alloc, &mut file, &mut piece, limit)
 }
@@ -139,16 +138,25 @@ fn read_piece<S: Read>(source: &mut S, piece: &mut [u8]) -> Result<usize, LoadFa
     ensures bytes { ReadConsumes (S.remaining source.old) (S.remaining source.new) result piece.new }
     ensures never_long { result ≢ Err LoadFault.TooLong }
 {
-    source.read(piece).map_err(fault_of)
+    source.read(piece).map_err(load_fault_of)
 }
 
-fn fault_of(error: io::Error) -> LoadFault
+fn load_fault_of(error: io::Error) -> LoadFault
     ensures no_memory { (result ≡ LoadFault.NoMemory) ↔ (error_kind error ≡ ErrorKind.OutOfMemory) }
     ensures never_long { result ≢ LoadFault.TooLong }
 {
     match error.kind() {
         ErrorKind::OutOfMemory => LoadFault::NoMemory,
         _ => LoadFault::Failed,
+    }
+}
+
+fn save_fault_of(error: io::Error) -> SaveFault
+    ensures { (result ≡ SaveFault.NoMemory) ↔ (error_kind error ≡ ErrorKind.OutOfMemory) }
+{
+    match error.kind() {
+        ErrorKind::OutOfMemory => SaveFault::NoMemory,
+        _ => SaveFault::Failed,
     }
 }
 

@@ -1,9 +1,10 @@
 //! Bytes in and out, with the faults counted.
 //!
-//! A `Shelf` holds texts under names, and a `Sink` takes bytes one after another. Where one tells what it holds,
-//! a caller may rely on it to the byte; where it doesn't, on this: a fault is answered only where one happened,
-//! since the count of faults rose in that call. `MemoryShelf` and `MemorySink` tell all and fail at the calls
-//! that they are given. `DiskShelf` and `StdSink` stand over real files and the standard output, and tell nothing.
+//! A `Shelf` holds texts under names (`specs/Shelf.antt`), and a `Sink` takes bytes one after another
+//! (`specs/Sink.antt`). Where one tells what it holds, a caller may rely on it to the byte. Where it doesn't,
+//! on this: a fault is answered only where one happened, since the count of faults rose in that call
+//! (`HasCause` of `specs/Faults.antt`). `MemoryShelf` and `MemorySink` tell all and fail at the calls that
+//! they are given. `DiskShelf` and `StdSink` stand over real files and the standard output, and tell nothing.
 #![tactic(auto)]
 
 mod disk_shelf;
