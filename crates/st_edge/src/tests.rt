@@ -1,5 +1,6 @@
 use crate::*;
 use std::alloc::{AllocError, Global};
+use std::cell::Cell;
 use std::fmt::Display;
 use std::io;
 use std::io::{ErrorKind, Print};
@@ -140,11 +141,13 @@ fn files_are_saved_and_loaded(rt: HostRuntime) -> Result<(), Fail> {
     Ok(())
 }
 
-/// An output that takes so many bytes at a time, or fails.
+const TEN: [u8; 10] = *b"0123456789";
+
+/// An output that expects `TEN`. It takes at most `most` bytes at a time, or fails if that is `None`.
 #[derive(Drop)]
-enum Output {
-    Takes(usize),
-    Fails,
+struct Output {
+    most: Option<usize>,
+    taken: Cell<usize>,
 }
 
 impl Print for Output {
@@ -161,21 +164,31 @@ impl Print for Output {
     }
 
     fn write_some(&self, bytes: &[u8]) -> io::Result<usize> {
-        match self {
-            Output::Takes(count) => Ok(bytes.len().min(*count)),
-            Output::Fails => Err(io::Error::from(ErrorKind::BrokenPipe)),
+        let taken = self.taken.get();
+        match (self.most, TEN.get(taken..)) {
+            (Some(most), Some(rest)) if bytes == rest => {
+                let count = bytes.len().min(most);
+                self.taken.set(taken.saturating_add(count));
+                Ok(count)
+            }
+            _ => Err(io::Error::from(ErrorKind::BrokenPipe)),
         }
     }
 }
 
 #[test]
-fn an_output_that_takes_nothing_fails(rt: HostRuntime) -> Result<(), Fail> {
-    for (output, want) in [
-        (Output::Takes(3), Ok(())),
-        (Output::Takes(0), Err(Failed)),
-        (Output::Fails, Err(Failed)),
+fn an_output_gets_all_bytes_or_fails(rt: HostRuntime) -> Result<(), Fail> {
+    for (most, want, taken) in [
+        (Some(3), Ok(()), 10),
+        (Some(0), Err(Failed), 0),
+        (None, Err(Failed), 0),
     ] {
-        assert_eq!(rt; send_all(&mut StdSink::new(output), b"0123456789"), want);
+        let output = Output {
+            most,
+            taken: Cell::new(0),
+        };
+        assert_eq!(rt; send_all(&mut StdSink::new(&output), &TEN), want);
+        assert_eq!(rt; output.taken.get(), taken);
     }
     let mut sink = StdSink::new(rt);
     assert_eq!(rt; write_through(&mut sink, b""), Ok(0));
