@@ -1,5 +1,5 @@
 -- Bytes taken one piece after another.
-use Rattle.std.proofs.Common.{◌≡◌, ◌≢◌, ℕ, ◌+◌, ◌-◌, ◌<◌, List, [], ◌++◌, length, take, drop, Option, None, Some, sym, refl, ap, ◌∙◌, append_assoc, length-drop, arith}
+use Rattle.std.proofs.Common.{◌≡◌, ◌≢◌, ℕ, ◌+◌, ◌-◌, ◌<◌, ◌≤◌, List, [], ◌++◌, length, take, drop, Option, None, Some, sym, refl, ap, ◌∙◌, append_assoc, length-drop, arith}
 use Rattle.std.proofs.Math.Seq.{take-add, take-length}
 use Rattle.std.specs.Io.KnownBytes.{append_known}
 
@@ -20,3 +20,11 @@ takes_on before mid after bytes rest n m is_rest at_mid at_after =
 -- there are bytes behind the first n if there are more than n
 pub rest-not_nil : (bytes rest : List ℕ) (n : ℕ) → rest ≡ drop n bytes → n < length bytes → rest ≢ []
 rest-not_nil bytes rest n is_rest short none = omega (arith, length-drop n bytes, ap length is_rest, ap length none)
+
+-- so many bytes of these are sent: they were taken, the count of faults didn't fall, and each byte cost at most one write
+pub record IsSent (bytes : List ℕ) (sent : ℕ) (before now : Option (List ℕ)) (faults_before faults_now writes_before writes_now : ℕ) : Type 0 where
+  pub within : sent ≤ length bytes
+  pub taken : now ≡ append_known before (take sent bytes)
+  pub faults_later : faults_before ≤ faults_now
+  pub writes_later : writes_before ≤ writes_now
+  pub one_write_per_byte : writes_now ≤ writes_before + sent

@@ -44,7 +44,8 @@ impl From<AllocError> for SaveFault {
     }
 }
 
-/// Texts under names. It counts its faults: a count begins at 0, never falls and ends at 2^64 - 1.
+/// Holds texts under names, and counts its faults. A count never falls.
+/// In this crate's shelves each count begins at 0 and stands still at 2^64 - 1.
 pub trait Shelf {
     /// The text under a name, both as bytes. `None` where there is none, or where the shelf doesn't tell.
     ghost text: { Self → List ℕ → Option (List ℕ) };

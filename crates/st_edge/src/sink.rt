@@ -1,13 +1,14 @@
 ghost use Rattle.std.specs.Prelude.{◌≡◌, ◌≢◌, ℕ, ◌+◌, ◌<◌, ◌≤◌, [], List, length, take, Option, Ok, IfOk, OnOk, OnErr, IsErr, MatchResult};
-ghost use Rattle.st_edge.specs.Faults.{HasCause};
 ghost use Rattle.std.specs.Io.KnownBytes.{append_known};
+ghost use Rattle.st_edge.specs.Faults.{HasCause};
 ghost use Rattle.st_edge.specs.Sink.{TakesFront};
 
 /// A sink took nothing of a piece, and won't say more.
 #[derive(Debug, Clone, Copy, PartialEq, Eq)]
 pub struct Failed;
 
-/// Takes bytes, one after another. It counts its faults: the count begins at 0, never falls and ends at 2^64 - 1.
+/// Takes bytes, one after another, and counts its faults. The count never falls.
+/// In this crate's sinks each count begins at 0 and stands still at 2^64 - 1.
 pub trait Sink {
     /// All bytes taken so far. `None` where the sink doesn't tell.
     ghost taken: { Self → Option (List ℕ) };

@@ -7,11 +7,14 @@ loop-sent-preserved g c =
     let bytes = c.args.bytes.now in
     let sent = c.loop-sent.sent in
     let count = c.in_ok-sent.field-0 in
+    let so_far = c.loop-sent.invariant in
+    let write = c.in_ok-sent.ensures in
     let rest = rest_of bytes sent in
-    let some : 0 < count = c.in_ok-sent.ensures.least (rest-not_nil bytes _ sent rest c.loop-sent-test.true) in (
-      omega (arith, length-drop sent bytes, ap length rest, c.in_ok-sent.ensures.most),
-      takes_on _ _ _ bytes _ sent count rest c.loop-sent.invariant.1 c.in_ok-sent.ensures.taken,
-      omega (arith, c.loop-sent.invariant.2, c.in_ok-sent.ensures.cause.later),
-      omega (arith, c.loop-sent.invariant.3, c.in_ok-sent.ensures.writes_later),
-      omega (arith, c.loop-sent.invariant.4, c.in_ok-sent.ensures.one_write),
-    )
+    let some : 0 < count = write.least (rest-not_nil bytes _ sent rest c.loop-sent-test.true) in
+    record {
+      within = omega (arith, length-drop sent bytes, ap length rest, write.most);
+      taken = takes_on _ _ _ bytes _ sent count rest so_far.taken write.taken;
+      faults_later = omega (arith, so_far.faults_later, write.cause.later);
+      writes_later = omega (arith, so_far.writes_later, write.writes_later);
+      one_write_per_byte = omega (arith, so_far.one_write_per_byte, write.one_write);
+    }
