@@ -1,8 +1,7 @@
 -- A tree that is being grown of given pairs, arc by arc.
-use Rattle.std.proofs.Common.{◌≡◌, ℕ, zero, suc, ◌+◌, ◌<◌, ◌≤◌, ◌≢◌, Bool, true, false, cond, ◌&&◌, ◌||◌, ◌⊎◌, inl, inr, eqb, List, [], ◌∷◌, ◌++◌, length, get_or, set, take, refl, sym, ap, ◌∙◌, arith, eq-eqb, subst, Option, Some, None, length-set, length-append}
-use Rattle.std.proofs.Math.Bool.{or_comm, or_assoc}
-use Rattle.std.specs.Prelude.{◌==◌, IsTrue, IsFalse, IsSome, All, sum_by}
-use Rattle.std.specs.List.{AllByRecursion, list_any}
+use Rattle.std.proofs.Common.{◌≡◌, ℕ, zero, suc, ◌+◌, ◌<◌, ◌≤◌, Bool, true, false, cond, ◌&&◌, ◌||◌, inl, inr, List, [], ◌∷◌, ◌++◌, length, get_or, set, take, refl, sym, ap, ◌∙◌, arith, eq-eqb, subst, Some, length-set, length-append}
+use Rattle.std.specs.Prelude.{◌==◌, IsTrue, IsFalse, IsSome, All}
+use Rattle.std.specs.List.{AllByRecursion}
 use Rattle.std.proofs.lemmas.Bool.Decides.{nat_tests, eqb_tells}
 use Rattle.std.proofs.lemmas.List.Elements.{recursion_from_All, All-push, All-weaker, All-more}
 use Rattle.std.proofs.lemmas.List.Folds.{list_any-append, list_any_at}
@@ -116,7 +115,8 @@ pub neighbour-vertex : (I : Network) (pairs : List (ℕ × ℕ)) (tail : ℕ) (h
 neighbour-vertex I pairs tail heads i instance links are in_range =
     (link-vertices I.n I.links tail (get_or heads i 0) (recursion_from_All _ I.links instance.ends) (link-from_pair I.links pairs tail (get_or heads i 0) (recursion_from_All _ pairs links) (neighbour-pair pairs tail heads i are in_range))).1
 
-length-take_extends : (first arcs : List (ℕ × ℕ)) → take (length first) arcs ≡ first → length first ≤ length arcs
+-- a list is no shorter than its first part
+pub length-take_extends : (first arcs : List (ℕ × ℕ)) → take (length first) arcs ≡ first → length first ≤ length arcs
 length-take_extends first arcs h = omega (arith, length-take (length first) arcs, ap length h)
 
 -- one more head is reached, by an arc or because it was before
@@ -147,3 +147,13 @@ HasReached-same I pairs start first heads i tail old mark reached instance links
       heads = All-more (λ x. IsTrue (reaches start old.arcs.items x)) heads i 0 in_range reached.heads here;
       extends = reached.extends;
     }
+
+-- the head of an arc that is made of links is a vertex
+pub made-vertex : (I : Network) (pairs arcs : List (ℕ × ℕ)) (i : ℕ) (arc : ℕ × ℕ) → IsInstance I → All (λ pair. IsSome (link I.links pair.0 pair.1)) pairs → All (λ arc. IsTrue (has_pair pairs arc.0 arc.1)) arcs → i < length arcs → arc ≡ get_or arcs i arc → arc.1 ≤ I.n
+made-vertex I pairs arcs i arc instance links made in_range is =
+    let pair : IsTrue (has_pair pairs arc.0 arc.1) = subst (λ (a : ℕ × ℕ). IsTrue (has_pair pairs a.0 a.1)) (sym is) (made i arc in_range) in
+    (link-vertices I.n I.links arc.0 arc.1 (recursion_from_All _ I.links instance.ends) (link-from_pair I.links pairs arc.0 arc.1 (recursion_from_All _ pairs links) pair)).1
+
+-- the ends of links are vertices
+pub links-vertices : (I : Network) (pairs : List (ℕ × ℕ)) → IsInstance I → All (λ pair. IsSome (link I.links pair.0 pair.1)) pairs → All (λ pair. (pair.0 ≤ I.n) × (pair.1 ≤ I.n)) pairs
+links-vertices I pairs instance links = All-weaker (λ pair. IsSome (link I.links pair.0 pair.1)) (λ pair. (pair.0 ≤ I.n) × (pair.1 ≤ I.n)) (λ pair h. link-vertices I.n I.links pair.0 pair.1 (recursion_from_All _ I.links instance.ends) h) pairs links
