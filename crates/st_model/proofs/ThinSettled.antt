@@ -4,7 +4,7 @@ use Rattle.std.specs.Prelude.{IsTrue, All}
 use Rattle.std.specs.List.{AllByRecursion}
 use Rattle.std.proofs.lemmas.Bool.Decides.{eqb_tells}
 use Rattle.std.proofs.lemmas.List.Elements.{recursion_from_All}
-use Rattle.std.proofs.lemmas.List.{take_more, take-append-drop, take-append-le}
+use Rattle.std.proofs.lemmas.List.{take-append-drop, take-append-le}
 use Rattle.std.proofs.Math.Seq.{take-length}
 use Rattle.std.proofs.Math.Bool.{or_comm}
 use Rattle.std.proofs.lemmas.List.Folds.{list_any_at}
@@ -13,7 +13,8 @@ use Rattle.st_model.specs.Arborescence.{reached_from}
 use Rattle.st_model.specs.Made.{is_between, has_pair, AreConnectedFrom}
 use Rattle.st_model.specs.Growth.{neighbours, reaches, AreSettled}
 use Rattle.st_model.proofs.Distinct.{has-cons_head}
-use Rattle.st_model.proofs.ThinGrowth.{reached_from-push, has-neighbours, has-reached_from, has-reached_from_take}
+use Rattle.st_model.proofs.Judging.{reached_next}
+use Rattle.st_model.proofs.ThinGrowth.{has-neighbours, has-reached_from, has-reached_from_take}
 
 -- what holds of all holds of each that is there
 All-has : (P : ℕ → Type 0) (xs : List ℕ) (v : ℕ) → AllByRecursion P xs → IsTrue (has xs v) → P v
@@ -47,8 +48,8 @@ AreSettled-more pairs start old new next heads tail d settled in_range extends t
     let arc = get_or old next d in
     let r = start ∷ [] in
     let new_is : new ≡ old ++ drop (length old) new = sym (take-append-drop (length old) new) ∙ ap (λ l. l ++ drop (length old) new) extends in
-    let first_are : take (next + 1) new ≡ take next old ++ arc ∷ [] = ap (take (next + 1)) new_is ∙ (take-append-le (next + 1) old (drop (length old) new) (omega arith) ∙ take_more old next d in_range) in
-    let reached_first : IsTrue (has (arc.1 ∷ reached_from r (take next old)) v) = sym (ap (λ l. has l v) (ap (reached_from r) first_are ∙ reached_from-push r (take next old) arc.0 arc.1)) ∙ first in
+    let first_are : take (next + 1) new ≡ take (next + 1) old = ap (take (next + 1)) new_is ∙ take-append-le (next + 1) old (drop (length old) new) (omega arith) in
+    let reached_first : IsTrue (has (arc.1 ∷ reached_from r (take next old)) v) = sym (ap (λ l. has l v) (ap (reached_from r) first_are ∙ reached_next r old next d in_range)) ∙ first in
     elim (eqb_tells arc.1 v) [
       | inl e ↦ settled-one pairs start new heads v w reached (are ∙ ap (neighbours pairs) (tail_is ∙ e.1)) pair
       | inr e ↦
