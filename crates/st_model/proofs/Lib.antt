@@ -10,3 +10,4 @@ pub mod Distinct
 pub mod ThinLists
 pub mod ThinGrowth
 pub mod ThinSettled
+pub mod RegrowSteps
