@@ -14,6 +14,7 @@ mod judge;
 mod link;
 mod listed;
 mod need;
+mod regrowing;
 mod thinning;
 mod tree;
 
@@ -23,5 +24,6 @@ pub use instance::{Instance, MAX_VERTICES};
 pub use link::Link;
 pub use listed::Listed;
 pub use need::Need;
+pub use regrowing::{RegrowError, regrow};
 pub use thinning::thin;
 pub use tree::{Tree, is_tree};
