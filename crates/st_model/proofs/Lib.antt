@@ -11,3 +11,4 @@ pub mod ThinLists
 pub mod ThinGrowth
 pub mod ThinSettled
 pub mod RegrowSteps
+pub mod RegrowLaws

@@ -1,9 +1,9 @@
 -- Arcs that are regrown at a vertex which they reach have the same links, reach the same, and cost the same.
-use Rattle.std.proofs.Common.{◌≡◌, ◌≢◌, ℕ, ◌+◌, ◌≤◌, min, max, Bool, true, false, cond, ◌||◌, ◌⊎◌, inl, inr, eqb, List, [], ◌∷◌, ◌++◌, map, reverse, refl, sym, ap, ◌∙◌, arith, subst, eq-eqb, ◌<◌, length, get_or, drop, append_assoc}
+use Rattle.std.proofs.Common.{◌≡◌, ◌≢◌, ℕ, ◌+◌, Bool, true, false, cond, ◌||◌, inl, inr, List, [], ◌∷◌, ◌++◌, map, reverse, refl, sym, ap, ◌∙◌, arith, subst, eq-eqb, ◌<◌, length, get_or, drop, append_assoc}
 use Rattle.std.specs.Prelude.{◌==◌, IsTrue, IsFalse, IsSome, unwrap_or}
 use Rattle.std.specs.List.{list_any}
 use Rattle.std.specs.List.Sorted.{IsPermutation}
-use Rattle.std.proofs.lemmas.Bool.Decides.{nat_tests, eqb_tells}
+use Rattle.std.proofs.lemmas.Bool.Decides.{eqb_tells}
 use Rattle.std.proofs.lemmas.List.Sorted.{IsPermutation-refl, IsPermutation-sym, IsPermutation-cons, IsPermutation-to_front, IsPermutation-append_left, IsPermutation-trans}
 use Rattle.std.proofs.Math.Nat.{min_comm, max_comm}
 use Rattle.std.proofs.lemmas.Bool.{eqb-true}
@@ -14,7 +14,7 @@ use Rattle.st_model.specs.Arborescence.{reached_from, Grows, arc_cost}
 use Rattle.st_model.specs.Growth.{reaches}
 use Rattle.st_model.specs.Regrown.{unordered, regrown}
 use Rattle.st_model.proofs.Sums.{total-append}
-use Rattle.st_model.proofs.Distinct.{has-cons_head, has-cons_tail, link-comm}
+use Rattle.st_model.proofs.Distinct.{has-cons_head, link-comm}
 use Rattle.st_model.proofs.Judging.{reached_from-append}
 use Rattle.st_model.proofs.ThinGrowth.{Grows-push, has-reached_from}
 

@@ -39,21 +39,16 @@ impl From<AllocError> for RegrowError {
 
 /// The same tree with another of the vertices that it reaches as its start: the arcs on the way
 /// to it are turned.
-pub fn regrow(
-    alloc: Global,
-    _instance: &Instance,
-    tree: &Tree,
-    at: u32,
-) -> Result<Tree, RegrowError>
-    requires { IsArborescence _instance.now tree.now }
+pub fn regrow(alloc: Global, instance: &Instance, tree: &Tree, at: u32) -> Result<Tree, RegrowError>
+    requires { IsArborescence instance.now tree.now }
     ensures not_reached { IsErrOf result RegrowError.NotReached ↔ IsFalse (has (reached tree.now) at) }
     ensures start { IfOk result (λ new. new.start ≡ at) }
-    ensures arborescence { IfOk result (IsArborescence _instance.now) }
+    ensures arborescence { IfOk result (IsArborescence instance.now) }
     ensures links { IfOk result (λ new. IsPermutation (map unordered new.arcs) (map unordered tree.now.arcs)) }
     ensures same_reached { IfOk result (λ new. (v : ℕ) → has (reached new) v ≡ has (reached tree.now) v) }
-    ensures same_cost { IfOk result (λ new. cost _instance.now new ≡ cost _instance.now tree.now) }
+    ensures same_cost { IfOk result (λ new. cost instance.now new ≡ cost instance.now tree.now) }
 {
-    if !reaches(tree, at) {
+    if at > instance.vertices() || !reaches(tree, at) {
         return Err(RegrowError::NotReached);
     }
     let arcs = arcs_from(alloc, tree.arcs.as_slice(), at)?;
