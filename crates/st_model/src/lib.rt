@@ -17,6 +17,8 @@ mod need;
 mod regrowing;
 mod thinning;
 mod tree;
+#[cfg(test)]
+mod tree_tests;
 
 pub use branch::Branch;
 pub use cost::tree_cost;
