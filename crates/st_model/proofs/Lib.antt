@@ -12,3 +12,4 @@ pub mod ThinGrowth
 pub mod ThinSettled
 pub mod RegrowSteps
 pub mod RegrowLaws
+pub mod RegrowAlike

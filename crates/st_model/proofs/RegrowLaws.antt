@@ -6,7 +6,7 @@ use Rattle.std.proofs.lemmas.List.{reverse-reverse}
 use Rattle.st_model.specs.declared.tree.Tree.{Tree}
 use Rattle.st_model.specs.Lists.{has, sum_to}
 use Rattle.st_model.specs.Network.{Network, IsInstance, IsVertex, pays}
-use Rattle.st_model.specs.Arborescence.{reached_from, reached, Grows, IsArborescence, cost, missed}
+use Rattle.st_model.specs.Arborescence.{reached_from, reached, Grows, IsArborescence, missed}
 use Rattle.st_model.specs.Growth.{reaches}
 use Rattle.st_model.specs.Regrown.{regrown, IsRegrown, EachTreeRegrows}
 use Rattle.st_model.proofs.Sums.{sum_to_same}
@@ -62,9 +62,3 @@ each_tree_regrows I t at instance tree there = (record { start = at; arcs = regr
 -- what is missed and what is paid in all depend on what is reached alone
 pub missed-same : (I : Network) (n : ℕ) (r s : List ℕ) → ((v : ℕ) → has s v ≡ has r v) → sum_to (missed I s) n ≡ sum_to (missed I r) n
 missed-same I n r s same = sum_to_same (missed I s) (missed I r) n (λ v low high. ap (λ b. cond b 0 (pays I v)) (same v))
-
-pub tree-regrowth_cost : (I : Network) (t : Tree) (at : ℕ) → IsArborescence I t → IsTrue (has (reached t) at) → cost I (record { start = at; arcs = regrown at (reverse t.arcs) }) ≡ cost I t
-tree-regrowth_cost I t at tree there =
-    let regrowth = tree-regrowth I t at tree there in
-    let missed_same = missed-same I I.n (reached t) (reached_from (at ∷ []) (regrown at (reverse t.arcs))) regrowth.reached in
-    omega (arith, regrowth.cost, missed_same)

@@ -1,6 +1,6 @@
--- Arcs that are regrown at a vertex which they reach have the same links, reach the same, and cost the same.
-use Rattle.std.proofs.Common.{◌≡◌, ◌≢◌, ℕ, ◌+◌, Bool, true, false, cond, ◌||◌, inl, inr, List, [], ◌∷◌, ◌++◌, map, reverse, refl, sym, ap, ◌∙◌, arith, subst, eq-eqb, ◌<◌, length, get_or, drop, append_assoc}
-use Rattle.std.specs.Prelude.{◌==◌, IsTrue, IsFalse, IsSome, unwrap_or}
+-- Arcs that are regrown at a vertex which they reach have the same links and reach the same.
+use Rattle.std.proofs.Common.{◌≡◌, ◌≢◌, ℕ, ◌+◌, Bool, true, false, cond, ◌||◌, inl, inr, List, [], ◌∷◌, ◌++◌, map, reverse, refl, sym, ap, ◌∙◌, subst, eq-eqb, ◌<◌, length, get_or, drop, append_assoc}
+use Rattle.std.specs.Prelude.{◌==◌, IsTrue, IsFalse, IsSome}
 use Rattle.std.specs.List.{list_any}
 use Rattle.std.specs.List.Sorted.{IsPermutation}
 use Rattle.std.proofs.lemmas.Bool.Decides.{eqb_tells}
@@ -8,35 +8,32 @@ use Rattle.std.proofs.lemmas.List.Sorted.{IsPermutation-refl, IsPermutation-sym,
 use Rattle.std.proofs.Math.Nat.{min_comm, max_comm}
 use Rattle.std.proofs.lemmas.Bool.{eqb-true}
 use Rattle.std.proofs.lemmas.List.{map-append, reverse-append, drop_more}
-use Rattle.st_model.specs.Lists.{has, total}
+use Rattle.st_model.specs.Lists.{has}
 use Rattle.st_model.specs.Network.{Network, link}
-use Rattle.st_model.specs.Arborescence.{reached_from, Grows, arc_cost}
+use Rattle.st_model.specs.Arborescence.{reached_from, Grows}
+use Rattle.st_model.specs.Marks.{IsNewArc}
 use Rattle.st_model.specs.Growth.{reaches}
 use Rattle.st_model.specs.Regrown.{unordered, regrown}
-use Rattle.st_model.proofs.Sums.{total-append}
 use Rattle.st_model.proofs.Distinct.{has-cons_head, link-comm}
 use Rattle.st_model.proofs.Judging.{reached_from-append}
 use Rattle.st_model.proofs.ThinGrowth.{Grows-push, has-reached_from}
 
--- new arcs from another vertex, with the links, the reach and the cost of the old arcs from the start
+-- new arcs from another vertex, with the links and the reach of the old arcs from the start
 pub record IsRegrowth (I : Network) (start : ℕ) (old : List (ℕ × ℕ)) (at : ℕ) (new : List (ℕ × ℕ)) : Type 0 where
   pub grows : Grows I (at ∷ []) new
   pub links : IsPermutation (map unordered new) (map unordered old)
   pub reached : (v : ℕ) → reaches at new v ≡ reaches start old v
-  pub cost : total (arc_cost I) new ≡ total (arc_cost I) old
 
 -- the last arc of those that grow
 pub record EndsIn (I : Network) (r : List ℕ) (arcs : List (ℕ × ℕ)) (arc : ℕ × ℕ) : Type 0 where
   pub grows : Grows I r arcs
-  pub linked : IsSome (link I.links arc.0 arc.1)
-  pub from : IsTrue (has (reached_from r arcs) arc.0)
-  pub to : IsFalse (has (reached_from r arcs) arc.1)
+  pub last : IsNewArc I (reached_from r arcs) arc
 
 pub Grows-last : (I : Network) (r : List ℕ) (arcs : List (ℕ × ℕ)) (arc : ℕ × ℕ) → Grows I r (arcs ++ arc ∷ []) → EndsIn I r arcs arc
-Grows-last I r [] arc g = record { grows = tt; linked = g.0; from = g.1; to = g.2 }
+Grows-last I r [] arc g = record { grows = tt; last = record { linked = g.0; from = g.1; to = g.2 } }
 Grows-last I r (first ∷ arcs) arc g =
     let rest = Grows-last I (first.1 ∷ r) arcs arc g.3 in
-    record { grows = (g.0, g.1, g.2, rest.grows); linked = rest.linked; from = rest.from; to = rest.to }
+    record { grows = (g.0, g.1, g.2, rest.grows); last = rest.last }
 
 -- arcs that don't reach a vertex grow as well where it is reached beforehand
 pub record GrowsWith (I : Network) (r wider : List ℕ) (arcs : List (ℕ × ℕ)) (vertex : ℕ) : Type 0 where
@@ -72,15 +69,14 @@ Grows-wider I r wider (arc ∷ arcs) vertex same g absent =
 -- the turned arc first
 IsRegrowth-turned : (I : Network) (start : ℕ) (old : List (ℕ × ℕ)) (arc : ℕ × ℕ) (new : List (ℕ × ℕ)) → EndsIn I (start ∷ []) old arc → IsRegrowth I start old arc.0 new → IsRegrowth I start (old ++ arc ∷ []) arc.1 ((arc.1, arc.0) ∷ new)
 IsRegrowth-turned I start old arc new end before =
-    let absent : reaches arc.0 new arc.1 ≡ false = before.reached arc.1 ∙ end.to in
+    let absent : reaches arc.0 new arc.1 ≡ false = before.reached arc.1 ∙ end.last.to in
     let wider = Grows-wider I (arc.0 ∷ []) (arc.0 ∷ arc.1 ∷ []) new arc.1 (λ v. or_comm_nil (arc.0 == v) (arc.1 == v)) before.grows absent in
     let front = IsPermutation-cons (unordered arc) (map unordered new) (map unordered old) before.links in
     let back = IsPermutation-sym (map unordered old ++ unordered arc ∷ []) (unordered arc ∷ map unordered old) (IsPermutation-to_front (map unordered old) (unordered arc)) in
     record {
-      grows = (rw link-comm end.linked, has-cons_head [] arc.1 arc.1 refl, apart, wider.grows);
+      grows = (rw link-comm end.last.linked, has-cons_head [] arc.1 arc.1 refl, apart, wider.grows);
       links = rw (unordered-comm, map-append) (IsPermutation-trans (unordered arc ∷ map unordered new) (unordered arc ∷ map unordered old) (map unordered old ++ unordered arc ∷ []) front back);
       reached = λ v. wider.reached v ∙ (ap (λ b. (arc.1 == v) || b) (before.reached v) ∙ sym (ap (λ r. has r v) (reached_from-append (start ∷ []) old (arc ∷ []))));
-      cost = let total_old = total-append (arc_cost I) old (arc ∷ []) in let same = ap (λ o. unwrap_or o 0) (link-comm I.links arc.1 arc.0) in omega (arith, before.cost, total_old, same);
     }
   where
     or_comm_nil : (a b : Bool) → (a || (b || false)) ≡ (b || (a || false))
@@ -93,23 +89,22 @@ IsRegrowth-turned I start old arc new end before =
 
     apart : ((arc.1 == arc.0) || false) ≡ false
     apart = elim (eqb_tells arc.1 arc.0) [
-      | inl e ↦ let both : false ≡ true = sym end.to ∙ (ap (has (reached_from (start ∷ []) old)) e.1 ∙ end.from) in cc
+      | inl e ↦ let both : false ≡ true = sym end.last.to ∙ (ap (has (reached_from (start ∷ []) old)) e.1 ∙ end.last.from) in cc
       | inr e ↦ rw e.0 refl
     ]
 
 -- the kept arc last
 IsRegrowth-kept : (I : Network) (start : ℕ) (old : List (ℕ × ℕ)) (arc : ℕ × ℕ) (at : ℕ) (new : List (ℕ × ℕ)) → EndsIn I (start ∷ []) old arc → IsRegrowth I start old at new → IsRegrowth I start (old ++ arc ∷ []) at (new ++ arc ∷ [])
 IsRegrowth-kept I start old arc at new end before = record {
-  grows = Grows-push I (at ∷ []) new arc.0 arc.1 before.grows end.linked (before.reached arc.0 ∙ end.from) (before.reached arc.1 ∙ end.to);
+  grows = Grows-push I (at ∷ []) new arc.0 arc.1 before.grows end.last.linked (before.reached arc.0 ∙ end.last.from) (before.reached arc.1 ∙ end.last.to);
   links = simp map-append (IsPermutation-append_left (map unordered (arc ∷ [])) (map unordered new) (map unordered old) before.links);
   reached = λ v. ap (λ r. has r v) (reached_from-append (at ∷ []) new (arc ∷ [])) ∙ (ap (λ b. (arc.1 == v) || b) (before.reached v) ∙ sym (ap (λ r. has r v) (reached_from-append (start ∷ []) old (arc ∷ []))));
-  cost = total-append (arc_cost I) new (arc ∷ []) ∙ (ap (λ x. x + total (arc_cost I) (arc ∷ [])) before.cost ∙ sym (total-append (arc_cost I) old (arc ∷ [])));
 }
 
 -- every tree can be regrown at each vertex that it reaches
 pub IsRegrowth-regrown : (I : Network) (start at : ℕ) (back : List (ℕ × ℕ)) → Grows I (start ∷ []) (reverse back) → IsTrue (reaches start (reverse back) at) → IsRegrowth I start (reverse back) at (regrown at back)
 IsRegrowth-regrown I start at [] g there = elim (eqb_tells start at) [
-  | inl e ↦ subst (λ (v : ℕ). IsRegrowth I start [] v []) e.1 (record { grows = tt; links = IsPermutation-refl []; reached = λ v. refl; cost = refl })
+  | inl e ↦ subst (λ (v : ℕ). IsRegrowth I start [] v []) e.1 (record { grows = tt; links = IsPermutation-refl []; reached = λ v. refl })
   | inr e ↦ let none : (false || false) ≡ true = rw e.0 at there in cc
 ]
 IsRegrowth-regrown I start at (arc ∷ back) g there =
@@ -118,7 +113,7 @@ IsRegrowth-regrown I start at (arc ∷ back) g there =
     let reached_last = ap (λ r. has r at) (reached_from-append (start ∷ []) (reverse back) (arc ∷ [])) in
     let there_last : ((arc.1 == at) || reaches start (reverse back) at) ≡ true = sym reached_last ∙ (ap (λ arcs. reaches start arcs at) (sym last) ∙ there) in
     subst (λ (old : List (ℕ × ℕ)). IsRegrowth I start old at (regrown at (arc ∷ back))) (sym last)
-    (by_test (arc.1 == at) refl end there_last (IsRegrowth-regrown I start arc.0 back end.grows end.from) (λ h. IsRegrowth-regrown I start at back end.grows h))
+    (by_test (arc.1 == at) refl end there_last (IsRegrowth-regrown I start arc.0 back end.grows end.last.from) (λ h. IsRegrowth-regrown I start at back end.grows h))
   where
     by_test : (b : Bool) → (arc.1 == at) ≡ b → EndsIn I (start ∷ []) (reverse back) arc → (b || reaches start (reverse back) at) ≡ true → IsRegrowth I start (reverse back) arc.0 (regrown arc.0 back) → (IsTrue (reaches start (reverse back) at) → IsRegrowth I start (reverse back) at (regrown at back)) → IsRegrowth I start (reverse back ++ arc ∷ []) at (cond b ((arc.1, arc.0) ∷ regrown arc.0 back) (regrown at back ++ arc ∷ []))
     by_test true is end h turned kept = subst (λ (v : ℕ). IsRegrowth I start (reverse back ++ arc ∷ []) v ((arc.1, arc.0) ∷ regrown arc.0 back)) (eqb-true arc.1 at is) (IsRegrowth-turned I start (reverse back) arc (regrown arc.0 back) end turned)

@@ -26,6 +26,6 @@ pub use instance::{Instance, MAX_VERTICES};
 pub use link::Link;
 pub use listed::Listed;
 pub use need::Need;
-pub use regrowing::{RegrowError, regrow};
+pub use regrowing::{RegrowError, regrow, regrowing_keeps_trees};
 pub use thinning::thin;
 pub use tree::{Tree, is_tree};

@@ -4,7 +4,7 @@ ghost use Rattle.std.specs.List.Sorted.{IsPermutation};
 ghost use Rattle.st_model.specs.declared.regrowing.RegrowError.TheVariants.{NoMemory};
 ghost use Rattle.st_model.specs.Arborescence.{IsArborescence, cost, reached};
 ghost use Rattle.st_model.specs.Lists.{has};
-ghost use Rattle.st_model.specs.Regrown.{regrown, unordered};
+ghost use Rattle.st_model.specs.Regrown.{EachTreeRegrows, RegrownIsAlike, regrown, unordered};
 
 use crate::{Instance, Listed, Tree};
 use std::alloc::{AllocError, Global};
@@ -36,6 +36,13 @@ impl From<AllocError> for RegrowError {
         RegrowError::NoMemory
     }
 }
+
+/// Each tree can be regrown at every vertex that it reaches, and what is regrown reaches the same
+/// vertices at the same cost.
+pub fn regrowing_keeps_trees()
+    ensures each { EachTreeRegrows }
+    ensures alike { RegrownIsAlike }
+{}
 
 /// The same tree with another of the vertices that it reaches as its start: the arcs on the way
 /// to it are turned.

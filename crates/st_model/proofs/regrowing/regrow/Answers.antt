@@ -2,8 +2,9 @@ use Rattle.std.proofs.Common.{◌≡◌, rules, ◌∙◌, ap, reverse, refl, Li
 use Rattle.std.specs.Prelude.{IsTrue, IsFalse}
 use Rattle.st_model.specs.Lists.{has}
 use Rattle.st_model.specs.Arborescence.{reached}
-use Rattle.st_model.specs.Regrown.{regrown}
-use Rattle.st_model.proofs.RegrowLaws.{tree-regrowth, IsRegrown-regrown, tree-regrowth_cost, not_reached_above}
+use Rattle.st_model.specs.Regrown.{IsRegrown, regrown}
+use Rattle.st_model.proofs.RegrowLaws.{IsRegrown-regrown, not_reached_above}
+use Rattle.st_model.proofs.RegrowAlike.{regrown_is_alike}
 use Rattle.st_model.proofs.regrowing.regrow.Goals.{After-of, then-at-vertices-via-then-at-vertices, then-at-vertices-via-else-at-vertices+then-not-reaches}
 use Rattle.st_model.proofs.regrowing.regrow.Goals as goal
 
@@ -22,14 +23,17 @@ there c = let yes = c.if-not-reaches.false in let is = c.reaches.ensures in cc
 arcs_are : (c : After-of) → c.of.result ≡ regrown c.args.at (reverse c.args.tree.now.arcs)
 arcs_are c = c.of.ensures ∙ (c.in_ok-arcs.ensures ∙ ap (λ (arcs : List (ℕ × ℕ)). regrown c.args.at (reverse arcs)) c.as_slice.ensures)
 
+regrown_there : (c : After-of) → IsRegrown c.args.instance.now c.args.tree.now c.args.at (record { start = c.args.at; arcs = c.of.result })
+regrown_there c = rw (arcs_are c) (IsRegrown-regrown c.args.instance.now c.args.tree.now c.args.at c.vertices.ensures.instance c.requires (there c))
+
 pub returns-clause-arborescence : goal.returns-clause-arborescence
-returns-clause-arborescence c = rw (arcs_are c) (IsRegrown-regrown c.args.instance.now c.args.tree.now c.args.at c.vertices.ensures.instance c.requires (there c)).arborescence
+returns-clause-arborescence c = (regrown_there c).arborescence
 
 pub returns-clause-links : goal.returns-clause-links
-returns-clause-links c = rw (arcs_are c) (tree-regrowth c.args.instance.now c.args.tree.now c.args.at c.requires (there c)).links
+returns-clause-links c = (regrown_there c).links
 
 pub returns-clause-same_reached : goal.returns-clause-same_reached
-returns-clause-same_reached c = rw (arcs_are c) (tree-regrowth c.args.instance.now c.args.tree.now c.args.at c.requires (there c)).reached
+returns-clause-same_reached c = (regrown_is_alike c.args.instance.now c.args.tree.now c.args.at (record { start = c.args.at; arcs = c.of.result }) c.requires (there c) (regrown_there c)).0
 
 pub returns-clause-same_cost : goal.returns-clause-same_cost
-returns-clause-same_cost c = rw (arcs_are c) (tree-regrowth_cost c.args.instance.now c.args.tree.now c.args.at c.requires (there c))
+returns-clause-same_cost c = (regrown_is_alike c.args.instance.now c.args.tree.now c.args.at (record { start = c.args.at; arcs = c.of.result }) c.requires (there c) (regrown_there c)).1
