@@ -13,3 +13,4 @@ pub mod ThinSettled
 pub mod RegrowSteps
 pub mod RegrowLaws
 pub mod RegrowAlike
+pub mod Marked

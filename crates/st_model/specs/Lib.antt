@@ -8,3 +8,4 @@ pub mod Branch
 pub mod Made
 pub mod Growth
 pub mod Regrown
+pub mod VertexSet

@@ -19,6 +19,7 @@ mod thinning;
 mod tree;
 #[cfg(test)]
 mod tree_tests;
+mod vertex_set;
 
 pub use branch::Branch;
 pub use cost::tree_cost;
@@ -29,3 +30,4 @@ pub use need::Need;
 pub use regrowing::{RegrowError, regrow, regrowing_keeps_trees};
 pub use thinning::thin;
 pub use tree::{Tree, is_tree};
+pub use vertex_set::VertexSet;
