@@ -1,0 +1,7 @@
+pub mod Members
+pub mod Raising
+pub mod Joining
+pub mod Linked
+pub mod Pouring
+pub mod Taking
+pub mod Ending

@@ -1,0 +1,123 @@
+ghost use Rattle.std.specs.Prelude.{◌≡◌, ◌≢◌, ◌≤◌, ℕ, [], IfOk, IfSome, IsTrue, All};
+ghost use Rattle.std.specs.List.Sorted.{IsNonDecreasingBy};
+ghost use Rattle.st_model.specs.Network.{IsInstance, link};
+ghost use Rattle.st_model.specs.Branch.{is_certain};
+ghost use Rattle.level_packing.specs.Forest.{IsGrown, IsPresent, IsPresentLink, IsToCome, groups, cluster_of};
+ghost use Rattle.level_packing.specs.Spanning.{Closes, HasSets};
+
+use crate::Leaf;
+use crate::ascending::ascending;
+use crate::forest::{Forest, alone};
+use crate::present::present_links;
+use crate::search::{first_apart, first_present};
+use cut_packing::{Cut, Packing};
+use st_model::{Branch, Instance, Link, Listed, VertexSet, thin};
+use std::alloc::{AllocError, Global};
+
+/// Closes a branch in which each present vertex is required or inside: by a tree that reaches
+/// exactly the present vertices with a packing that weighs what the tree costs, or, where there
+/// is no such tree, by a packing that weighs at least the target.
+pub fn close_all(
+    alloc: Global,
+    instance: &Instance,
+    branch: &Branch,
+    target: u64,
+) -> Result<Leaf, AllocError>
+    requires certain { (v : ℕ) → IsPresent instance.now branch.now v → IsTrue (is_certain instance.now branch.now v) }
+    requires some { (v : ℕ) × IsPresent instance.now branch.now v }
+    ensures closed { IfOk result (Closes instance.now branch.now target) }
+    ensures sets { IfOk result (HasSets instance.now.n) }
+{
+    let places = instance.vertices() as usize + 1;
+    let outside = VertexSet::of(alloc, places, branch.outside.as_slice())?;
+    let Some(root) = first_present(instance, branch, &outside) else {
+        unreachable!()
+    };
+    let links = present_links(alloc, instance, branch, &outside)?;
+    let forest = grow(alloc, instance, branch, root, &links)?;
+    match first_apart(instance, branch, &outside, &forest, root) {
+        None => spanned(alloc, instance, branch, target, root, forest),
+        Some(vertex) => wall(alloc, instance, branch, target, root, forest, vertex),
+    }
+}
+
+// Grows clusters along all the links.
+fn grow(
+    alloc: Global,
+    instance: &Instance,
+    branch: &Branch,
+    root: u32,
+    links: &[Link],
+) -> Result<Forest, AllocError>
+    requires root { IsPresent instance.now branch.now root }
+    requires links { All (IsPresentLink instance.now branch.now) links.now }
+    requires ascending { IsNonDecreasingBy (λ l. l.cost) links.now }
+    requires complete { (u v : ℕ) → IsPresent instance.now branch.now u → IsPresent instance.now branch.now v
+        → IfSome (link instance.now.links u v) (IsToCome links.now u v) }
+    ensures { IfOk result (λ forest. IsGrown instance.now branch.now root [] (groups forest)) }
+{
+    let mut forest = alone(alloc, instance.vertices())?;
+    for at in 0..links.len() {
+        forest.take(alloc, instance, branch, root, links, at)?;
+    }
+    Ok(forest)
+}
+
+// The tree of the chosen links, where they join all present vertices.
+fn spanned(
+    alloc: Global,
+    instance: &Instance,
+    branch: &Branch,
+    target: u64,
+    root: u32,
+    forest: Forest,
+) -> Result<Leaf, AllocError>
+    requires certain { (v : ℕ) → IsPresent instance.now branch.now v → IsTrue (is_certain instance.now branch.now v) }
+    requires instance { IsInstance instance.now }
+    requires grown { IsGrown instance.now branch.now root [] (groups forest) }
+    requires one { (v : ℕ) → IsPresent instance.now branch.now v → cluster_of (groups forest) v ≡ cluster_of (groups forest) root }
+    ensures closed { IfOk result (Closes instance.now branch.now target) }
+    ensures sets { IfOk result (HasSets instance.now.n) }
+{
+    let tree = thin(alloc, instance, &forest.chosen, root)?;
+    Ok(Leaf::Tree(
+        tree,
+        Packing {
+            root: Some(root),
+            cuts: Listed::of(forest.cuts),
+        },
+    ))
+}
+
+// A cut round a cluster that nothing joins to the root's.
+fn wall(
+    alloc: Global,
+    instance: &Instance,
+    branch: &Branch,
+    target: u64,
+    root: u32,
+    forest: Forest,
+    vertex: u32,
+) -> Result<Leaf, AllocError>
+    requires certain { (v : ℕ) → IsPresent instance.now branch.now v → IsTrue (is_certain instance.now branch.now v) }
+    requires instance { IsInstance instance.now }
+    requires grown { IsGrown instance.now branch.now root [] (groups forest) }
+    requires vertex { IsPresent instance.now branch.now vertex }
+    requires apart { cluster_of (groups forest) vertex ≢ cluster_of (groups forest) root }
+    ensures closed { IfOk result (Closes instance.now branch.now target) }
+    ensures sets { IfOk result (HasSets instance.now.n) }
+{
+    let name = forest.cluster[vertex as usize];
+    let set = ascending(alloc, &forest.members[name as usize])?;
+    let cuts = vec![in alloc;
+        Cut {
+            set: Listed::of(set),
+            q: name,
+            y: target
+        },
+    ]?;
+    Ok(Leaf::Wall(Packing {
+        root: Some(root),
+        cuts: Listed::of(cuts),
+    }))
+}
