@@ -1,4 +1,4 @@
-ghost use Rattle.std.specs.Prelude.{◌≡◌, ℕ, ◌+◌, ◌<◌, ◌≤◌, [], ◌∷◌, ◌++◌, IfOk, OnOk, IsTrue, IsSome, All, map, take, length, vec_len, slice_index_or, slice_set};
+ghost use Rattle.std.specs.Prelude.{◌≡◌, ℕ, List, ◌+◌, ◌<◌, ◌≤◌, [], ◌∷◌, ◌++◌, IfOk, OnOk, IsTrue, IsSome, All, map, take, length, vec_len, slice_index_or, slice_set};
 ghost use Rattle.st_model.specs.Network.{IsVertex, IsInstance, link};
 ghost use Rattle.st_model.specs.Lists.{has};
 ghost use Rattle.st_model.specs.Arborescence.{IsArborescence, Grows, reached};
@@ -50,7 +50,7 @@ fn all_arcs(
     ensures made { IfOk result (λ arcs. All (λ arc. IsTrue (has_pair links.now arc.0 arc.1)) arcs.items) }
     ensures settled { IfOk result (λ arcs. AreSettled links.now start arcs.items (length arcs.items)) }
 {
-    let mut growth = Growth::at(alloc, instance, links, start)?;
+    let mut growth = Growth::at(alloc, instance, start)?;
     growth.reach(instance, links, start, start, &lists[start as usize])?;
     let mut next = 0;
     while next < growth.arcs.len() {
@@ -70,14 +70,9 @@ struct Growth {
 
 impl Growth {
     /// The start alone.
-    fn at(
-        alloc: Global,
-        instance: &Instance,
-        links: &[(u32, u32)],
-        start: u32,
-    ) -> Result<Self, AllocError>
+    fn at(alloc: Global, instance: &Instance, start: u32) -> Result<Self, AllocError>
         requires { IsVertex instance.now.n start }
-        ensures growth { IfOk result (IsGrowth instance.now links.now start) }
+        ensures growth { IfOk result (λ growth. (pairs : List (ℕ × ℕ)) → IsGrowth instance.now pairs start growth) }
         ensures start { IfOk result (λ growth. growth.arcs.items ≡ []) }
     {
         let marked = marks_of(alloc, instance.vertices(), start)?;
