@@ -33,7 +33,7 @@ pub fn thin(
     })
 }
 
-/// Arcs from the start to every vertex that the links reach from there.
+// Arcs from the start to every vertex that the links reach from there.
 fn all_arcs(
     alloc: Global,
     instance: &Instance,
@@ -61,7 +61,7 @@ fn all_arcs(
     Ok(growth.arcs)
 }
 
-/// A tree that is being grown: its arcs so far, and for each vertex whether it is reached.
+// A tree that is being grown: its arcs so far, and for each vertex whether it is reached.
 #[derive(Drop)]
 struct Growth {
     arcs: Vec<(u32, u32)>,
@@ -69,7 +69,7 @@ struct Growth {
 }
 
 impl Growth {
-    /// The start alone.
+    // The start alone.
     fn at(alloc: Global, instance: &Instance, start: u32) -> Result<Self, AllocError>
         requires { IsVertex instance.now.n start }
         ensures growth { IfOk result (λ growth. (pairs : List (ℕ × ℕ)) → IsGrowth instance.now pairs start growth) }
@@ -82,7 +82,7 @@ impl Growth {
         })
     }
 
-    /// Reaches from a tail each of its neighbours that isn't reached yet.
+    // Reaches from a tail each of its neighbours that isn't reached yet.
     fn reach(
         &mut self,
         instance: &Instance,
@@ -110,7 +110,7 @@ impl Growth {
     }
 }
 
-/// Puts a vertex at the end of another one's list.
+// Puts a vertex at the end of another one's list.
 fn add_neighbour(lists: &mut Vec<Vec<u32>>, at: u32, other: u32) -> Result<(), AllocError>
     requires { at < vec_len lists.old }
     ensures length { vec_len lists.new ≡ vec_len lists.old }
@@ -120,7 +120,7 @@ fn add_neighbour(lists: &mut Vec<Vec<u32>>, at: u32, other: u32) -> Result<(), A
     Ok(())
 }
 
-/// For each vertex from 0 to `last` the other ends of the pairs that end there.
+// For each vertex from 0 to `last` the other ends of the pairs that end there.
 fn neighbours_of(
     alloc: Global,
     last: u32,
@@ -138,7 +138,7 @@ fn neighbours_of(
     Ok(lists)
 }
 
-/// An empty list for each vertex from 0 to `last`.
+// An empty list for each vertex from 0 to `last`.
 fn no_neighbours(alloc: Global, last: u32) -> Result<Vec<Vec<u32>>, AllocError>
     ensures length { IfOk result (λ lists. vec_len lists ≡ last + 1) }
     ensures empty { IfOk result (λ lists. (v : ℕ) → slice_index_or (map (λ list. list.items) lists.items) v [] ≡ []) }
