@@ -41,11 +41,11 @@ has-reached_from_ends I r (arc ∷ arcs) v g = has-reached_from_ends I (arc.1 �
     moved false true false d h = refl
     moved false false c d h = refl
 
--- the order of the two ends changes neither which they are
+-- the order of its ends does not change which vertices an arc touches
 touches-unordered : (v : ℕ) (arc : ℕ × ℕ) → touches v (unordered arc) ≡ touches v arc
 touches-unordered v arc = grind (arith, nat_tests)
 
--- nor whether an arc ends in v
+-- nor which vertices arcs touch together
 list_any-unordered : (v : ℕ) (arcs : List (ℕ × ℕ)) → list_any (touches v) (map unordered arcs) ≡ list_any (touches v) arcs
 list_any-unordered v [] = refl
 list_any-unordered v (arc ∷ arcs) = rw (touches-unordered v arc, list_any-unordered v arcs) refl

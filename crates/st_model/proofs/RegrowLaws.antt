@@ -49,7 +49,7 @@ tree-regrowth I t at tree there =
     subst (λ (old : List (ℕ × ℕ)). IsRegrowth I t.start old at (regrown at (reverse t.arcs))) back
     (IsRegrowth-regrown I t.start at (reverse t.arcs) (subst (Grows I (t.start ∷ [])) (sym back) tree.grows) (subst (λ (arcs : List (ℕ × ℕ)). IsTrue (reaches t.start arcs at)) (sym back) there))
 
--- they make a tree regrown there
+-- with the vertex as the start they are the tree regrown
 pub IsRegrown-regrown : (I : Network) (t : Tree) (at : ℕ) → IsInstance I → IsArborescence I t → IsTrue (has (reached t) at) → IsRegrown I t at (record { start = at; arcs = regrown at (reverse t.arcs) })
 IsRegrown-regrown I t at instance tree there =
     let regrowth = tree-regrowth I t at tree there in

@@ -41,7 +41,7 @@ pub record GrowsWith (I : Network) (r wider : List ℕ) (arcs : List (ℕ × ℕ
   pub grows : Grows I wider arcs
   pub reached : (v : ℕ) → has (reached_from wider arcs) v ≡ (vertex == v) || has (reached_from r arcs) v
 
--- so they do, and reach that vertex besides
+-- from there they reach that vertex besides
 pub Grows-wider : (I : Network) (r wider : List ℕ) (arcs : List (ℕ × ℕ)) (vertex : ℕ) → ((v : ℕ) → has wider v ≡ (vertex == v) || has r v) → Grows I r arcs → has (reached_from r arcs) vertex ≡ false → GrowsWith I r wider arcs vertex
 Grows-wider I r wider [] vertex same g absent = record { grows = tt; reached = same }
 Grows-wider I r wider (arc ∷ arcs) vertex same g absent =
@@ -143,7 +143,7 @@ has-reached_from_heads r (arc ∷ arcs) v = has-reached_from_heads (arc.1 ∷ r)
 pub reaches_start : (start : ℕ) (arcs : List (ℕ × ℕ)) (v : ℕ) → (start == v) ≡ true → (start == v) ≡ reaches start arcs v
 reaches_start start arcs v same = rw (has-reached_from_heads (start ∷ []) arcs v, same) refl
 
--- any other vertex is where it is a head
+-- any other vertex is reached where it is a head
 pub reaches_heads : (start : ℕ) (arcs : List (ℕ × ℕ)) (v : ℕ) → start ≢ v → list_any (λ arc. arc.1 == v) arcs ≡ reaches start arcs v
 reaches_heads start arcs v other = rw (has-reached_from_heads (start ∷ []) arcs v, neq-eqb start v other) refl
 
