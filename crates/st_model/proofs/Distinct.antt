@@ -15,6 +15,7 @@ use Rattle.st_model.specs.Arborescence.{Grows, arc_cost}
 abbrev cost_left : List ℕ → Link → ℕ
 cost_left r l = cond (has r l.a && has r l.b) 0 l.cost
 
+-- a wider test leaves no more
 fewer : (a b p q : Bool) (x : ℕ) → cond ((a || p) && (b || q)) 0 x ≤ cond (p && q) 0 x
 fewer true true true true x = omega arith
 fewer true true true false x = omega arith
@@ -36,6 +37,7 @@ cost_left-cons r v l = fewer (eqb v l.a) (eqb v l.b) (has r l.a) (has r l.b) l.c
 pub between-ends : (pair : ℕ × ℕ) (u v : ℕ) → is_between pair u v ≡ true → ((pair.0 ≡ u) × (pair.1 ≡ v)) ⊎ ((pair.0 ≡ v) × (pair.1 ≡ u))
 between-ends pair u v h = grind (arith, nat_tests)
 
+-- the same of a link
 pub joins-ends : (l : Link) (u v : ℕ) → joins l u v ≡ true → ((l.a ≡ u) × (l.b ≡ v)) ⊎ ((l.a ≡ v) × (l.b ≡ u))
 joins-ends l u v h = between-ends (l.a, l.b) u v h
 
@@ -43,6 +45,7 @@ joins-ends l u v h = between-ends (l.a, l.b) u v h
 pub has-cons_head : (r : List ℕ) (v a : ℕ) → a ≡ v → has (v ∷ r) a ≡ true
 has-cons_head r v a e = rw (e, eq-eqb v v refl) refl
 
+-- what was reached still is
 pub has-cons_tail : (r : List ℕ) (v a : ℕ) → has r a ≡ true → has (v ∷ r) a ≡ true
 has-cons_tail r v a h = rw h (or-true (eqb v a))
   where
@@ -50,6 +53,7 @@ has-cons_tail r v a h = rw h (or-true (eqb v a))
     or-true true = refl
     or-true false = refl
 
+-- all of x is taken out where the test turns true
 taken : (p q a b : Bool) (x : ℕ) → (p && q) ≡ false → a ≡ true → b ≡ true → x + cond (a && b) 0 x ≤ cond (p && q) 0 x
 taken p q a b x one after_a after_b = rw (one, after_a, after_b) (omega arith)
 
@@ -71,6 +75,7 @@ total-cost_left : (ls : List Link) (r : List ℕ) (v : ℕ) → total (cost_left
 total-cost_left [] r v = omega arith
 total-cost_left (l ∷ ls) r v = let here = cost_left-cons r v l in let rest = total-cost_left ls r v in omega arith
 
+-- the link that a new arc uses is taken out of what is left
 total-cost_left_link : (ls : List Link) (r : List ℕ) (u v : ℕ) → has r u ≡ true → has r v ≡ false → unwrap_or (link ls u v) 0 + total (cost_left (v ∷ r)) ls ≤ total (cost_left r) ls
 total-cost_left_link [] r u v old new = omega arith
 total-cost_left_link (l ∷ ls) r u v old new = by_test (joins l u v) refl (total-cost_left_link ls r u v old new)
@@ -87,6 +92,7 @@ total-arc_cost_left I r (arc ∷ arcs) g =
     let rest = total-arc_cost_left I (arc.1 ∷ r) arcs g.3 in
     omega arith
 
+-- no more is left than all links cost
 total-cost_left_all : (ls : List Link) (r : List ℕ) → total (cost_left r) ls ≤ total (λ l. l.cost) ls
 total-cost_left_all [] r = omega arith
 total-cost_left_all (l ∷ ls) r = let rest = total-cost_left_all ls r in let here = at_most (has r l.a && has r l.b) l.cost in omega arith
@@ -108,9 +114,11 @@ link-comm (l ∷ ls) u v = rw (or_comm ((l.a == u) && (l.b == v)) ((l.a == v) &&
 abbrev link_of : Network → ℕ × ℕ → Link
 link_of I pair = record { a = pair.0; b = pair.1; cost = arc_cost I pair }
 
+-- the network of these links alone
 abbrev given : Network → List (ℕ × ℕ) → Network
 given I pairs = record { n = I.n; links = map (link_of I) pairs; needs = I.needs }
 
+-- there the link of a pair costs what it costs in the network
 link-given : (I : Network) (pairs : List (ℕ × ℕ)) (u v : ℕ) → has_pair pairs u v ≡ true → link (map (link_of I) pairs) u v ≡ Some (arc_cost I (u, v))
 link-given I [] u v h = cc
 link-given I (pair ∷ pairs) u v h = by_test (is_between pair u v) refl h (link-given I pairs u v)
@@ -125,6 +133,7 @@ link-given I (pair ∷ pairs) u v h = by_test (is_between pair u v) refl h (link
     by_test true is h rest = ap Some (same_cost is)
     by_test false is h rest = rest h
 
+-- arcs made of the pairs grow there too, at the same cost
 total-arc_cost_given : (I : Network) (pairs : List (ℕ × ℕ)) (r : List ℕ) (arcs : List (ℕ × ℕ)) → Grows I r arcs → AllByRecursion (λ arc. IsTrue (has_pair pairs arc.0 arc.1)) arcs → Grows (given I pairs) r arcs × (total (arc_cost (given I pairs)) arcs ≡ total (arc_cost I) arcs)
 total-arc_cost_given I pairs r [] g made = (tt, refl)
 total-arc_cost_given I pairs r (arc ∷ arcs) g made =
@@ -132,6 +141,7 @@ total-arc_cost_given I pairs r (arc ∷ arcs) g made =
     let rest = total-arc_cost_given I pairs (arc.1 ∷ r) arcs g.3 made.1 in
     (((rw here refl), g.1, g.2, rest.0), rw (here, rest.1) refl)
 
+-- and the links cost what the pairs do
 total-given_links : (I : Network) (pairs : List (ℕ × ℕ)) → total (λ l. l.cost) (map (link_of I) pairs) ≡ total (arc_cost I) pairs
 total-given_links I [] = refl
 total-given_links I (pair ∷ pairs) = ap (λ x. arc_cost I pair + x) (total-given_links I pairs)

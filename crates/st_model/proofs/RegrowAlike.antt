@@ -41,13 +41,16 @@ has-reached_from_ends I r (arc ∷ arcs) v g = has-reached_from_ends I (arc.1 �
     moved false true false d h = refl
     moved false false c d h = refl
 
+-- the order of its ends does not change which vertices an arc touches
 touches-unordered : (v : ℕ) (arc : ℕ × ℕ) → touches v (unordered arc) ≡ touches v arc
 touches-unordered v arc = grind (arith, nat_tests)
 
+-- nor which vertices arcs touch together
 list_any-unordered : (v : ℕ) (arcs : List (ℕ × ℕ)) → list_any (touches v) (map unordered arcs) ≡ list_any (touches v) arcs
 list_any-unordered v [] = refl
 list_any-unordered v (arc ∷ arcs) = rw (touches-unordered v arc, list_any-unordered v arcs) refl
 
+-- the same links have the same ends
 same_ends : (v : ℕ) (xs ys : List (ℕ × ℕ)) → IsPermutation (map unordered xs) (map unordered ys) → list_any (touches v) xs ≡ list_any (touches v) ys
 same_ends v xs ys h = sym (list_any-unordered v xs) ∙ (list_any-IsPermutation (touches v) (map unordered xs) (map unordered ys) h ∙ list_any-unordered v ys)
 
@@ -79,6 +82,7 @@ alike ends old new v (inr start) there = absorbed new new_too ∙ sym (absorbed 
       | inr e ↦ rw e.0 refl
     ]
 
+-- the same links reach the same, from a start that is reached
 same_reached : (I : Network) (t new : Tree) → IsArborescence I t → IsArborescence I new → IsTrue (has (reached t) new.start) → IsPermutation (map unordered new.arcs) (map unordered t.arcs) → (v : ℕ) → has (reached new) v ≡ has (reached t) v
 same_reached I t new tree new_tree there links v =
     let ends : ℕ → Bool = λ x. list_any (touches x) t.arcs in
@@ -86,6 +90,7 @@ same_reached I t new tree new_tree there links v =
     let of_new : has (reached new) v ≡ (((new.start == v) || false) || ends v) = has-reached_from_ends I (new.start ∷ []) new.arcs v new_tree.grows ∙ ap (λ b. ((new.start == v) || false) || b) (same_ends v new.arcs t.arcs links) in
     of_new ∙ (alike ends t.start new.start v (start-ends I t.start t.arcs tree.grows) (sym (of_old new.start) ∙ there) ∙ sym (of_old v))
 
+-- a link costs the same in either direction
 arc_cost-unordered : (I : Network) (arc : ℕ × ℕ) → arc_cost I (unordered arc) ≡ arc_cost I arc
 arc_cost-unordered I arc = elim (cases_lt arc.0 arc.1) [
   | inl below ↦
@@ -98,16 +103,20 @@ arc_cost-unordered I arc = elim (cases_lt arc.0 arc.1) [
       rw (low, high) (ap (λ o. unwrap_or o 0) (link-comm I.links arc.1 arc.0))
 ]
 
+-- and so do all of them
 total-unordered : (I : Network) (arcs : List (ℕ × ℕ)) → total (arc_cost I) (map unordered arcs) ≡ total (arc_cost I) arcs
 total-unordered I [] = refl
 total-unordered I (arc ∷ arcs) = rw (arc_cost-unordered I arc, total-unordered I arcs) refl
 
+-- a sum in another order
 pub total-IsPermutation : {X : Type 0} (f : X → ℕ) (xs ys : List X) → IsPermutation xs ys → total f xs ≡ total f ys
 total-IsPermutation f xs ys h = is_sum_by (total f) f refl (λ _ _. refl) xs ∙ (sym (sum_by-IsPermutation f xs ys h) ∙ sym (is_sum_by (total f) f refl (λ _ _. refl) ys))
 
+-- the same links cost the same
 same_links : (I : Network) (xs ys : List (ℕ × ℕ)) → IsPermutation (map unordered xs) (map unordered ys) → total (arc_cost I) xs ≡ total (arc_cost I) ys
 same_links I xs ys h = sym (total-unordered I xs) ∙ (total-IsPermutation (arc_cost I) (map unordered xs) (map unordered ys) h ∙ total-unordered I ys)
 
+-- what is regrown reaches the same at the same cost
 pub regrown_is_alike : RegrownIsAlike
 regrown_is_alike I t at new tree there regrown =
     let reached_same = same_reached I t new tree regrown.arborescence (ap (has (reached t)) regrown.start ∙ there) regrown.links in

@@ -24,6 +24,7 @@ reached-vertex I r (arc ∷ arcs) v instance vertices g h = reached-vertex I (ar
       | inr e ↦ vertices w (rw e.0 at there)
     ]
 
+-- the same of a tree with its start
 pub tree-vertex : (I : Network) (t : Tree) (v : ℕ) → IsInstance I → IsArborescence I t → IsTrue (has (reached t) v) → IsVertex I.n v
 tree-vertex I t v instance tree h = reached-vertex I (t.start ∷ []) t.arcs v instance start tree.grows h
   where
@@ -33,6 +34,7 @@ tree-vertex I t v instance tree h = reached-vertex I (t.start ∷ []) t.arcs v i
       | inr e ↦ let none : (false || false) ≡ true = rw e.0 at there in cc
     ]
 
+-- a number above all vertices is not reached
 pub not_reached_above : (I : Network) (t : Tree) (v : ℕ) → IsInstance I → IsArborescence I t → I.n < v → IsFalse (has (reached t) v)
 not_reached_above I t v instance tree above = by_test (has (reached t) v) refl
   where
@@ -47,6 +49,7 @@ tree-regrowth I t at tree there =
     subst (λ (old : List (ℕ × ℕ)). IsRegrowth I t.start old at (regrown at (reverse t.arcs))) back
     (IsRegrowth-regrown I t.start at (reverse t.arcs) (subst (Grows I (t.start ∷ [])) (sym back) tree.grows) (subst (λ (arcs : List (ℕ × ℕ)). IsTrue (reaches t.start arcs at)) (sym back) there))
 
+-- with the vertex as the start they are the tree regrown
 pub IsRegrown-regrown : (I : Network) (t : Tree) (at : ℕ) → IsInstance I → IsArborescence I t → IsTrue (has (reached t) at) → IsRegrown I t at (record { start = at; arcs = regrown at (reverse t.arcs) })
 IsRegrown-regrown I t at instance tree there =
     let regrowth = tree-regrowth I t at tree there in
@@ -56,6 +59,7 @@ IsRegrown-regrown I t at instance tree there =
       links = regrowth.links;
     }
 
+-- so each tree can be regrown
 pub each_tree_regrows : EachTreeRegrows
 each_tree_regrows I t at instance tree there = (record { start = at; arcs = regrown at (reverse t.arcs) }, IsRegrown-regrown I t at instance tree there)
 

@@ -1,6 +1,6 @@
 -- Arcs that are regrown at a vertex which they reach have the same links and reach the same.
 use Rattle.std.proofs.Common.{◌≡◌, ◌≢◌, ℕ, ◌+◌, Bool, true, false, cond, ◌||◌, inl, inr, List, [], ◌∷◌, ◌++◌, map, reverse, refl, sym, ap, ◌∙◌, subst, eq-eqb, ◌<◌, length, get_or, drop, append_assoc}
-use Rattle.std.specs.Prelude.{◌==◌, IsTrue, IsFalse, IsSome}
+use Rattle.std.specs.Prelude.{◌==◌, IsTrue}
 use Rattle.std.specs.List.{list_any}
 use Rattle.std.specs.List.Sorted.{IsPermutation}
 use Rattle.std.proofs.lemmas.Bool.Decides.{eqb_tells}
@@ -9,7 +9,7 @@ use Rattle.std.proofs.Math.Nat.{min_comm, max_comm}
 use Rattle.std.proofs.lemmas.Bool.{eqb-true}
 use Rattle.std.proofs.lemmas.List.{map-append, reverse-append, drop_more}
 use Rattle.st_model.specs.Lists.{has}
-use Rattle.st_model.specs.Network.{Network, link}
+use Rattle.st_model.specs.Network.{Network}
 use Rattle.st_model.specs.Arborescence.{reached_from, Grows}
 use Rattle.st_model.specs.Marks.{IsNewArc}
 use Rattle.st_model.specs.Growth.{reaches}
@@ -29,6 +29,7 @@ pub record EndsIn (I : Network) (r : List ℕ) (arcs : List (ℕ × ℕ)) (arc :
   pub grows : Grows I r arcs
   pub last : IsNewArc I (reached_from r arcs) arc
 
+-- arcs that grow end in an arc to a new vertex
 pub Grows-last : (I : Network) (r : List ℕ) (arcs : List (ℕ × ℕ)) (arc : ℕ × ℕ) → Grows I r (arcs ++ arc ∷ []) → EndsIn I r arcs arc
 Grows-last I r [] arc g = record { grows = tt; last = record { linked = g.0; from = g.1; to = g.2 } }
 Grows-last I r (first ∷ arcs) arc g =
@@ -40,6 +41,7 @@ pub record GrowsWith (I : Network) (r wider : List ℕ) (arcs : List (ℕ × ℕ
   pub grows : Grows I wider arcs
   pub reached : (v : ℕ) → has (reached_from wider arcs) v ≡ (vertex == v) || has (reached_from r arcs) v
 
+-- from there they reach that vertex besides
 pub Grows-wider : (I : Network) (r wider : List ℕ) (arcs : List (ℕ × ℕ)) (vertex : ℕ) → ((v : ℕ) → has wider v ≡ (vertex == v) || has r v) → Grows I r arcs → has (reached_from r arcs) vertex ≡ false → GrowsWith I r wider arcs vertex
 Grows-wider I r wider [] vertex same g absent = record { grows = tt; reached = same }
 Grows-wider I r wider (arc ∷ arcs) vertex same g absent =
@@ -119,6 +121,7 @@ IsRegrowth-regrown I start at (arc ∷ back) g there =
     by_test true is end h turned kept = subst (λ (v : ℕ). IsRegrowth I start (reverse back ++ arc ∷ []) v ((arc.1, arc.0) ∷ regrown arc.0 back)) (eqb-true arc.1 at is) (IsRegrowth-turned I start (reverse back) arc (regrown arc.0 back) end turned)
     by_test false is end h turned kept = IsRegrowth-kept I start (reverse back) arc at (regrown at back) end (kept h)
 
+-- the test of different numbers
 neq-eqb : (a b : ℕ) → a ≢ b → (a == b) ≡ false
 neq-eqb a b other = elim (eqb_tells a b) [ inl e ↦ absurd (other e.1) | inr e ↦ e.0 ]
 
@@ -136,9 +139,11 @@ has-reached_from_heads r (arc ∷ arcs) v = has-reached_from_heads (arc.1 ∷ r)
     moved true false c = refl
     moved false b c = refl
 
+-- the start is reached
 pub reaches_start : (start : ℕ) (arcs : List (ℕ × ℕ)) (v : ℕ) → (start == v) ≡ true → (start == v) ≡ reaches start arcs v
 reaches_start start arcs v same = rw (has-reached_from_heads (start ∷ []) arcs v, same) refl
 
+-- any other vertex is reached where it is a head
 pub reaches_heads : (start : ℕ) (arcs : List (ℕ × ℕ)) (v : ℕ) → start ≢ v → list_any (λ arc. arc.1 == v) arcs ≡ reaches start arcs v
 reaches_heads start arcs v other = rw (has-reached_from_heads (start ∷ []) arcs v, neq-eqb start v other) refl
 
@@ -151,6 +156,7 @@ regrown-turn xs i next arc turned turned' kept all current at next_is here turne
     let same : (turned ++ (arc.1, arc.0) ∷ []) ++ regrown arc.0 rest ≡ turned ++ regrown current (drop i xs) = append_assoc turned ((arc.1, arc.0) ∷ []) (regrown arc.0 rest) ∙ ap (λ l. turned ++ l) (sym step) in
     rw (next_is, turned_are) (ap (λ l. l ++ kept) same ∙ before)
 
+-- an arc that leads elsewhere is kept
 pub regrown-keep : (xs : List (ℕ × ℕ)) (i next : ℕ) (arc : ℕ × ℕ) (turned kept kept' all : List (ℕ × ℕ)) (current : ℕ) → (i < length xs) × (arc ≡ get_or xs i arc) → next ≡ i + 1 → arc.1 ≢ current → kept' ≡ kept ++ arc ∷ [] → (turned ++ regrown current (drop i xs)) ++ reverse kept ≡ all → (turned ++ regrown current (drop next xs)) ++ reverse kept' ≡ all
 regrown-keep xs i next arc turned kept kept' all current at next_is other kept_are before =
     let rest = drop (i + 1) xs in

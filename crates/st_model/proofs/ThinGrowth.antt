@@ -158,6 +158,7 @@ HasReached-push I pairs start first heads i tail old new mark reached instance l
       extends = rw (arcs, take-append-le (length first) old.arcs.items ((tail, head) ∷ []) short) reached.extends;
     }
 
+-- the head was reached before
 pub HasReached-same : (I : Network) (pairs : List (ℕ × ℕ)) (start : ℕ) (first : List (ℕ × ℕ)) (heads : List ℕ) (i tail : ℕ) (old : Growth) (mark : Bool) → HasReached I pairs start first (take i heads) old → IsInstance I → All (λ pair. IsSome (link I.links pair.0 pair.1)) pairs → heads ≡ neighbours pairs tail → i < length heads → mark ≡ get_or old.marked.items (get_or heads i 0) mark → mark ≡ true → HasReached I pairs start first (take (i + 1) heads) old
 HasReached-same I pairs start first heads i tail old mark reached instance links are in_range read marked =
     let head = get_or heads i 0 in

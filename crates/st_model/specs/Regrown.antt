@@ -1,6 +1,8 @@
 -- The same tree, grown from another of the vertices that it reaches.
-use Rattle.std.specs.Prelude.{ℕ, ◌==◌, ◌≡◌, IsTrue, map, min, max, if◌then◌else◌, List, [], ◌∷◌, ◌++◌}
+use Rattle.std.specs.Prelude.{ℕ, codes, ◌==◌, ◌≡◌, IsTrue, map, min, max, if◌then◌else◌, List, [], ◌∷◌, ◌++◌}
 use Rattle.std.specs.List.Sorted.{IsPermutation}
+use Rattle.st_model.specs.declared.regrowing.RegrowError.{RegrowError}
+use Rattle.st_model.specs.declared.regrowing.RegrowError.TheVariants.{NotReached, NoMemory}
 use Rattle.st_model.specs.declared.tree.Tree.{Tree}
 use Rattle.st_model.specs.Lists.{has}
 use Rattle.st_model.specs.Network.{Network, IsInstance}
@@ -29,3 +31,8 @@ RegrownIsAlike = (I : Network) (t : Tree) (at : ℕ) (new : Tree) → IsArboresc
 abbrev pub regrown : ℕ → List (ℕ × ℕ) → List (ℕ × ℕ)
 regrown at [] = []
 regrown at (arc ∷ before) = if arc.1 == at then (arc.1, arc.0) ∷ regrown arc.0 before else regrown at before ++ arc ∷ []
+
+-- what an error says
+abbrev pub message_of : RegrowError → List ℕ
+message_of NotReached = codes "the tree doesn't reach the vertex"
+message_of NoMemory = codes "out of memory"

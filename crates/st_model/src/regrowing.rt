@@ -1,4 +1,4 @@
-ghost use Rattle.std.specs.Prelude.{◌≡◌, ℕ, ◌==◌, ◌↔◌, IfOk, IsErrOf, IsTrue, IsFalse, map, reverse};
+ghost use Rattle.std.specs.Prelude.{◌≡◌, ℕ, ◌==◌, ◌↔◌, IfOk, IsErrOf, IsTrue, Some, IsFalse, map, reverse};
 ghost use Rattle.std.specs.List.{list_any};
 ghost use Rattle.std.specs.List.Sorted.{IsPermutation};
 ghost use Rattle.st_model.specs.declared.regrowing.RegrowError.TheVariants.{NoMemory};
@@ -19,6 +19,10 @@ pub enum RegrowError {
 }
 
 impl fmt::Display for RegrowError {
+    ghost use Rattle.st_model.specs.Regrown.{message_of};
+
+    ghost output = { λ e. Some (message_of e) };
+
     fn fmt<W: fmt::Write>(&self, f: &mut fmt::Formatter<W>) -> fmt::Result {
         f.write_str(match self {
             RegrowError::NotReached => "the tree doesn't reach the vertex",

@@ -1,4 +1,4 @@
-ghost use Rattle.std.specs.Prelude.{◌≡◌, ℕ, ◌+◌, ◌<◌, ◌≤◌, [], ◌∷◌, ◌++◌, IfOk, OnOk, IsTrue, IsSome, All, map, take, length, vec_len, slice_index_or, slice_set};
+ghost use Rattle.std.specs.Prelude.{◌≡◌, ℕ, List, ◌+◌, ◌<◌, ◌≤◌, [], ◌∷◌, ◌++◌, IfOk, OnOk, IsTrue, IsSome, All, map, take, length, vec_len, slice_index_or, slice_set};
 ghost use Rattle.st_model.specs.Network.{IsVertex, IsInstance, link};
 ghost use Rattle.st_model.specs.Lists.{has};
 ghost use Rattle.st_model.specs.Arborescence.{IsArborescence, Grows, reached};
@@ -33,7 +33,7 @@ pub fn thin(
     })
 }
 
-/// Arcs from the start to every vertex that the links reach from there.
+// Arcs from the start to every vertex that the links reach from there.
 fn all_arcs(
     alloc: Global,
     instance: &Instance,
@@ -50,7 +50,7 @@ fn all_arcs(
     ensures made { IfOk result (λ arcs. All (λ arc. IsTrue (has_pair links.now arc.0 arc.1)) arcs.items) }
     ensures settled { IfOk result (λ arcs. AreSettled links.now start arcs.items (length arcs.items)) }
 {
-    let mut growth = Growth::at(alloc, instance, links, start)?;
+    let mut growth = Growth::at(alloc, instance, start)?;
     growth.reach(instance, links, start, start, &lists[start as usize])?;
     let mut next = 0;
     while next < growth.arcs.len() {
@@ -61,7 +61,7 @@ fn all_arcs(
     Ok(growth.arcs)
 }
 
-/// A tree that is being grown: its arcs so far, and for each vertex whether it is reached.
+// A tree that is being grown: its arcs so far, and for each vertex whether it is reached.
 #[derive(Drop)]
 struct Growth {
     arcs: Vec<(u32, u32)>,
@@ -69,15 +69,10 @@ struct Growth {
 }
 
 impl Growth {
-    /// The start alone.
-    fn at(
-        alloc: Global,
-        instance: &Instance,
-        links: &[(u32, u32)],
-        start: u32,
-    ) -> Result<Self, AllocError>
+    // The start alone.
+    fn at(alloc: Global, instance: &Instance, start: u32) -> Result<Self, AllocError>
         requires { IsVertex instance.now.n start }
-        ensures growth { IfOk result (IsGrowth instance.now links.now start) }
+        ensures growth { IfOk result (λ growth. (pairs : List (ℕ × ℕ)) → IsGrowth instance.now pairs start growth) }
         ensures start { IfOk result (λ growth. growth.arcs.items ≡ []) }
     {
         let marked = marks_of(alloc, instance.vertices(), start)?;
@@ -87,7 +82,7 @@ impl Growth {
         })
     }
 
-    /// Reaches from a tail each of its neighbours that isn't reached yet.
+    // Reaches from a tail each of its neighbours that isn't reached yet.
     fn reach(
         &mut self,
         instance: &Instance,
@@ -115,7 +110,7 @@ impl Growth {
     }
 }
 
-/// Puts a vertex at the end of another one's list.
+// Puts a vertex at the end of another one's list.
 fn add_neighbour(lists: &mut Vec<Vec<u32>>, at: u32, other: u32) -> Result<(), AllocError>
     requires { at < vec_len lists.old }
     ensures length { vec_len lists.new ≡ vec_len lists.old }
@@ -125,7 +120,7 @@ fn add_neighbour(lists: &mut Vec<Vec<u32>>, at: u32, other: u32) -> Result<(), A
     Ok(())
 }
 
-/// For each vertex from 0 to `last` the other ends of the pairs that end there.
+// For each vertex from 0 to `last` the other ends of the pairs that end there.
 fn neighbours_of(
     alloc: Global,
     last: u32,
@@ -143,7 +138,7 @@ fn neighbours_of(
     Ok(lists)
 }
 
-/// An empty list for each vertex from 0 to `last`.
+// An empty list for each vertex from 0 to `last`.
 fn no_neighbours(alloc: Global, last: u32) -> Result<Vec<Vec<u32>>, AllocError>
     ensures length { IfOk result (λ lists. vec_len lists ≡ last + 1) }
     ensures empty { IfOk result (λ lists. (v : ℕ) → slice_index_or (map (λ list. list.items) lists.items) v [] ≡ []) }

@@ -4,6 +4,9 @@ use Rattle.st_model.proofs.ThinGrowth.{made-vertex, length-take_extends}
 use Rattle.st_model.proofs.ThinSettled.{reaches-head, AreSettled-start, AreSettled-more}
 use Rattle.st_model.proofs.thinning.all_arcs.Goals as goal
 
+pub reach-requires-clause-growth : goal.reach-requires-clause-growth
+reach-requires-clause-growth c = c.in_ok-growth.ensures.growth c.args.links.now
+
 pub loop-next-init : goal.loop-next-init
 loop-next-init c = (
   c.in_ok-reach.ensures.growth,

@@ -4,6 +4,6 @@ use Rattle.st_model.proofs.ThinGrowth.{IsGrowth-start}
 use Rattle.st_model.proofs.thinning.Growth.at.Goals as goal
 
 pub returns-clause-growth : goal.returns-clause-growth
-returns-clause-growth c =
-    IsGrowth-start c.args.instance.now c.args.links.now c.args.start (record { arcs = c.new.result; marked = c.in_ok-marked.marked }) c.requires.1 c.new.ensures.items
+returns-clause-growth c pairs =
+    IsGrowth-start c.args.instance.now pairs c.args.start (record { arcs = c.new.result; marked = c.in_ok-marked.marked }) c.requires.1 c.new.ensures.items
     (subst (λ n. AreMarks n c.in_ok-marked.marked.items (c.args.start ∷ [])) c.vertices.ensures.count c.in_ok-marked.ensures)
