@@ -1,9 +1,8 @@
 -- What a file says makes an instance, and the one that it stands for.
-use Rattle.std.proofs.Common.{◌≡◌, ℕ, ◌+◌, ◌*◌, ◌^◌, ◌<◌, ◌≤◌, List, [], ◌∷◌, length, map, All, Option, Some, None, refl, sym, ap, ◌∙◌, arith}
+use Rattle.std.proofs.Common.{◌≡◌, ℕ, ◌+◌, ◌*◌, ◌^◌, ◌<◌, ◌≤◌, List, [], ◌∷◌, length, All, Some, refl, ap, ◌∙◌, arith}
 use Rattle.std.specs.List.{AllByRecursion}
-use Rattle.std.proofs.lemmas.List.Elements.{All-from_recursion, recursion_from_All, All-weaker, All-map}
+use Rattle.std.proofs.lemmas.List.Elements.{recursion_from_All, All-weaker, All-map}
 use Rattle.st_model.specs.declared.link.Link.{Link}
-use Rattle.st_model.specs.declared.need.Need.{Need}
 use Rattle.st_model.specs.declared.need.Need.TheVariants.{Required}
 use Rattle.st_model.specs.Lists.{total}
 use Rattle.st_model.specs.Network.{Network, IsVertex, prize}

@@ -1,5 +1,5 @@
 -- Where a byte first stands, and what is cut there.
-use Rattle.std.proofs.Common.{◌≡◌, ℕ, zero, suc, ◌+◌, Bool, true, false, cond, eqb, List, [], ◌∷◌, take, drop, Option, Some, None, option_map, refl, sym, ap, ◌∙◌, arith}
+use Rattle.std.proofs.Common.{◌≡◌, ℕ, suc, Bool, true, false, cond, List, [], ◌∷◌, take, drop, Option, Some, None, option_map, refl, arith}
 use Rattle.std.specs.Prelude.{◌==◌, position}
 use Rattle.std.proofs.lemmas.Bool.Decides.{nat_tests}
 use Rattle.stp_reader.specs.Reading.{cut}

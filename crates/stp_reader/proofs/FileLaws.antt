@@ -1,5 +1,5 @@
 -- A section, and the whole file, is read just where it is spelled so.
-use Rattle.std.proofs.Common.{◌≡◌, ℕ, zero, suc, ◌^◌, ◌<◌, ◌≤◌, cond, eqb, List, [], ◌∷◌, ◌++◌, length, map, All, Option, Some, None, refl, sym, ap, subst, ◌∙◌, append_assoc, arith}
+use Rattle.std.proofs.Common.{◌≡◌, ℕ, ◌^◌, ◌<◌, ◌≤◌, eqb, List, [], ◌∷◌, ◌++◌, length, map, Option, Some, refl, sym, ap, subst, ◌∙◌, append_assoc, arith}
 use Rattle.std.specs.Prelude.{codes}
 use Rattle.std.specs.List.{flat_map, AllByRecursion}
 use Rattle.std.proofs.lemmas.Bool.{eqb-true}
@@ -12,7 +12,7 @@ use Rattle.st_model.specs.declared.need.Need.{Need}
 use Rattle.st_model.specs.declared.need.Need.TheVariants.{Required}
 use Rattle.st_model.specs.Network.{IsVertex}
 use Rattle.stp_reader.specs.Spelling.{Plain, IsInRange, IsPlainLink, ended, count_line, link_line, terminal_line, header, graph_lines, terminals_lines, text}
-use Rattle.stp_reader.specs.Reading.{◌>>=◌, judged, expected, items, count_of, link_of, need_of, graph_at, needs_at, Parts, parts_of}
+use Rattle.stp_reader.specs.Reading.{judged, expected, items, count_of, link_of, need_of, graph_at, needs_at, Parts, parts_of}
 use Rattle.stp_reader.proofs.Whole.{step_some, guard_some, Judges, judged_takes, judged_again, expected_takes, expected_again}
 use Rattle.stp_reader.proofs.LineLaws.{count_judges, link_judges, IsRequired, need_judges, written, items_take, items_again}
 

@@ -9,7 +9,7 @@ use Rattle.st_model.specs.declared.need.Need.{Need}
 use Rattle.st_model.specs.declared.need.Need.TheVariants.{Required}
 use Rattle.st_model.specs.Network.{IsVertex}
 use Rattle.stp_reader.specs.Spelling.{IsPlainLink, ended, count_line, link_line, terminal_line}
-use Rattle.stp_reader.specs.Reading.{◌>>=◌, cut, judged, items, number, count_of, link_of, need_of}
+use Rattle.stp_reader.specs.Reading.{cut, judged, items, number, count_of, link_of, need_of}
 use Rattle.stp_reader.proofs.Whole.{step_some, guard_some, only_if, same_bytes, bytes_are, lacks, lacks-append, cut_takes, cut_again, Judges, judged_takes, judged_again}
 use Rattle.stp_reader.proofs.Numerals.{decimal_lacks, number_judges}
 

@@ -1,9 +1,8 @@
 -- What a plain file says, and the one way in which it is spelled.
-use Rattle.std.specs.Prelude.{◌≡◌, ℕ, ◌≤◌, List, [], ◌∷◌, ◌++◌, length, map, All, codes}
+use Rattle.std.specs.Prelude.{ℕ, ◌≤◌, List, [], ◌∷◌, ◌++◌, length, map, All, codes}
 use Rattle.std.specs.List.{flat_map}
 use Rattle.std.specs.Fmt.{decimal}
 use Rattle.st_model.specs.declared.link.Link.{Link}
-use Rattle.st_model.specs.declared.need.Need.{Need}
 use Rattle.st_model.specs.declared.need.Need.TheVariants.{Required}
 use Rattle.st_model.specs.Network.{Network, IsVertex}
 use Rattle.st_model.specs.Stated.{network_of}
