@@ -37,9 +37,9 @@ from_buildable : (p : Plain) → IsInRange p → IsBuildable (parts_from p)
 from_buildable p fits = record {
   some_vertex = fits.some_vertex;
   few_vertices = fits.few_vertices;
-  ends = All-weaker (IsPlainLink p.n) (λ l. IsVertex p.n l.a × IsVertex p.n l.b) (λ l h. (h.first, h.second)) p.links fits.joined;
-  stated = All-map (λ e. IsVertex p.n e.0) (λ v. (v, Required)) p.terminals fits.reached;
-  amount = omega (arith, cost_bound p.n p.links (recursion_from_All (IsPlainLink p.n) p.links fits.joined), no_prizes p.terminals, fits.few_links);
+  ends = All-weaker (IsPlainLink p.n) (λ l. IsVertex p.n l.a × IsVertex p.n l.b) (λ l h. (h.first, h.second)) p.links fits.links;
+  stated = All-map (λ e. IsVertex p.n e.0) (λ v. (v, Required)) p.terminals fits.terminals;
+  amount = omega (arith, cost_bound p.n p.links (recursion_from_All (IsPlainLink p.n) p.links fits.links), no_prizes p.terminals, fits.few_links);
 }
 
 -- what was read makes an instance

@@ -46,10 +46,10 @@ parts_take bytes x e =
       some_vertex = b.0.some_vertex;
       few_vertices = b.0.few_vertices;
       few_links = b.0.few_links;
-      joined = All-from_recursion (IsPlainLink graph.0.0) graph.0.1 b.0.joined;
+      links = All-from_recursion (IsPlainLink graph.0.0) graph.0.1 b.0.joined;
       some_terminal = c.1.some_terminal;
       few_terminals = c.1.few_terminals;
-      reached = All-from_recursion (IsVertex graph.0.0) c.0 c.1.reached;
+      terminals = All-from_recursion (IsVertex graph.0.0) c.0 c.1.reached;
     } in
     let spelled : bytes ≡ text p = joined_parts bytes start.0 graph.0.2 needs.0.1 end.0 header (graph_lines p.n p.links) (terminals_lines p.terminals) (codes "EOF") a b.1 c.3 z nothing in
     let same : x ≡ parts_from p = sym g.1 ∙ ap (λ (needs : List (ℕ × Need)). let r : Parts = record { n = graph.0.0; links = graph.0.1; needs = needs } in r) (sym c.2) in
@@ -72,8 +72,8 @@ parts_again p fits =
     let z : List ℕ = ended (codes "EOF") ++ [] in
     let needs : List ℕ = flat_map ended (terminals_lines p.terminals) ++ z in
     let graph : List ℕ = flat_map ended (graph_lines p.n p.links) ++ needs in
-    let is_graph : IsGraph p.n p.links = record { some_vertex = fits.some_vertex; few_vertices = fits.few_vertices; few_links = fits.few_links; joined = recursion_from_All (IsPlainLink p.n) p.links fits.joined } in
-    let are : AreTerminals p.n p.terminals = record { some_terminal = fits.some_terminal; few_terminals = fits.few_terminals; reached = recursion_from_All (IsVertex p.n) p.terminals fits.reached } in
+    let is_graph : IsGraph p.n p.links = record { some_vertex = fits.some_vertex; few_vertices = fits.few_vertices; few_links = fits.few_links; joined = recursion_from_All (IsPlainLink p.n) p.links fits.links } in
+    let are : AreTerminals p.n p.terminals = record { some_terminal = fits.some_terminal; few_terminals = fits.few_terminals; reached = recursion_from_All (IsVertex p.n) p.terminals fits.terminals } in
     ap parts_of (file_text header (graph_lines p.n p.links) (terminals_lines p.terminals) (codes "EOF"))
     ∙ parts_steps (ended header ++ graph) graph needs z p.n p.links (required p.terminals)
     (expected_again header graph refl)

@@ -17,7 +17,6 @@ pub record IsGraph (n : ℕ) (links : List Link) : Type 0 where
   pub few_links : length links ≤ 4000000
   pub joined : AllByRecursion (IsPlainLink n) links
 
--- two counts, and lines between a first and a last one
 -- the section: a name, two counts, the links and an end
 graph_text : (a b c : List ℕ) (lines : List (List ℕ)) (z rest : List ℕ) → flat_map ended (a ∷ b ∷ c ∷ lines ++ z ∷ []) ++ rest ≡ ended a ++ (ended b ++ (ended c ++ (flat_map ended lines ++ (ended z ++ rest))))
 graph_text a b c lines z rest =
@@ -43,9 +42,9 @@ graph_takes bytes x e =
     let made : ℕ × List Link × List ℕ = (n.0.0, links.0.0, end.0) in
     let same : made ≡ x = cc in
     let a = expected_takes (codes "SECTION Graph") bytes start.0 start.1 in
-    let b = judged_takes (count_of (codes "Nodes") 1 1000000) (count_line (codes "Nodes")) (λ n. (1 ≤ n) × (n ≤ 1000000)) nodes_judge start.0 n.0 n.1 in
-    let c = judged_takes (count_of (codes "Edges") 0 4000000) (count_line (codes "Edges")) (λ n. (0 ≤ n) × (n ≤ 4000000)) edges_judge n.0.1 m.0 m.1 in
-    let d = items_take (link_of n.0.0) link_line (IsPlainLink n.0.0) (link_judges n.0.0 (omega (arith, b.0))) m.0.0 m.0.1 links.0 links.1 in
+    let b = judged_takes _ _ _ nodes_judge start.0 n.0 n.1 in
+    let c = judged_takes _ _ _ edges_judge n.0.1 m.0 m.1 in
+    let d = items_take _ _ _ (link_judges n.0.0 (omega (arith, b.0))) m.0.0 m.0.1 links.0 links.1 in
     let z = expected_takes (codes "END") links.0.1 end.0 end.1 in
     let graph : IsGraph n.0.0 links.0.0 = record { some_vertex = b.0.0; few_vertices = b.0.1; few_links = omega (arith, c.0, d.0); joined = d.1 } in
     let counted : m.0.0 ≡ length links.0.0 = sym d.0 in
@@ -74,7 +73,7 @@ graph_again n links rest fits =
     ap graph_at (graph_text (codes "SECTION Graph") (count_line (codes "Nodes") n) (count_line (codes "Edges") (length links)) (map link_line links) (codes "END") rest)
     ∙ graph_steps (ended (codes "SECTION Graph") ++ nodes) nodes edges ls z rest n (length links) links
     (expected_again (codes "SECTION Graph") nodes refl)
-    (judged_again (count_of (codes "Nodes") 1 1000000) (count_line (codes "Nodes")) (λ k. (1 ≤ k) × (k ≤ 1000000)) nodes_judge n edges (fits.some_vertex, fits.few_vertices))
-    (judged_again (count_of (codes "Edges") 0 4000000) (count_line (codes "Edges")) (λ k. (0 ≤ k) × (k ≤ 4000000)) edges_judge (length links) ls (omega arith, fits.few_links))
-    (items_again (link_of n) link_line (IsPlainLink n) (link_judges n (omega (arith, fits.few_vertices))) links z fits.joined)
+    (judged_again _ _ _ nodes_judge n edges (fits.some_vertex, fits.few_vertices))
+    (judged_again _ _ _ edges_judge (length links) ls (omega arith, fits.few_links))
+    (items_again _ _ _ (link_judges n (omega (arith, fits.few_vertices))) links z fits.joined)
     (expected_again (codes "END") rest refl)

@@ -60,8 +60,8 @@ needs_take n bytes x lt e =
     let made : List (ℕ × Need) × List ℕ = (needs.0.0, end.0) in
     let same : made ≡ x = cc in
     let a = expected_takes (codes "SECTION Terminals") bytes start.0 start.1 in
-    let b = judged_takes (count_of (codes "Terminals") 1 2000000) (count_line (codes "Terminals")) (λ k. (1 ≤ k) × (k ≤ 2000000)) terminals_judge start.0 t.0 t.1 in
-    let d = items_take (need_of n) (λ e. terminal_line e.0) (IsRequired n) (need_judges n lt) t.0.0 t.0.1 needs.0 needs.1 in
+    let b = judged_takes _ _ _ terminals_judge start.0 t.0 t.1 in
+    let d = items_take _ _ _ (need_judges n lt) t.0.0 t.0.1 needs.0 needs.1 in
     let z = expected_takes (codes "END") needs.0.1 end.0 end.1 in
     let terminals : List ℕ = map (λ e. e.0) needs.0.0 in
     let r = are_required n needs.0.0 d.1 in
@@ -90,12 +90,12 @@ needs_again n terminals rest lt fits =
     let count : List ℕ = ended (count_line (codes "Terminals") (length terminals)) ++ ls in
     let same_lines : map (λ e. terminal_line e.0) (required terminals) ≡ map terminal_line terminals = map-map (λ e. terminal_line e.0) (λ v. let r : ℕ × Need = (v, Required) in r) terminals in
     let same_count : length (required terminals) ≡ length terminals = length-map terminals (λ v. let r : ℕ × Need = (v, Required) in r) in
-    let read : items (need_of n) (length (required terminals)) (flat_map ended (map (λ e. terminal_line e.0) (required terminals)) ++ z) ≡ Some (required terminals, z) = items_again (need_of n) (λ e. terminal_line e.0) (IsRequired n) (need_judges n lt) (required terminals) z (all_required n terminals fits.reached) in
+    let read : items (need_of n) (length (required terminals)) (flat_map ended (map (λ e. terminal_line e.0) (required terminals)) ++ z) ≡ Some (required terminals, z) = items_again _ _ _ (need_judges n lt) (required terminals) z (all_required n terminals fits.reached) in
     let read_lines : items (need_of n) (length terminals) ls ≡ Some (required terminals, z) = same_read _ _ _ _ _ _ same_count same_lines read in
     ap (needs_at n) (terminals_text (codes "SECTION Terminals") (count_line (codes "Terminals") (length terminals)) (map terminal_line terminals) (codes "END") rest)
     ∙ needs_steps n (ended (codes "SECTION Terminals") ++ count) count ls z rest (length terminals) (required terminals)
     (expected_again (codes "SECTION Terminals") count refl)
-    (judged_again (count_of (codes "Terminals") 1 2000000) (count_line (codes "Terminals")) (λ k. (1 ≤ k) × (k ≤ 2000000)) terminals_judge (length terminals) ls (fits.some_terminal, fits.few_terminals))
+    (judged_again _ _ _ terminals_judge (length terminals) ls (fits.some_terminal, fits.few_terminals))
     read_lines
     (expected_again (codes "END") rest refl)
   where

@@ -24,10 +24,10 @@ pub record IsInRange (p : Plain) : Type 0 where
   pub some_vertex : 1 ≤ p.n
   pub few_vertices : p.n ≤ 1000000
   pub few_links : length p.links ≤ 4000000
-  pub joined : All (IsPlainLink p.n) p.links
+  pub links : All (IsPlainLink p.n) p.links
   pub some_terminal : 1 ≤ length p.terminals
   pub few_terminals : length p.terminals ≤ 2000000
-  pub reached : All (IsVertex p.n) p.terminals
+  pub terminals : All (IsVertex p.n) p.terminals
 
 -- a line with its end
 abbrev pub ended : List ℕ → List ℕ
