@@ -1,9 +1,8 @@
 -- What a file says makes an instance, and the one that it stands for.
-use Rattle.std.proofs.Common.{◌≡◌, ℕ, ◌+◌, ◌*◌, ◌^◌, ◌<◌, ◌≤◌, List, [], ◌∷◌, length, map, All, Option, Some, None, refl, sym, ap, ◌∙◌, arith}
+use Rattle.std.proofs.Common.{◌≡◌, ℕ, ◌+◌, ◌*◌, ◌^◌, ◌<◌, ◌≤◌, List, [], ◌∷◌, length, All, Some, refl, ap, ◌∙◌, arith}
 use Rattle.std.specs.List.{AllByRecursion}
-use Rattle.std.proofs.lemmas.List.Elements.{All-from_recursion, recursion_from_All, All-weaker, All-map}
+use Rattle.std.proofs.lemmas.List.Elements.{recursion_from_All, All-weaker, All-map}
 use Rattle.st_model.specs.declared.link.Link.{Link}
-use Rattle.st_model.specs.declared.need.Need.{Need}
 use Rattle.st_model.specs.declared.need.Need.TheVariants.{Required}
 use Rattle.st_model.specs.Lists.{total}
 use Rattle.st_model.specs.Network.{Network, IsVertex, prize}
@@ -12,12 +11,15 @@ use Rattle.stp_reader.specs.Spelling.{Plain, IsInRange, IsPlainLink, text, insta
 use Rattle.stp_reader.specs.Reading.{Fails, Parts, parts_of}
 use Rattle.stp_reader.specs.declared.fault.StpFault.{StpFault}
 use Rattle.stp_reader.specs.declared.fault.StpFault.TheVariants.{NotPlain, NoMemory}
-use Rattle.stp_reader.proofs.FileLaws.{required, parts_from, parts_take, parts_again}
+use Rattle.stp_reader.proofs.TerminalLaws.{required}
+use Rattle.stp_reader.proofs.FileLaws.{parts_from, parts_take, parts_again}
 
+-- each link costs at most 10^12
 cost_bound : (n : ℕ) (links : List Link) → AllByRecursion (IsPlainLink n) links → total (λ l. l.cost) links ≤ length links * 1000000000000
 cost_bound n [] fits = omega arith
 cost_bound n (l ∷ ls) fits = let others = cost_bound n ls fits.1 in let first = fits.0.cheap in omega (arith, others, first)
 
+-- what is required has no prize
 no_prizes : (terminals : List ℕ) → total (λ e. prize e.1) (required terminals) ≡ 0
 no_prizes [] = refl
 no_prizes (v ∷ vs) = let others = no_prizes vs in omega (arith, others)
@@ -30,15 +32,17 @@ pub record IsBuildable (x : Parts) : Type 0 where
   pub stated : All (λ e. IsVertex x.n e.0) x.needs
   pub amount : total (λ l. l.cost) x.links + total (λ e. prize e.1) x.needs < 2 ^ 63
 
+-- a file in range makes an instance
 from_buildable : (p : Plain) → IsInRange p → IsBuildable (parts_from p)
 from_buildable p fits = record {
   some_vertex = fits.some_vertex;
   few_vertices = fits.few_vertices;
-  ends = All-weaker (IsPlainLink p.n) (λ l. IsVertex p.n l.a × IsVertex p.n l.b) (λ l h. (h.first, h.second)) p.links fits.joined;
-  stated = All-map (λ e. IsVertex p.n e.0) (λ v. (v, Required)) p.terminals fits.reached;
-  amount = omega (arith, cost_bound p.n p.links (recursion_from_All (IsPlainLink p.n) p.links fits.joined), no_prizes p.terminals, fits.few_links);
+  ends = All-weaker (IsPlainLink p.n) (λ l. IsVertex p.n l.a × IsVertex p.n l.b) (λ l h. (h.first, h.second)) p.links fits.links;
+  stated = All-map (λ e. IsVertex p.n e.0) (λ v. (v, Required)) p.terminals fits.terminals;
+  amount = omega (arith, cost_bound p.n p.links (recursion_from_All (IsPlainLink p.n) p.links fits.links), no_prizes p.terminals, fits.few_links);
 }
 
+-- what was read makes an instance
 pub is_buildable : (bytes : List ℕ) (x : Parts) → parts_of bytes ≡ Some x → IsBuildable x
 is_buildable bytes x e =
     let t = parts_take bytes x e in
@@ -55,11 +59,13 @@ memory_alone bytes NotPlain failed p fits e =
 abbrev pub network_from : Parts → Network
 network_from x = network_of x.n x.links x.needs
 
+-- what was read is the instance of a file in range that is spelled so
 pub is_found : (bytes : List ℕ) (x : Parts) → parts_of bytes ≡ Some x → (p : Plain) × IsInRange p × (bytes ≡ text p) × (network_from x ≡ instance_of p)
 is_found bytes x e =
     let t = parts_take bytes x e in
     (t.0, t.1, t.2, ap network_from t.3)
 
+-- what was read is the instance of each file that is spelled so
 pub is_instance : (bytes : List ℕ) (x : Parts) → parts_of bytes ≡ Some x → (p : Plain) → IsInRange p → bytes ≡ text p → network_from x ≡ instance_of p
 is_instance bytes x e p fits spelled =
     let read : parts_of bytes ≡ Some (parts_from p) = ap parts_of spelled ∙ parts_again p fits in

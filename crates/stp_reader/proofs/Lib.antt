@@ -1,7 +1,11 @@
+pub mod Steps
 pub mod Cut
-pub mod Loop
-pub mod Whole
+pub mod Judging
 pub mod Numerals
 pub mod LineLaws
+pub mod Sections
+pub mod GraphLaws
+pub mod TerminalLaws
 pub mod FileLaws
+pub mod Loop
 pub mod Buildable

@@ -9,12 +9,16 @@ use Rattle.st_model.specs.declared.need.Need.{Need}
 use Rattle.st_model.specs.declared.need.Need.TheVariants.{Required}
 use Rattle.st_model.specs.Network.{IsVertex}
 use Rattle.stp_reader.specs.Spelling.{IsPlainLink, ended, count_line, link_line, terminal_line}
-use Rattle.stp_reader.specs.Reading.{◌>>=◌, cut, judged, items, number, count_of, link_of, need_of}
-use Rattle.stp_reader.proofs.Whole.{step_some, guard_some, only_if, same_bytes, bytes_are, lacks, lacks-append, cut_takes, cut_again, Judges, judged_takes, judged_again}
+use Rattle.stp_reader.specs.Reading.{cut, judged, items, number, count_of, link_of, need_of}
+use Rattle.std.proofs.lemmas.Option.{cond_some}
+use Rattle.stp_reader.proofs.Steps.{step_some, only_if}
+use Rattle.stp_reader.proofs.Cut.{lacks, lacks-append, cut_takes, cut_again}
+use Rattle.stp_reader.proofs.Judging.{Judges, same_bytes, bytes_are, judged_takes, judged_again}
 use Rattle.stp_reader.proofs.Numerals.{decimal_lacks, number_judges}
 
 -- ---- a keyword and a number
 
+-- a line that was read is its keyword and the number
 count_takes : (keyword : List ℕ) (low high : ℕ) (line : List ℕ) (n : ℕ) → high < 2 ^ 64 → count_of keyword low high line ≡ Some n → ((low ≤ n) × (n ≤ high)) × (line ≡ count_line keyword n)
 unfolding count_of
 count_takes keyword low high line n lt e =
@@ -23,10 +27,12 @@ count_takes keyword low high line n lt e =
     let t = (number_judges low high lt).takes a.0.1 n g.1 in
     (t.0, cut_takes 32 line a.0 a.1 ∙ (ap (λ (k : List ℕ). k ++ 32 ∷ a.0.1) (bytes_are a.0.0 keyword g.0) ∙ ap (λ (k : List ℕ). keyword ++ 32 ∷ k) t.1))
 
+-- a keyword and a number in range are read
 count_again : (keyword : List ℕ) (low high n : ℕ) → high < 2 ^ 64 → lacks 32 keyword ≡ true → (low ≤ n) × (n ≤ high) → count_of keyword low high (count_line keyword n) ≡ Some n
 unfolding count_of
 count_again keyword low high n lt h fits = rw (cut_again 32 keyword (decimal n) h, same_bytes keyword, (number_judges low high lt).again n fits) refl
 
+-- a keyword and a number are read just where they are written
 pub count_judges : (keyword : List ℕ) (low high : ℕ) → high < 2 ^ 64 → lacks 32 keyword ≡ true → lacks 10 keyword ≡ true → Judges (count_of keyword low high) (count_line keyword) (λ n. (low ≤ n) × (n ≤ high))
 count_judges keyword low high lt h k = record {
   takes = λ line n e. count_takes keyword low high line n lt e;
@@ -36,12 +42,15 @@ count_judges keyword low high lt h k = record {
 
 -- ---- links
 
+-- the four words of a link
 link_words : (a b c : List ℕ) → (codes "E " ++ a ++ 32 ∷ b ++ 32 ∷ c) ≡ 69 ∷ 32 ∷ (a ++ 32 ∷ (b ++ 32 ∷ c))
 link_words a b c = ap (λ (r : List ℕ). 69 ∷ 32 ∷ r) (append_assoc a (32 ∷ b) (32 ∷ c))
 
+-- four words with a space between each two
 link_joined : (line w rest first others second last a b c : List ℕ) → line ≡ w ++ 32 ∷ rest → w ≡ codes "E" → rest ≡ first ++ 32 ∷ others → others ≡ second ++ 32 ∷ last → first ≡ a → second ≡ b → last ≡ c → line ≡ 69 ∷ 32 ∷ (a ++ 32 ∷ (b ++ 32 ∷ c))
 link_joined line w rest first others second last a b c h0 h1 h2 h3 h4 h5 h6 = rw (h0, h1, h2, h3, h4, h5, h6) refl
 
+-- a line that was read is the spelling of the link
 link_takes : (n : ℕ) (line : List ℕ) (l : Link) → n < 2 ^ 64 → link_of n line ≡ Some l → IsPlainLink n l × (line ≡ link_line l)
 unfolding link_of
 link_takes n line l lt e =
@@ -52,15 +61,16 @@ link_takes n line l lt e =
     let b = step_some (number 1 n second.0.0) _ l a.2 in
     let cost = step_some (number 0 1000000000000 second.0.1) _ l b.2 in
     let made : Link = record { a = a.0; b = b.0; cost = cost.0 } in
-    let g = guard_some (bytes_eq word.0.0 (codes "E")) made l cost.2 in
+    let g = cond_some (bytes_eq word.0.0 (codes "E")) made l cost.2 in
     let p = (number_judges 1 n lt).takes first.0.0 a.0 a.1 in
     let q = (number_judges 1 n lt).takes second.0.0 b.0 b.1 in
     let r = (number_judges 0 1000000000000 (omega arith)).takes second.0.1 cost.0 cost.1 in
     let parts : line ≡ 69 ∷ 32 ∷ (decimal a.0 ++ 32 ∷ (decimal b.0 ++ 32 ∷ decimal cost.0)) = link_joined line word.0.0 word.0.1 first.0.0 first.0.1 second.0.0 second.0.1 (decimal a.0) (decimal b.0) (decimal cost.0)
     (cut_takes 32 line word.0 word.1) (bytes_are word.0.0 (codes "E") g.0) (cut_takes 32 word.0.1 first.0 first.1) (cut_takes 32 first.0.1 second.0 second.1) p.1 q.1 r.1 in
     let spelled : line ≡ link_line made = rw (link_words (decimal a.0) (decimal b.0) (decimal cost.0)) parts in
-    subst (λ (m : Link). IsPlainLink n m × (line ≡ link_line m)) g.1 (record { first = p.0; second = q.0; cheap = r.0.1 }, spelled)
+    subst (λ (m : Link). IsPlainLink n m × (line ≡ link_line m)) {x = made} g.1 (record { first = p.0; second = q.0; cheap = r.0.1 }, spelled)
 
+-- the spelling of a link is read
 link_again : (n : ℕ) (l : Link) → n < 2 ^ 64 → IsPlainLink n l → link_of n (link_line l) ≡ Some l
 unfolding link_of
 link_again n l lt fits =
@@ -72,6 +82,7 @@ link_again n l lt fits =
       (number_judges 0 1000000000000 (omega arith)).again l.cost (omega arith, fits.cheap),
     ) refl
 
+-- a link is spelled on one line
 link_whole : (n : ℕ) (l : Link) → n < 2 ^ 64 → IsPlainLink n l → lacks 10 (link_line l) ≡ true
 link_whole n l lt fits =
     let a = decimal_lacks 10 l.a (omega arith) (omega arith) in
@@ -79,6 +90,7 @@ link_whole n l lt fits =
     let c = decimal_lacks 10 l.cost (omega arith) (omega arith) in
     lacks-append 10 (decimal l.a ++ 32 ∷ decimal l.b) (32 ∷ decimal l.cost) (lacks-append 10 (decimal l.a) (32 ∷ decimal l.b) a b) c
 
+-- a link is read just where it is spelled so
 pub link_judges : (n : ℕ) → n < 2 ^ 64 → Judges (link_of n) link_line (IsPlainLink n)
 link_judges n lt = record {
   takes = λ line l e. link_takes n line l lt e;
@@ -92,6 +104,7 @@ link_judges n lt = record {
 abbrev pub IsRequired : ℕ → ℕ × Need → Type 0
 IsRequired n e = IsVertex n e.0 × (e.1 ≡ Required)
 
+-- a line that was read is the spelling of the terminal
 need_takes : (n : ℕ) (line : List ℕ) (x : ℕ × Need) → n < 2 ^ 64 → need_of n line ≡ Some x → IsRequired n x × (line ≡ terminal_line x.0)
 unfolding need_of
 need_takes n line x lt e =
@@ -101,10 +114,12 @@ need_takes n line x lt e =
     let same : made ≡ x = cc in
     subst (λ (y : ℕ × Need). IsRequired n y × (line ≡ terminal_line y.0)) same ((t.0, refl), t.1)
 
+-- the spelling of a terminal is read
 need_again : (n : ℕ) (x : ℕ × Need) → n < 2 ^ 64 → IsRequired n x → need_of n (terminal_line x.0) ≡ Some x
 unfolding need_of
 need_again n x lt fits = rw ((count_judges (codes "T") 1 n lt refl refl).again x.0 fits.0, ← fits.1) refl
 
+-- a terminal is read just where it is spelled so
 pub need_judges : (n : ℕ) → n < 2 ^ 64 → Judges (need_of n) (λ e. terminal_line e.0) (IsRequired n)
 need_judges n lt = record {
   takes = λ line x e. need_takes n line x lt e;
@@ -118,6 +133,7 @@ need_judges n lt = record {
 abbrev pub written : {X : Type 0} → (X → List ℕ) → List X → List ℕ
 written spell xs = flat_map ended (map spell xs)
 
+-- lines that were read are the spellings of what they said
 pub items_take : {X : Type 0} (judge : List ℕ → Option X) (spell : X → List ℕ) (Fits : X → Type 0) (judges : Judges judge spell Fits) (count : ℕ) (bytes : List ℕ) (x : List X × List ℕ)
     → items judge count bytes ≡ Some x → (length x.0 ≡ count) × AllByRecursion Fits x.0 × (bytes ≡ written spell x.0 ++ x.1)
 unfolding items
@@ -135,6 +151,7 @@ items_take {X} judge spell Fits judges (suc count) bytes x e =
     let spelled : bytes ≡ written spell (first.0.0 ∷ others.0.0) ++ others.0.1 = t.1 ∙ (ap (λ (r : List ℕ). ended (spell first.0.0) ++ r) u.2 ∙ sym (append_assoc (ended (spell first.0.0)) (written spell others.0.0) others.0.1)) in
     subst (λ (y : List X × List ℕ). (length y.0 ≡ suc count) × AllByRecursion Fits y.0 × (bytes ≡ written spell y.0 ++ y.1)) same (ap suc u.0, (t.0, u.1), spelled)
 
+-- the spellings of some things are read as those
 pub items_again : {X : Type 0} (judge : List ℕ → Option X) (spell : X → List ℕ) (Fits : X → Type 0) (judges : Judges judge spell Fits) (xs : List X) (rest : List ℕ)
     → AllByRecursion Fits xs → items judge (length xs) (written spell xs ++ rest) ≡ Some (xs, rest)
 unfolding items

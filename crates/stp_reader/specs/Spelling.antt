@@ -1,9 +1,8 @@
 -- What a plain file says, and the one way in which it is spelled.
-use Rattle.std.specs.Prelude.{◌≡◌, ℕ, ◌≤◌, List, [], ◌∷◌, ◌++◌, length, map, All, codes}
+use Rattle.std.specs.Prelude.{ℕ, ◌≤◌, List, [], ◌∷◌, ◌++◌, length, map, All, codes}
 use Rattle.std.specs.List.{flat_map}
 use Rattle.std.specs.Fmt.{decimal}
 use Rattle.st_model.specs.declared.link.Link.{Link}
-use Rattle.st_model.specs.declared.need.Need.{Need}
 use Rattle.st_model.specs.declared.need.Need.TheVariants.{Required}
 use Rattle.st_model.specs.Network.{Network, IsVertex}
 use Rattle.st_model.specs.Stated.{network_of}
@@ -25,10 +24,10 @@ pub record IsInRange (p : Plain) : Type 0 where
   pub some_vertex : 1 ≤ p.n
   pub few_vertices : p.n ≤ 1000000
   pub few_links : length p.links ≤ 4000000
-  pub joined : All (IsPlainLink p.n) p.links
+  pub links : All (IsPlainLink p.n) p.links
   pub some_terminal : 1 ≤ length p.terminals
   pub few_terminals : length p.terminals ≤ 2000000
-  pub reached : All (IsVertex p.n) p.terminals
+  pub terminals : All (IsVertex p.n) p.terminals
 
 -- a line with its end
 abbrev pub ended : List ℕ → List ℕ

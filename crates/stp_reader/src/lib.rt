@@ -17,6 +17,10 @@ mod plain;
 mod words;
 
 pub use fault::StpFault;
+
+#[cfg(test)]
+mod tests;
+
 use plain::parts_of;
 use st_model::Instance;
 use std::alloc::Global;

@@ -59,7 +59,8 @@ fn need_of(line: &[u8], vertices: u32) -> Option<(u32, Need)>
 
 /// The link on the next line.
 fn link_at(lines: &mut Lines, vertices: u32) -> Result<Link, StpFault>
-    ensures { Gives (λ link. (link, lines.new.rest.now)) result (judged (link_of vertices) lines.old.rest.now) }
+    ensures { Gives (λ link. (link, lines.new.rest.now)) result
+        (judged (link_of vertices) lines.old.rest.now) }
 {
     let line = lines.next()?;
     link_of(line, vertices).ok_or(StpFault::NotPlain)
@@ -72,7 +73,8 @@ fn links_of(
     count: u64,
     vertices: u32,
 ) -> Result<Vec<Link>, StpFault>
-    ensures { Gives (λ links. (links.items, lines.new.rest.now)) result (items (link_of vertices) count lines.old.rest.now) }
+    ensures { Gives (λ links. (links.items, lines.new.rest.now)) result
+        (items (link_of vertices) count lines.old.rest.now) }
 {
     let mut links = Vec::new(alloc);
     for _ in 0..count {
@@ -84,7 +86,8 @@ fn links_of(
 
 /// The terminal on the next line.
 fn need_at(lines: &mut Lines, vertices: u32) -> Result<(u32, Need), StpFault>
-    ensures { Gives (λ need. (need, lines.new.rest.now)) result (judged (need_of vertices) lines.old.rest.now) }
+    ensures { Gives (λ need. (need, lines.new.rest.now)) result
+        (judged (need_of vertices) lines.old.rest.now) }
 {
     let line = lines.next()?;
     need_of(line, vertices).ok_or(StpFault::NotPlain)
@@ -97,7 +100,8 @@ fn needs_of(
     count: u64,
     vertices: u32,
 ) -> Result<Vec<(u32, Need)>, StpFault>
-    ensures { Gives (λ needs. (needs.items, lines.new.rest.now)) result (items (need_of vertices) count lines.old.rest.now) }
+    ensures { Gives (λ needs. (needs.items, lines.new.rest.now)) result
+        (items (need_of vertices) count lines.old.rest.now) }
 {
     let mut needs = Vec::new(alloc);
     for _ in 0..count {
@@ -110,7 +114,8 @@ fn needs_of(
 /// The number on the next line, of a keyword and a number.
 fn count_at(lines: &mut Lines, keyword: &[u8], low: u64, high: u64) -> Result<u64, StpFault>
     requires { high < 2 ^ 60 }
-    ensures value { Gives (λ n. (n, lines.new.rest.now)) result (judged (count_of keyword.now low high) lines.old.rest.now) }
+    ensures value { Gives (λ n. (n, lines.new.rest.now)) result
+        (judged (count_of keyword.now low high) lines.old.rest.now) }
     ensures in_range { IfOk result (λ n. (low ≤ n) × (n ≤ high)) }
 {
     let line = lines.next()?;
@@ -120,7 +125,8 @@ fn count_at(lines: &mut Lines, keyword: &[u8], low: u64, high: u64) -> Result<u6
 /// The section of the graph: how many vertices there are, and the links.
 #[tactic(auto, unfolding(crate::specs::Reading::graph_at))]
 fn graph_of(alloc: Global, lines: &mut Lines) -> Result<(u32, Vec<Link>), StpFault>
-    ensures { Gives (λ graph. (graph.0, graph.1.items, lines.new.rest.now)) result (graph_at lines.old.rest.now) }
+    ensures { Gives (λ graph. (graph.0, graph.1.items, lines.new.rest.now)) result
+        (graph_at lines.old.rest.now) }
 {
     lines.expect(b"SECTION Graph")?;
     let vertices = count_at(lines, b"Nodes", 1, u64::from(MAX_VERTICES))? as u32;
@@ -137,7 +143,8 @@ fn terminals_of(
     lines: &mut Lines,
     vertices: u32,
 ) -> Result<Vec<(u32, Need)>, StpFault>
-    ensures { Gives (λ needs. (needs.items, lines.new.rest.now)) result (needs_at vertices lines.old.rest.now) }
+    ensures { Gives (λ needs. (needs.items, lines.new.rest.now)) result
+        (needs_at vertices lines.old.rest.now) }
 {
     lines.expect(b"SECTION Terminals")?;
     let count = count_at(lines, b"Terminals", 1, MAX_TERMINALS)?;
@@ -157,7 +164,8 @@ pub struct Parts {
 /// What a plain file says, all of the file.
 #[tactic(auto, unfolding(crate::specs::Reading::parts_of))]
 pub fn parts_of(alloc: Global, bytes: &[u8]) -> Result<Parts, StpFault>
-    ensures { Gives (λ p. record { n = p.vertices; links = p.links.items; needs = p.needs.items }) result (parts_of bytes.now) }
+    ensures { Gives (λ p. record { n = p.vertices; links = p.links.items; needs = p.needs.items })
+        result (parts_of bytes.now) }
 {
     let mut lines = Lines::of(bytes);
     lines.expect(HEADER)?;

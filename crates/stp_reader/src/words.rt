@@ -31,7 +31,8 @@ impl<'a> Words<'a> {
 
     /// The next word, unless it is the last.
     pub fn next(&mut self) -> Option<&'a [u8]>
-        ensures { option_map (λ word. (word.now, self.new.rest.now)) result ≡ cut 32 self.old.rest.now }
+        ensures { option_map (λ word. (word.now, self.new.rest.now)) result
+            ≡ cut 32 self.old.rest.now }
     {
         let (word, rest) = cut_at(self.rest, b' ')?;
         self.rest = rest;

@@ -1,4 +1,3 @@
-use Rattle.std.proofs.Common.{◌≡◌, sym, ◌∙◌}
 use Rattle.std.proofs.lemmas.Result.{err_from_is_err_and}
 use Rattle.stp_reader.proofs.Buildable.{is_buildable, memory_alone, is_found, is_instance}
 use Rattle.stp_reader.proofs.read_stp.Goals as goal
