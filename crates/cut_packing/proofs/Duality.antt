@@ -21,7 +21,7 @@ use Rattle.cut_packing.proofs.Turned.{turned, entered}
 use Rattle.cut_packing.proofs.Charged.{charged, turned_bears}
 
 -- a tree of the branch reaches no vertex outside
-reached_present : (B : Branch) (t : Tree) (v : ℕ) → Belongs B t → IsTrue (has (reached t) v) → IsTrue (is_present B v)
+pub reached_present : (B : Branch) (t : Tree) (v : ℕ) → Belongs B t → IsTrue (has (reached t) v) → IsTrue (is_present B v)
 reached_present B t v belongs r =
     elim (cases_Bool (has B.outside v)) [
       | inl out ↦ absurd (both_ways (has (reached t) v) (belongs.outside v out) r)
@@ -29,7 +29,7 @@ reached_present B t v belongs r =
     ]
 
 -- a tree of the branch reaches each vertex that is required or inside
-certain_reached : (I : Network) (B : Branch) (t : Tree) (v : ℕ) → IsTree I t → Belongs B t → IsVertex I.n v → IsTrue (is_certain I B v) → IsTrue (has (reached t) v)
+pub certain_reached : (I : Network) (B : Branch) (t : Tree) (v : ℕ) → IsTree I t → Belongs B t → IsVertex I.n v → IsTrue (is_certain I B v) → IsTrue (has (reached t) v)
 certain_reached I B t v tree belongs in_range certain =
     elim (or_cases (is_required I v) (has B.inside v) certain) [
       | inl required ↦ tree.required v in_range required
@@ -107,7 +107,7 @@ weak_duality_lem I B P t fits tree belongs =
     omega (arith, links, unreached, prizes, sum_to-add here (outside_pays I B) I.n, total-split (λ c. reach c.q) (λ c. c.y) P.cuts)
 
 -- a tree of the branch that reaches v belongs to the half with v inside
-belongs_inside : (B : Branch) (t : Tree) (v : ℕ) → Belongs B t → IsTrue (has (reached t) v) → Belongs (with_inside B v) t
+pub belongs_inside : (B : Branch) (t : Tree) (v : ℕ) → Belongs B t → IsTrue (has (reached t) v) → Belongs (with_inside B v) t
 belongs_inside B t v belongs r = record {
   inside = λ w member. at_cases w (or_cases (v == w) (has B.inside w) (rw (has-with_vertex B.inside v w) at member));
   outside = belongs.outside;
@@ -118,7 +118,7 @@ belongs_inside B t v belongs r = record {
     at_cases w (inr inside) = belongs.inside w inside
 
 -- a tree of the branch that doesn't reach v belongs to the half with v outside
-belongs_outside : (B : Branch) (t : Tree) (v : ℕ) → Belongs B t → IsFalse (has (reached t) v) → Belongs (with_outside B v) t
+pub belongs_outside : (B : Branch) (t : Tree) (v : ℕ) → Belongs B t → IsFalse (has (reached t) v) → Belongs (with_outside B v) t
 belongs_outside B t v belongs r = record {
   inside = belongs.inside;
   outside = λ w member. at_cases w (or_cases (v == w) (has B.outside w) (rw (has-with_vertex B.outside v w) at member));
