@@ -8,7 +8,9 @@
 
 mod closing;
 mod deciding;
+mod gate;
 mod open;
 mod splitting;
 
+pub use gate::{Gate, OpenGate};
 pub use open::search;
