@@ -1,5 +1,5 @@
 -- What the text of a solution tells.
-use Rattle.std.specs.Prelude.{◌≡◌, ℕ, ◌<◌, ◌^◌, List, map, All}
+use Rattle.std.specs.Prelude.{◌≡◌, ℕ, ◌<◌, ◌^◌, List, length, map, All}
 use Rattle.dimacs_writer.specs.Solution.{name_byte, solution_text_of}
 
 -- all that stands in a text
@@ -14,11 +14,13 @@ pub record Solution : Type 0 where
 abbrev pub text_of : Solution → List ℕ
 text_of s = solution_text_of s.name s.workers s.vertices s.edges s.dual s.primal
 
--- its numbers have at most 64 bits
+-- its numbers have at most 64 bits, the counts too
 pub record IsInRange (s : Solution) : Type 0 where
   pub workers : s.workers < 2 ^ 64
   pub vertices : All (λ v. v < 2 ^ 64) s.vertices
+  pub few_vertices : length s.vertices < 2 ^ 64
   pub edges : All (λ edge. (edge.0 < 2 ^ 64) × (edge.1 < 2 ^ 64)) s.edges
+  pub few_edges : length s.edges < 2 ^ 64
   pub dual : s.dual < 2 ^ 64
   pub primal : s.primal < 2 ^ 64
 

@@ -10,12 +10,14 @@ ghost use Rattle.std.specs.Prelude.{◌≡◌, ◌++◌, ◌∷◌, [], ℕ, IfO
 ghost use Rattle.dimacs_writer.specs.Solution.{AreEdges, AreVertices, IsSolutionText, quoted_line, remark, run_lines, solutions_lines, tree_lines};
 ghost use Rattle.dimacs_writer.specs.Writing.{IsWritten};
 
+mod law;
 mod lines;
 mod sections;
 #[cfg(test)]
 mod tests;
 mod tree_lists;
 
+pub use law::text_tells_solution;
 use lines::{first_lines, put_name};
 use sections::{put_remark, put_run, put_solutions, put_tree};
 use st_model::Tree;
