@@ -1,0 +1,70 @@
+-- What stands before a byte, in two texts that are the same.
+use Rattle.std.proofs.Common.{◌≡◌, ℕ, ◌+◌, ◌%◌, ◌^◌, ◌<◌, ◌≤◌, Bool, true, false, not, eqb, ◌&&◌, List, [], ◌∷◌, ◌++◌, refl, sym, ap, ◌∙◌, append_assoc, arith}
+use Rattle.std.specs.Fmt.{decimal}
+use Rattle.std.specs.List.{flat_map}
+use Rattle.std.proofs.lemmas.Bool.Decides.{nat_tests}
+use Rattle.std.proofs.lemmas.Fmt.{decimal_by_steps}
+use Rattle.dimacs_writer.specs.Solution.{ended}
+
+-- no byte is d
+abbrev pub lacks : ℕ → List ℕ → Bool
+lacks d [] = true
+lacks d (b ∷ bs) = not (eqb b d) && lacks d bs
+
+pub and_true : (a b : Bool) → a && b ≡ true → (a ≡ true) × (b ≡ true)
+and_true true b e = (refl, e)
+and_true false b e = absurd cc
+
+pub lacks-append : (d : ℕ) (xs ys : List ℕ) → lacks d xs ≡ true → lacks d ys ≡ true → lacks d (xs ++ ys) ≡ true
+lacks-append d [] ys h k = k
+lacks-append d (x ∷ xs) ys h k =
+    let p = and_true (not (eqb x d)) (lacks d xs) h in
+    rw (p.0, lacks-append d xs ys p.1 k) refl
+
+-- what is no digit stands in no number
+pub lacks-decimal : (d n : ℕ) → d < 48 → n < 2 ^ 64 → lacks d (decimal n) ≡ true
+lacks-decimal d n low = decimal_by_steps (λ _ ds. lacks d ds ≡ true) (λ m small. grind (arith, nat_tests)) (λ m ds big so_far. lacks-append d ds _ so_far (last m)) n
+  where
+    last : (m : ℕ) → lacks d ((48 + m % 10) ∷ []) ≡ true
+    last m = grind (arith, nat_tests)
+
+pub cut_same : (d : ℕ) (xs ys rest others : List ℕ) → lacks d xs ≡ true → lacks d ys ≡ true → xs ++ d ∷ rest ≡ ys ++ d ∷ others → (xs ≡ ys) × (rest ≡ others)
+cut_same d [] [] rest others h k e = (refl, cc)
+cut_same d [] (y ∷ ys) rest others h k e =
+    let same : y ≡ d = cc in
+    let p = and_true (not (eqb y d)) (lacks d ys) k in
+    absurd (grind (arith, nat_tests, p.0))
+cut_same d (x ∷ xs) [] rest others h k e =
+    let same : x ≡ d = cc in
+    let p = and_true (not (eqb x d)) (lacks d xs) h in
+    absurd (grind (arith, nat_tests, p.0))
+cut_same d (x ∷ xs) (y ∷ ys) rest others h k e =
+    let behind : xs ++ d ∷ rest ≡ ys ++ d ∷ others = cc in
+    let p = and_true (not (eqb x d)) (lacks d xs) h in
+    let q = and_true (not (eqb y d)) (lacks d ys) k in
+    let later = cut_same d xs ys rest others p.1 q.1 behind in
+    (cc (later.0), later.1)
+
+-- ---- lines
+
+-- no line has an end within it
+abbrev pub are_whole : List (List ℕ) → Bool
+are_whole [] = true
+are_whole (line ∷ lines) = lacks 10 line && are_whole lines
+
+some_byte : (line rest : List ℕ) → [] ≡ ended line ++ rest → ⊥
+some_byte [] rest e = cc
+some_byte (b ∷ bs) rest e = cc
+
+-- whole lines are told by their text
+pub lines_same : (xs ys : List (List ℕ)) → are_whole xs ≡ true → are_whole ys ≡ true → flat_map ended xs ≡ flat_map ended ys → xs ≡ ys
+lines_same [] [] h k e = refl
+lines_same [] (y ∷ ys) h k e = absurd (some_byte y _ e)
+lines_same (x ∷ xs) [] h k e = absurd (some_byte x _ (sym e))
+lines_same (x ∷ xs) (y ∷ ys) h k e =
+    let p = and_true (lacks 10 x) (are_whole xs) h in
+    let q = and_true (lacks 10 y) (are_whole ys) k in
+    let regrouped = sym (append_assoc x (10 ∷ []) (flat_map ended xs)) ∙ e ∙ append_assoc y (10 ∷ []) (flat_map ended ys) in
+    let parts = cut_same 10 x y (flat_map ended xs) (flat_map ended ys) p.0 q.0 regrouped in
+    let later = lines_same xs ys p.1 q.1 parts.1 in
+    cc (parts.0, later)

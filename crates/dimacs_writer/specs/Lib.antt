@@ -1,0 +1,3 @@
+pub mod Solution
+pub mod Laws
+pub mod Writing
