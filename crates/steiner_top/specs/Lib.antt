@@ -1,0 +1,4 @@
+pub mod Words
+pub mod Output
+pub mod Causes
+pub mod Headline
