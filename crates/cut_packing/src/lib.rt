@@ -9,6 +9,7 @@
 mod arcs;
 mod cut;
 mod law;
+mod loads;
 mod packing;
 mod vertex_set;
 mod weighing;
