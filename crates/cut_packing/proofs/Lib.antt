@@ -6,3 +6,4 @@ pub mod ArcLists
 pub mod Turned
 pub mod Charged
 pub mod Duality
+pub mod Judged

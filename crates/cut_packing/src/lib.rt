@@ -8,13 +8,16 @@
 
 mod arcs;
 mod cut;
+mod fitting;
 mod law;
 mod loads;
+mod named;
 mod packing;
 mod vertex_set;
 mod weighing;
 
 pub use cut::Cut;
+pub use fitting::fits;
 pub use law::{proof_tree_bounds, weak_duality};
 pub use packing::Packing;
 pub use weighing::weight;
