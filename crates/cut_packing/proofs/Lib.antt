@@ -7,3 +7,4 @@ pub mod Turned
 pub mod Charged
 pub mod Duality
 pub mod Judged
+pub mod HeldSets

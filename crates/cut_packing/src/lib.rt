@@ -13,6 +13,7 @@ mod law;
 mod loads;
 mod named;
 mod packing;
+mod set_table;
 mod vertex_set;
 mod weighing;
 
@@ -20,4 +21,5 @@ pub use cut::Cut;
 pub use fitting::fits;
 pub use law::{proof_tree_bounds, weak_duality};
 pub use packing::Packing;
+pub use set_table::SetTable;
 pub use weighing::weight;
