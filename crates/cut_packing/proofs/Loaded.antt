@@ -1,7 +1,7 @@
 -- Arcs between present vertices: a link more, and a cut more.
 use Rattle.std.proofs.Common.{◌≡◌, ◌≢◌, ℕ, zero, suc, ◌+◌, ◌*◌, ◌^◌, ◌<◌, ◌≤◌, Bool, true, false, not, ◌&&◌, ◌||◌, List, [], ◌∷◌, ◌++◌, length, map, get_or, set, take, Some, None, ◌⊎◌, inl, inr, refl, sym, ◌∙◌, get_or-set_same, get_or-set_other, arith}
 use Rattle.std.specs.Prelude.{◌==◌, if◌then◌else◌, IsTrue, IsFalse, IsSome, All, AllPairs}
-use Rattle.std.specs.List.{list_any}
+use Rattle.std.specs.List.{list_any, AllByRecursion}
 use Rattle.std.proofs.lemmas.Bool.{cases_eq, cases_lt, eqb-true, eq-eqb, ne_eqb, or_cases, or_left, or_right, and_parts, and_from, both_ways, false≢true}
 use Rattle.std.proofs.lemmas.Bool.Decides.{nat_tests}
 use Rattle.std.proofs.lemmas.List.{get_or_past, length-set, take_more}
@@ -10,7 +10,7 @@ use Rattle.std.proofs.lemmas.List.Folds.{list_any-append}
 use Rattle.st_model.specs.declared.branch.Branch.{Branch}
 use Rattle.st_model.specs.declared.link.Link.{Link}
 use Rattle.st_model.specs.Lists.{has}
-use Rattle.st_model.specs.Network.{Network, IsLinkBetween, IsInstance, joins, link}
+use Rattle.st_model.specs.Network.{Network, IsVertex, IsLinkBetween, IsInstance, joins, link}
 use Rattle.st_model.specs.Branch.{is_present}
 use Rattle.cut_packing.specs.declared.arcs.LoadedArc.{LoadedArc}
 use Rattle.cut_packing.specs.declared.cut.Cut.{Cut}
@@ -71,12 +71,25 @@ has_arc-new arcs head arc below =
     rw (get_or-set_same, list_any-append (λ a. a.tail == arc.tail) (arcs_into arcs head) (arc ∷ [])) (or_right _ _ (or_left _ _ (eq-eqb arc.tail arc.tail refl)))
 
 -- what a link joins are its ends, in either order
-joined_ends : (l : Link) (u v : ℕ) → IsTrue (joins l u v) → ((l.a ≡ u) × (l.b ≡ v)) ⊎ ((l.a ≡ v) × (l.b ≡ u))
+pub joined_ends : (l : Link) (u v : ℕ) → IsTrue (joins l u v) → ((l.a ≡ u) × (l.b ≡ v)) ⊎ ((l.a ≡ v) × (l.b ≡ u))
 joined_ends l u v h =
     elim (or_cases ((l.a == u) && (l.b == v)) ((l.a == v) && (l.b == u)) h) [
       | inl e ↦ let p = and_parts (l.a == u) (l.b == v) e in inl (eqb-true l.a u p.0, eqb-true l.b v p.1)
       | inr e ↦ let p = and_parts (l.a == v) (l.b == u) e in inr (eqb-true l.a v p.0, eqb-true l.b u p.1)
     ]
+
+-- what is linked is a vertex
+pub linked_vertex : (n : ℕ) (ls : List Link) (u v : ℕ) → AllByRecursion (IsLinkBetween n) ls → IsSome (link ls u v) → IsVertex n u
+linked_vertex n [] u v ends some = absurd (false≢true some)
+linked_vertex n (l ∷ ls) u v ends some = step (joins l u v) refl some (linked_vertex n ls u v ends.1)
+  where
+    step : (b : Bool) → joins l u v ≡ b → IsSome (if b then Some l.cost else link ls u v) → (IsSome (link ls u v) → IsVertex n u) → IsVertex n u
+    step true joined found rest =
+        elim (joined_ends l u v joined) [
+          | inl e ↦ rw (← e.0) (ends.0.low, omega (arith, ends.0.ordered, ends.0.high))
+          | inr e ↦ rw (← e.1) (omega (arith, ends.0.low, ends.0.ordered), ends.0.high)
+        ]
+    step false joined found rest = rest found
 
 -- a link with an end outside gives no arc
 pub AreLoaded-skip : (I : Network) (B : Branch) (ls : List Link) (cuts : List Cut) (arcs : List (List LoadedArc)) (l : Link) → IsFalse (is_present B l.a && is_present B l.b) → AreLoaded I B ls cuts arcs → AreLoaded I B (ls ++ l ∷ []) cuts arcs

@@ -1,7 +1,7 @@
 use Rattle.std.proofs.Common.{◌≤◌}
 use Rattle.std.specs.Prelude.{All}
-use Rattle.cut_packing.proofs.ArcLists.{All-lists}
-use Rattle.cut_packing.proofs.arcs.Arcs.can_bear.Goals as goal
+use Rattle.cut_packing.proofs.VectorLists.{All-lists}
+use Rattle.cut_packing.proofs.arcs.Lists+LoadedArc.can_bear.Goals as goal
 
 pub returns : goal.returns
 returns c =
