@@ -16,6 +16,8 @@ mod loads;
 mod named;
 mod packing;
 mod set_table;
+#[cfg(test)]
+mod tests;
 mod used_up;
 mod vertex_set;
 mod walk;
