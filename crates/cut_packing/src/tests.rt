@@ -98,21 +98,34 @@ fn each_condition_is_needed(rt: HostRuntime) -> Result<(), Fail> {
     let alloc = rt.alloc();
     let instance = triangle(alloc, 1)?;
     let everything = branch(alloc, &[], &[])?;
-    let table = vec![in alloc;
-        alone(alloc, None, cut(alloc, &[2], 2, 2)?)?,
-        alone(alloc, Some(4), cut(alloc, &[2], 2, 2)?)?,
-        alone(alloc, Some(5), cut(alloc, &[2], 2, 2)?)?,
-        alone(alloc, Some(0), cut(alloc, &[2], 2, 2)?)?,
-        alone(alloc, Some(2), cut(alloc, &[2], 2, 2)?)?,
-        alone(alloc, Some(1), cut(alloc, &[2, 5], 2, 2)?)?,
-        alone(alloc, Some(1), cut(alloc, &[0, 2], 2, 2)?)?,
-        alone(alloc, Some(1), cut(alloc, &[2], 3, 2)?)?,
-        alone(alloc, Some(1), cut(alloc, &[2], 2, 3)?)?,
-        alone(alloc, Some(1), cut(alloc, &[4], 4, 2)?)?,
-    ]?;
-    for packing in &table {
-        assert!(rt; !fits(alloc, &instance, &everything, packing)?);
+    let table = [
+        (4, [2, 2], 2, 2),
+        (5, [2, 2], 2, 2),
+        (0, [2, 2], 2, 2),
+        (2, [2, 2], 2, 2),
+        (1, [2, 5], 2, 2),
+        (1, [0, 2], 2, 2),
+        (1, [2, 2], 3, 2),
+        (1, [2, 2], 2, 3),
+        (1, [4, 4], 4, 2),
+    ];
+    for (root, set, q, y) in table {
+        let packing = alone(alloc, Some(root), cut(alloc, &set, q, y)?)?;
+        assert!(rt; !fits(alloc, &instance, &everything, &packing)?);
     }
+    let rootless = alone(alloc, None, cut(alloc, &[2], 2, 2)?)?;
+    assert!(rt; !fits(alloc, &instance, &everything, &rootless)?);
+    Ok(())
+}
+
+#[test]
+fn a_repeated_vertex_counts_once(rt: HostRuntime) -> Result<(), Fail> {
+    let alloc = rt.alloc();
+    let instance = triangle(alloc, 1)?;
+    let everything = branch(alloc, &[], &[])?;
+    let repeated = alone(alloc, Some(1), cut(alloc, &[2, 4, 2], 2, 2)?)?;
+    assert!(rt; fits(alloc, &instance, &everything, &repeated)?);
+    assert_eq!(rt; weight(&instance, &everything, &repeated), 2);
     Ok(())
 }
 
@@ -120,15 +133,10 @@ fn each_condition_is_needed(rt: HostRuntime) -> Result<(), Fail> {
 fn outside_vertices_are_left_alone(rt: HostRuntime) -> Result<(), Fail> {
     let alloc = rt.alloc();
     let instance = triangle(alloc, 1)?;
-    let everything = branch(alloc, &[], &[])?;
     let no_centre = branch(alloc, &[], &[4])?;
-    let repeated = alone(alloc, Some(1), cut(alloc, &[2, 4, 2], 2, 2)?)?;
-    assert!(rt; fits(alloc, &instance, &everything, &repeated)?);
-    assert_eq!(rt; weight(&instance, &everything, &repeated), 2);
-    assert_eq!(rt; weight(&instance, &no_centre, &repeated), 3);
-    let heavy = alone(alloc, Some(1), cut(alloc, &[2, 4, 2], 2, 4)?)?;
-    assert!(rt; !fits(alloc, &instance, &everything, &heavy)?);
-    assert!(rt; fits(alloc, &instance, &no_centre, &heavy)?);
+    let around = alone(alloc, Some(1), cut(alloc, &[2, 4], 2, 4)?)?;
+    assert!(rt; fits(alloc, &instance, &no_centre, &around)?);
+    assert_eq!(rt; weight(&instance, &no_centre, &around), 5);
     let avoided = alone(alloc, Some(1), cut(alloc, &[4, 2], 4, 0)?)?;
     assert!(rt; !fits(alloc, &instance, &no_centre, &avoided)?);
     Ok(())
@@ -197,6 +205,25 @@ fn random_branch(alloc: Global, dice: &mut Dice) -> Result<Branch, AllocError> {
     })
 }
 
+// Whether a random packing fits and is full: by the calls, and by the plain program.
+fn judged(
+    alloc: Global,
+    instance: &Instance,
+    dice: &mut Dice,
+) -> Result<([bool; 2], [bool; 2]), AllocError> {
+    let packing = random_packing(alloc, dice)?;
+    let branch = random_branch(alloc, dice)?;
+    let called = [
+        fits(alloc, instance, &branch, &packing)?,
+        is_full(alloc, instance, &branch, &packing)?,
+    ];
+    let plain = [
+        plain_fits(instance, &branch, &packing),
+        plain_full(instance, &branch, &packing),
+    ];
+    Ok((called, plain))
+}
+
 #[test]
 fn random_packings_are_judged_alike(rt: HostRuntime) -> Result<(), Fail> {
     let alloc = rt.alloc();
@@ -205,12 +232,8 @@ fn random_packings_are_judged_alike(rt: HostRuntime) -> Result<(), Fail> {
     let mut fitting = 0u32;
     let mut full = 0u32;
     for _ in 0..2000 {
-        let packing = random_packing(alloc, &mut dice)?;
-        let branch = random_branch(alloc, &mut dice)?;
-        let fit = plain_fits(&instance, &branch, &packing);
-        let filled = plain_full(&instance, &branch, &packing);
-        assert_eq!(rt; fits(alloc, &instance, &branch, &packing)?, fit);
-        assert_eq!(rt; is_full(alloc, &instance, &branch, &packing)?, filled);
+        let ([fit, filled], plain) = judged(alloc, &instance, &mut dice)?;
+        assert_eq!(rt; [fit, filled], plain);
         fitting = fitting.saturating_add(u32::from(fit));
         full = full.saturating_add(u32::from(filled));
     }
