@@ -136,9 +136,32 @@ fn outside_vertices_are_left_alone(rt: HostRuntime) -> Result<(), Fail> {
     let no_centre = branch(alloc, &[], &[4])?;
     let around = alone(alloc, Some(1), cut(alloc, &[2, 4], 2, 4)?)?;
     assert!(rt; fits(alloc, &instance, &no_centre, &around)?);
-    assert_eq!(rt; weight(&instance, &no_centre, &around), 5);
     let avoided = alone(alloc, Some(1), cut(alloc, &[4, 2], 4, 0)?)?;
     assert!(rt; !fits(alloc, &instance, &no_centre, &avoided)?);
+    Ok(())
+}
+
+// An instance of two vertices that aren't joined, of which 2 pays.
+fn apart(alloc: Global) -> Result<Instance, AllocError>
+    ensures { IfOk result (λ i. i.n ≡ 2) }
+{
+    Instance::build(alloc, 2, &[], &[(1, Need::Required), (2, Need::Pays(7))])
+}
+
+// What no cuts weigh where the vertex that pays is outside.
+fn outside_weight(alloc: Global) -> Result<u128, AllocError> {
+    let instance = apart(alloc)?;
+    let avoided = branch(alloc, &[], &[2])?;
+    let nothing = Packing {
+        root: None,
+        cuts: Listed::of(Vec::new(alloc)),
+    };
+    Ok(weight(&instance, &avoided, &nothing))
+}
+
+#[test]
+fn outside_vertices_pay(rt: HostRuntime) -> Result<(), Fail> {
+    assert_eq!(rt; outside_weight(rt.alloc())?, 7);
     Ok(())
 }
 
