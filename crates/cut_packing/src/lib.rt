@@ -8,12 +8,25 @@
 
 mod arcs;
 mod cut;
+mod fitting;
+mod fullness;
 mod law;
+mod lists;
+mod loads;
+mod named;
 mod packing;
+mod set_table;
+#[cfg(test)]
+mod tests;
+mod used_up;
 mod vertex_set;
+mod walk;
 mod weighing;
 
 pub use cut::Cut;
+pub use fitting::fits;
+pub use fullness::is_full;
 pub use law::{proof_tree_bounds, weak_duality};
 pub use packing::Packing;
+pub use set_table::SetTable;
 pub use weighing::weight;

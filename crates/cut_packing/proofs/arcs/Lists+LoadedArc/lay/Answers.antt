@@ -2,8 +2,8 @@ use Rattle.std.proofs.Common.{◌≡◌, ◌<◌, length, map, ap, ◌∙◌}
 use Rattle.std.specs.Vec.{with_items}
 use Rattle.std.proofs.lemmas.List.{length-map}
 use Rattle.cut_packing.specs.Loads.{laid}
-use Rattle.cut_packing.proofs.ArcLists.{lists-set, refilled}
-use Rattle.cut_packing.proofs.arcs.Arcs.lay.Goals as goal
+use Rattle.cut_packing.proofs.VectorLists.{lists-set, refilled}
+use Rattle.cut_packing.proofs.arcs.Lists+LoadedArc.lay.Goals as goal
 
 pub returns : goal.returns
 returns c =
