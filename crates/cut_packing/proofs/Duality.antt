@@ -16,7 +16,8 @@ use Rattle.cut_packing.specs.Packing.{load, named, IsRoot, CutFits, Fits, outsid
 use Rattle.cut_packing.specs.ProofTree.{close, split}
 use Rattle.cut_packing.specs.Laws.{WeakDuality, ProofTreesBound}
 use Rattle.cut_packing.proofs.Sums.{total-split, sum_to-add, sum_to-le, sum_to-one}
-use Rattle.cut_packing.proofs.Members.{at_member, has-with_vertex}
+use Rattle.cut_packing.proofs.Members.{has-with_vertex}
+use Rattle.st_model.proofs.Marked.{at_member}
 use Rattle.cut_packing.proofs.Turned.{turned, entered}
 use Rattle.cut_packing.proofs.Charged.{charged, turned_bears}
 

@@ -1,6 +1,5 @@
 pub mod Sums
 pub mod Members
-pub mod Marked
 pub mod Loaded
 pub mod VectorLists
 pub mod ArcLists

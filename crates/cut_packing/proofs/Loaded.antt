@@ -17,9 +17,9 @@ use Rattle.cut_packing.specs.declared.cut.Cut.{Cut}
 use Rattle.cut_packing.specs.Packing.{load}
 use Rattle.cut_packing.specs.Loads.{arcs_into, has_arc, with_arc, laid, IsLoaded, AreLoaded}
 use Rattle.cut_packing.proofs.Sums.{total-append}
-use Rattle.cut_packing.specs.VertexSet.{AllApart}
-use Rattle.cut_packing.proofs.Members.{link-comm}
-use Rattle.cut_packing.proofs.Marked.{AllApart-at, has_more}
+use Rattle.st_model.specs.VertexSet.{AllApart}
+use Rattle.st_model.proofs.Distinct.{link-comm}
+use Rattle.st_model.proofs.Marked.{AllApart-at, has_more}
 
 -- a link more joins what the links joined, and its ends
 link-push : (ls : List Link) (l : Link) (u v : ℕ) → IsSome (link (ls ++ l ∷ []) u v) → IsSome (link ls u v) ⊎ IsTrue (joins l u v)

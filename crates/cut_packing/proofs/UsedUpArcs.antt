@@ -15,7 +15,7 @@ use Rattle.cut_packing.specs.Full.{IsUsedUp, IsReached, here, there}
 use Rattle.cut_packing.specs.Led.{heads_at, IsLed, start, along, AreLed}
 use Rattle.cut_packing.specs.Loads.{arcs_into, IsLoaded, AreLoaded}
 use Rattle.cut_packing.specs.UsedUp.{is_used, AreUsedUp}
-use Rattle.cut_packing.proofs.Marked.{has_at, place_of}
+use Rattle.st_model.proofs.Marked.{has_at, place_of}
 use Rattle.cut_packing.proofs.Loaded.{linked_vertex}
 
 module _ (I : Network) (B : Branch) (P : Packing) (u v : ℕ) where

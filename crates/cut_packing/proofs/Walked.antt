@@ -9,7 +9,7 @@ use Rattle.std.proofs.lemmas.Option.{get_or_from_slice_get, slice_get_within, sl
 use Rattle.std.proofs.Math.ListN.{get_or-append}
 use Rattle.st_model.specs.Lists.{has}
 use Rattle.cut_packing.specs.Led.{heads_at, IsLed, start, along, AreLed, Extends}
-use Rattle.cut_packing.proofs.Marked.{has-push, has_more, place_of}
+use Rattle.st_model.proofs.Marked.{has-push, has_more, place_of}
 
 -- nothing more
 pub Extends-none : (old : List ℕ) → Extends old old []

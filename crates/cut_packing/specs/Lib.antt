@@ -1,4 +1,3 @@
-pub mod VertexSet
 pub mod Packing
 pub mod Loads
 pub mod Led

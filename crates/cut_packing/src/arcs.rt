@@ -2,7 +2,7 @@ ghost use Rattle.std.specs.Prelude.{◌≡◌, ◌+◌, ◌<◌, ◌≤◌, ◌�
 ghost use Rattle.cut_packing.specs.Loads.{arcs_into, laid};
 
 use crate::lists::Lists;
-use crate::vertex_set::VertexSet;
+use st_model::VertexSet;
 
 /// An arc into some vertex: its tail, the cost of its link, and the value of the cuts it enters.
 #[derive(Clone, Copy, Debug)]

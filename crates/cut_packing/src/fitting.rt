@@ -7,9 +7,8 @@ ghost use Rattle.cut_packing.specs.Packing.{IsRoot, RootFits, CutFits, ArcsFit, 
 
 use crate::loads::loads;
 use crate::named::named_values;
-use crate::vertex_set::VertexSet;
 use crate::{Cut, Packing};
-use st_model::{Branch, Instance, Need};
+use st_model::{Branch, Instance, Need, VertexSet};
 use std::alloc::{AllocError, Global};
 
 /// Whether a packing fits a branch: its root, each of its cuts, the arcs and the prizes. Takes time

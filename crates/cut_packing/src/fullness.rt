@@ -6,9 +6,8 @@ ghost use Rattle.cut_packing.specs.Full.{is_open, IsReached, IsFullFrom, IsFull}
 use crate::Packing;
 use crate::named::named_values;
 use crate::used_up::used_up;
-use crate::vertex_set::VertexSet;
 use crate::walk::walk;
-use st_model::{Branch, Instance, Need};
+use st_model::{Branch, Instance, Need, VertexSet};
 use std::alloc::{AllocError, Global};
 
 /// Whether a packing is full in a branch: from its root, arcs whose whole cost the cuts take lead

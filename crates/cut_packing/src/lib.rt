@@ -19,7 +19,6 @@ mod set_table;
 #[cfg(test)]
 mod tests;
 mod used_up;
-mod vertex_set;
 mod walk;
 mod weighing;
 

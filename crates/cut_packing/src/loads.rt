@@ -1,12 +1,11 @@
 ghost use Rattle.std.specs.Prelude.{◌≡◌, ℕ, ◌+◌, ◌<◌, ◌^◌, ◌&&◌, not, [], length, map, replicate, All, IfOk, if◌then◌else◌};
 ghost use Rattle.st_model.specs.Lists.{has};
 ghost use Rattle.cut_packing.specs.Loads.{arcs_into, laid, AreLoaded};
-ghost use Rattle.cut_packing.specs.VertexSet.{AllApart};
+ghost use Rattle.st_model.specs.VertexSet.{AllApart};
 
 use crate::Cut;
 use crate::arcs::{Arcs, LoadedArc};
-use crate::vertex_set::VertexSet;
-use st_model::{Branch, Instance, Link};
+use st_model::{Branch, Instance, Link, VertexSet};
 use std::alloc::{AllocError, Global};
 
 /// The arcs between present vertices, with what the cuts lay on them.

@@ -2,7 +2,7 @@ ghost use Rattle.std.specs.Prelude.{◌≡◌, ℕ, ◌<◌, length, All, IfOk, 
 ghost use Rattle.cut_packing.specs.Led.{heads_at, AreLed, Extends};
 
 use crate::lists::Lists;
-use crate::vertex_set::VertexSet;
+use st_model::VertexSet;
 use std::alloc::{AllocError, Global};
 
 /// What the heads lead to, listed at their tails, from a root.

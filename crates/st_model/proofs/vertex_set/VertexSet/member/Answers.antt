@@ -1,5 +1,5 @@
-use Rattle.cut_packing.proofs.Marked.{IsMarked-in_range, AllApart-few}
-use Rattle.cut_packing.proofs.vertex_set.VertexSet.member.Goals as goal
+use Rattle.st_model.proofs.Marked.{IsMarked-in_range, AllApart-few}
+use Rattle.st_model.proofs.vertex_set.VertexSet.member.Goals as goal
 
 pub returns-clause-few : goal.returns-clause-few
 returns-clause-few c =
