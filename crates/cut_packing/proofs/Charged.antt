@@ -9,7 +9,8 @@ use Rattle.st_model.specs.Arborescence.{reached_from, Grows, arc_cost}
 use Rattle.cut_packing.specs.declared.cut.Cut.{Cut}
 use Rattle.cut_packing.specs.Packing.{load}
 use Rattle.cut_packing.proofs.Sums.{total-add}
-use Rattle.cut_packing.proofs.Members.{reached_from-more, link-comm}
+use Rattle.cut_packing.proofs.Members.{reached_from-more}
+use Rattle.st_model.proofs.Distinct.{link-comm}
 use Rattle.cut_packing.proofs.Turned.{top, turned, enters}
 
 -- where an arc enters the set, the arcs that do bear y at least

@@ -16,7 +16,8 @@ use Rattle.cut_packing.specs.Packing.{load, named, IsRoot, CutFits, Fits, outsid
 use Rattle.cut_packing.specs.ProofTree.{close, split}
 use Rattle.cut_packing.specs.Laws.{WeakDuality, ProofTreesBound}
 use Rattle.cut_packing.proofs.Sums.{total-split, sum_to-add, sum_to-le, sum_to-one}
-use Rattle.cut_packing.proofs.Members.{at_member, has-with_vertex}
+use Rattle.cut_packing.proofs.Members.{has-with_vertex}
+use Rattle.st_model.proofs.Marked.{at_member}
 use Rattle.cut_packing.proofs.Turned.{turned, entered}
 use Rattle.cut_packing.proofs.Charged.{charged, turned_bears}
 
@@ -37,7 +38,7 @@ certain_reached I B t v tree belongs in_range certain =
     ]
 
 -- the vertex that a cut names is in range
-named_vertex : (I : Network) (B : Branch) (c : Cut) → CutFits I B c → IsVertex I.n c.q
+pub named_vertex : (I : Network) (B : Branch) (c : Cut) → CutFits I B c → IsVertex I.n c.q
 named_vertex I B c fits = at_member (IsVertex I.n) c.set c.q (recursion_from_All _ c.set fits.in_range) fits.member
 
 -- the cuts whose vertex the tree reaches are paid for by its links

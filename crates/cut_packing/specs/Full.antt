@@ -1,5 +1,5 @@
 -- Packings to which no cut can be added: the root reaches all that has to be reached or paid for.
-use Rattle.std.specs.Prelude.{◌≡◌, ℕ, ◌<◌, IsTrue, Some}
+use Rattle.std.specs.Prelude.{◌≡◌, ℕ, ◌<◌, nat_lt, Bool, ◌&&◌, ◌||◌, IsTrue, Some}
 use Rattle.st_model.specs.declared.branch.Branch.{Branch}
 use Rattle.st_model.specs.Network.{Network, IsVertex, link, pays}
 use Rattle.st_model.specs.Branch.{is_present, is_certain, is_undecided}
@@ -16,6 +16,10 @@ pub record IsUsedUp (I : Network) (B : Branch) (P : Packing) (u v : ℕ) : Type 
 pub data IsReached (I : Network) (B : Branch) (P : Packing) (r : ℕ) : ℕ → Type 0 where
   here : IsReached I B P r r
   there : {u v : ℕ} → IsReached I B P r u → IsUsedUp I B P u v → IsReached I B P r v
+
+-- whether v has to be reached, or could still be paid for
+abbrev pub is_open : Network → Branch → Packing → ℕ → Bool
+is_open I B P v = is_certain I B v || (is_undecided B v && nat_lt (named P.cuts v) (pays I v))
 
 -- from the root each vertex is reached that is required or inside, or that could still be paid for
 pub record IsFullFrom (I : Network) (B : Branch) (P : Packing) (r : ℕ) : Type 0 where

@@ -1,6 +1,8 @@
-pub mod VertexSet
 pub mod Packing
 pub mod Loads
+pub mod Led
 pub mod Full
+pub mod UsedUp
+pub mod SetTable
 pub mod ProofTree
 pub mod Laws

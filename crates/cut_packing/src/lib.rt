@@ -8,12 +8,24 @@
 
 mod arcs;
 mod cut;
+mod fitting;
+mod fullness;
 mod law;
+mod lists;
+mod loads;
+mod named;
 mod packing;
-mod vertex_set;
+mod set_table;
+#[cfg(test)]
+mod tests;
+mod used_up;
+mod walk;
 mod weighing;
 
 pub use cut::Cut;
+pub use fitting::fits;
+pub use fullness::is_full;
 pub use law::{proof_tree_bounds, weak_duality};
 pub use packing::Packing;
+pub use set_table::SetTable;
 pub use weighing::weight;

@@ -19,7 +19,8 @@ use Rattle.st_model.proofs.Sums.{sum_to_same, sum_to_none}
 use Rattle.cut_packing.specs.declared.cut.Cut.{Cut}
 use Rattle.cut_packing.specs.declared.packing.Packing.{Packing}
 use Rattle.cut_packing.specs.Packing.{load, named, IsRoot, CutFits, Fits, outside_pays, weight}
-use Rattle.cut_packing.proofs.Members.{at_member, reached_from-more}
+use Rattle.cut_packing.proofs.Members.{reached_from-more}
+use Rattle.st_model.proofs.Marked.{at_member}
 use Rattle.cut_packing.proofs.Turned.{turned, entered}
 use Rattle.cut_packing.proofs.Charged.{charged, turned_bears}
 use Rattle.level_packing.specs.Forest.{Groups, IsPresent, IsForest, IsToCome, cluster_of, members_of, formed_at, level}

@@ -1,9 +1,13 @@
 -- Marks at the members of a list.
-use Rattle.std.proofs.Common.{◌≡◌, ◌≢◌, ℕ, zero, suc, ◌+◌, ◌<◌, Bool, true, false, ◌||◌, List, [], ◌∷◌, ◌++◌, length, take, drop, get_or, set, ◌⊎◌, inl, inr, refl, sym, ◌∙◌, get_or-set_same, get_or-set_other, drop-cons, add-one, arith}
+use Rattle.std.proofs.Common.{◌≡◌, ◌≢◌, ℕ, zero, suc, ◌+◌, ◌<◌, ◌≤◌, Bool, true, false, ◌||◌, eqb, List, [], ◌∷◌, ◌++◌, length, take, drop, get_or, set, ◌⊎◌, inl, inr, refl, sym, ap, ◌∙◌, get_or-set_same, get_or-set_other, drop-cons, add-one, arith}
 use Rattle.std.specs.Prelude.{◌==◌, All, IsTrue, IsFalse}
-use Rattle.std.proofs.lemmas.Bool.{cases_eq, cases_lt, ne_eqb, eq-eqb, or_parts, or_left, or_from, false≢true}
+use Rattle.std.proofs.lemmas.Bool.{cases_eq, cases_lt, ne_eqb, eq-eqb, or_parts, or_left, or_from, or_cases, eqb-true, false≢true}
 use Rattle.std.proofs.lemmas.List.{get_or_past, take_more}
 use Rattle.std.proofs.lemmas.List.Folds.{list_any-append, list_any_at}
+use Rattle.std.proofs.lemmas.List.Elements.{recursion_from_All}
+use Rattle.std.proofs.lemmas.Map.Steps.{length-le_from_distinct_below}
+use Rattle.std.proofs.lemmas.Bool.Decides.{nat_tests}
+use Rattle.std.specs.List.{list_any, AllByRecursion, IsDistinct}
 use Rattle.st_model.specs.Lists.{has}
 use Rattle.st_model.specs.VertexSet.{AllApart, IsMarked}
 
@@ -92,3 +96,45 @@ AllApart-at (x ∷ xs) (suc i) apart below =
 -- one element more
 pub has_more : (xs : List ℕ) (i v : ℕ) → i < length xs → has (take (i + 1) xs) v ≡ (has (take i xs) v || (get_or xs i 0 == v))
 has_more xs i v below = rw (take_more xs i 0 below) (has-push (take i xs) (get_or xs i 0) v)
+
+-- what holds of each element holds of a member
+pub at_member : (P : ℕ → Type 0) (xs : List ℕ) (v : ℕ) → AllByRecursion P xs → IsTrue (has xs v) → P v
+at_member P [] v h member = absurd (false≢true member)
+at_member P (x ∷ xs) v h member =
+    elim (or_cases (x == v) (has xs v) member) [
+      | inl same ↦ rw (← eqb-true x v same) h.0
+      | inr later ↦ at_member P xs v h.1 later
+    ]
+
+-- a member stands at some place
+pub place_of : (xs : List ℕ) (v : ℕ) → IsTrue (has xs v) → (k : ℕ) × (k < length xs) × (get_or xs k 0 ≡ v)
+place_of [] v h = absurd (false≢true h)
+place_of (x ∷ xs) v h =
+    elim (or_cases (x == v) (has xs v) h) [
+      | inl same ↦ (0, omega arith, eqb-true x v same)
+      | inr later ↦ let p = place_of xs v later in (suc p.0, omega (arith, p.1), p.2)
+    ]
+
+-- the test the other way round
+has-turned : (xs : List ℕ) (v : ℕ) → list_any (eqb v) xs ≡ has xs v
+has-turned [] v = refl
+has-turned (x ∷ xs) v = rw (has-turned xs v) (ap (λ b. b || has xs v) (eqb_comm v x))
+  where
+    eqb_comm : (a b : ℕ) → eqb a b ≡ eqb b a
+    eqb_comm a b = grind (arith, nat_tests)
+
+-- different numbers below a count are no more than it
+pub AllApart-few : (xs : List ℕ) (n : ℕ) → AllApart xs → All (λ v. v < n) xs → length xs ≤ n
+unfolding IsDistinct
+AllApart-few xs n apart below =
+    length-le_from_distinct_below xs n (distinct xs apart) (λ q h. at_member (λ v. v < n) xs q (recursion_from_All _ xs below) (sym (has-turned xs q) ∙ h))
+  where
+    apart_from : (x : ℕ) (ys : List ℕ) → IsFalse (has ys x) → AllByRecursion (λ y. eqb x y ≡ false) ys
+    apart_from x [] h = tt
+    apart_from x (y ∷ ys) h =
+        let p = or_parts (y == x) (has ys x) h in
+        (ne_eqb x y (λ same. false≢true (sym p.0 ∙ eq-eqb y x (sym same))), apart_from x ys p.1)
+
+    distinct : (ys : List ℕ) → AllApart ys → IsDistinct eqb ys
+    distinct [] h = tt
+    distinct (y ∷ ys) h = (apart_from y ys h.0, distinct ys h.1)

@@ -1,4 +1,4 @@
-ghost use Rattle.std.specs.Prelude.{◌≡◌, ℕ, ◌<◌, [], ◌∷◌, ◌++◌, nat_lt, ◌&&◌, OnOk, OnErr, IfOk, All, if◌then◌else◌};
+ghost use Rattle.std.specs.Prelude.{◌≡◌, ℕ, ◌<◌, ◌≤◌, [], ◌∷◌, ◌++◌, length, slice_get, OnOk, OnErr, IfOk, All, if◌then◌else◌};
 ghost use Rattle.st_model.specs.Lists.{has};
 ghost use Rattle.st_model.specs.VertexSet.{AllApart, IsMarked};
 
@@ -66,6 +66,15 @@ impl VertexSet {
         ensures in_range { All (λ v. v < self.now.count) self.now.members }
     {
         &self.members
+    }
+
+    /// The member that came at a place, if there are so many.
+    pub fn member(&self, place: usize) -> Option<u32>
+        ensures member { result ≡ slice_get self.now.members place }
+        ensures few { length self.now.members ≤ self.now.count }
+        ensures in_range { All (λ v. v < self.now.count) self.now.members }
+    {
+        self.members.get(place).copied()
     }
 
     /// Adds a vertex, unless it is there.

@@ -1,0 +1,266 @@
+ghost use Rattle.std.specs.Prelude.{◌≡◌, ◌<◌, IfOk};
+
+mod judge;
+
+use crate::{Cut, Packing, SetTable, fits, is_full, proof_tree_bounds, weak_duality, weight};
+use judge::{Dice, plain_fits, plain_full};
+use st_model::{Branch, Instance, Link, Listed, Need};
+use std::alloc::{AllocError, Global};
+use std::test::Fail;
+
+// Three terminals joined to each other at 4, and to a centre at 2.
+fn triangle(alloc: Global, centre: u64) -> Result<Instance, AllocError>
+    requires { centre < 100 }
+{
+    let links = [
+        link(1, 4, 2),
+        link(2, 4, 2),
+        link(3, 4, 2),
+        link(1, 2, 4),
+        link(2, 3, 4),
+        link(1, 3, 4),
+    ];
+    let needs = [
+        (1, Need::Required),
+        (2, Need::Required),
+        (3, Need::Required),
+        (4, Need::Pays(centre)),
+    ];
+    Instance::build(alloc, 4, &links, &needs)
+}
+
+fn link(a: u32, b: u32, cost: u64) -> Link
+    ensures { result ≡ record { a = a; b = b; cost = cost } }
+{
+    Link { a, b, cost }
+}
+
+fn cut(alloc: Global, set: &[u32], q: u32, y: u64) -> Result<Cut, AllocError> {
+    Ok(Cut {
+        set: Listed::of(Vec::from_slice(alloc, set)?),
+        q,
+        y,
+    })
+}
+
+fn branch(alloc: Global, inside: &[u32], outside: &[u32]) -> Result<Branch, AllocError>
+    ensures inside { IfOk result (λ b. b.inside ≡ inside.now) }
+    ensures outside { IfOk result (λ b. b.outside ≡ outside.now) }
+{
+    Ok(Branch {
+        inside: Listed::of(Vec::from_slice(alloc, inside)?),
+        outside: Listed::of(Vec::from_slice(alloc, outside)?),
+    })
+}
+
+// The packing of the triangle's proof, its first cut with a value of its own.
+fn packing(alloc: Global, first: u64) -> Result<Packing, AllocError> {
+    let cuts = vec![in alloc;
+        cut(alloc, &[2], 2, first)?,
+        cut(alloc, &[3], 3, 2)?,
+        cut(alloc, &[2, 3, 4], 2, 2)?,
+    ]?;
+    Ok(Packing {
+        root: Some(1),
+        cuts: Listed::of(cuts),
+    })
+}
+
+#[test]
+fn the_triangle_is_packed(rt: HostRuntime) -> Result<(), Fail> {
+    weak_duality();
+    proof_tree_bounds();
+    let alloc = rt.alloc();
+    let instance = triangle(alloc, 0)?;
+    let everything = branch(alloc, &[], &[])?;
+    let packed = packing(alloc, 2)?;
+    assert!(rt; fits(alloc, &instance, &everything, &packed)?);
+    assert!(rt; is_full(alloc, &instance, &everything, &packed)?);
+    assert_eq!(rt; weight(&instance, &everything, &packed), 6);
+    let over = packing(alloc, 3)?;
+    assert!(rt; !fits(alloc, &instance, &everything, &over)?);
+    let under = packing(alloc, 1)?;
+    assert!(rt; fits(alloc, &instance, &everything, &under)?);
+    assert!(rt; !is_full(alloc, &instance, &everything, &under)?);
+    Ok(())
+}
+
+// A packing of one cut.
+fn alone(alloc: Global, root: Option<u32>, only: Cut) -> Result<Packing, AllocError> {
+    Ok(Packing {
+        root,
+        cuts: Listed::of(vec![in alloc; only]?),
+    })
+}
+
+#[test]
+fn each_condition_is_needed(rt: HostRuntime) -> Result<(), Fail> {
+    let alloc = rt.alloc();
+    let instance = triangle(alloc, 1)?;
+    let everything = branch(alloc, &[], &[])?;
+    let table = [
+        (4, [2, 2], 2, 2),
+        (5, [2, 2], 2, 2),
+        (0, [2, 2], 2, 2),
+        (2, [2, 2], 2, 2),
+        (1, [2, 5], 2, 2),
+        (1, [0, 2], 2, 2),
+        (1, [2, 2], 3, 2),
+        (1, [2, 2], 2, 3),
+        (1, [4, 4], 4, 2),
+    ];
+    for (root, set, q, y) in table {
+        let packing = alone(alloc, Some(root), cut(alloc, &set, q, y)?)?;
+        assert!(rt; !fits(alloc, &instance, &everything, &packing)?);
+    }
+    let rootless = alone(alloc, None, cut(alloc, &[2], 2, 2)?)?;
+    assert!(rt; !fits(alloc, &instance, &everything, &rootless)?);
+    Ok(())
+}
+
+#[test]
+fn a_repeated_vertex_counts_once(rt: HostRuntime) -> Result<(), Fail> {
+    let alloc = rt.alloc();
+    let instance = triangle(alloc, 1)?;
+    let everything = branch(alloc, &[], &[])?;
+    let repeated = alone(alloc, Some(1), cut(alloc, &[2, 4, 2], 2, 2)?)?;
+    assert!(rt; fits(alloc, &instance, &everything, &repeated)?);
+    assert_eq!(rt; weight(&instance, &everything, &repeated), 2);
+    Ok(())
+}
+
+#[test]
+fn outside_vertices_are_left_alone(rt: HostRuntime) -> Result<(), Fail> {
+    let alloc = rt.alloc();
+    let instance = triangle(alloc, 1)?;
+    let no_centre = branch(alloc, &[], &[4])?;
+    let around = alone(alloc, Some(1), cut(alloc, &[2, 4], 2, 4)?)?;
+    assert!(rt; fits(alloc, &instance, &no_centre, &around)?);
+    let avoided = alone(alloc, Some(1), cut(alloc, &[4, 2], 4, 0)?)?;
+    assert!(rt; !fits(alloc, &instance, &no_centre, &avoided)?);
+    Ok(())
+}
+
+// An instance of two vertices that aren't joined, of which 2 pays.
+fn apart(alloc: Global) -> Result<Instance, AllocError>
+    ensures { IfOk result (λ i. i.n ≡ 2) }
+{
+    Instance::build(alloc, 2, &[], &[(1, Need::Required), (2, Need::Pays(7))])
+}
+
+// What no cuts weigh where the vertex that pays is outside.
+fn outside_weight(alloc: Global) -> Result<u128, AllocError> {
+    let instance = apart(alloc)?;
+    let avoided = branch(alloc, &[], &[2])?;
+    let nothing = Packing {
+        root: None,
+        cuts: Listed::of(Vec::new(alloc)),
+    };
+    Ok(weight(&instance, &avoided, &nothing))
+}
+
+#[test]
+fn outside_vertices_pay(rt: HostRuntime) -> Result<(), Fail> {
+    assert_eq!(rt; outside_weight(rt.alloc())?, 7);
+    Ok(())
+}
+
+#[test]
+fn equal_sets_have_one_number(rt: HostRuntime) -> Result<(), Fail> {
+    let alloc = rt.alloc();
+    let mut table = SetTable::new(alloc);
+    assert_eq!(rt; table.put(&[2])?, 0);
+    assert_eq!(rt; table.put(&[3])?, 1);
+    assert_eq!(rt; table.put(&[2])?, 0);
+    assert_eq!(rt; table.set(1).len(), 1);
+    assert_eq!(rt; table.set(1).first().copied(), Some(3));
+    Ok(())
+}
+
+// Some of the numbers from low to high.
+fn some_of(alloc: Global, dice: &mut Dice, low: u32, high: u32) -> Result<Vec<u32>, AllocError> {
+    let mut some = Vec::new(alloc);
+    for v in low..high {
+        if dice.roll(2) == 0 {
+            some.push(v)?;
+        }
+    }
+    Ok(some)
+}
+
+fn random_packing(alloc: Global, dice: &mut Dice) -> Result<Packing, AllocError> {
+    let mut cuts = Vec::new(alloc);
+    for _ in 0..dice.roll(4) {
+        let stray = dice.roll(12);
+        let mut set = some_of(alloc, dice, 2, 5)?;
+        if stray < 6 {
+            set.push(stray)?;
+        }
+        cuts.push(Cut {
+            set: Listed::of(set),
+            q: 2 + dice.roll(3),
+            y: u64::from(dice.roll(3)),
+        })?;
+    }
+    let root = if dice.roll(8) == 0 {
+        None
+    } else {
+        Some(1 + dice.roll(6) / 5)
+    };
+    Ok(Packing {
+        root,
+        cuts: Listed::of(cuts),
+    })
+}
+
+fn random_branch(alloc: Global, dice: &mut Dice) -> Result<Branch, AllocError> {
+    let mut inside = Vec::new(alloc);
+    let mut outside = Vec::new(alloc);
+    match dice.roll(4) {
+        0 => inside.push(4)?,
+        1 => outside.push(4)?,
+        2 => outside.push(3)?,
+        _ => (),
+    }
+    Ok(Branch {
+        inside: Listed::of(inside),
+        outside: Listed::of(outside),
+    })
+}
+
+// Whether a random packing fits and is full: by the calls, and by the plain program.
+fn judged(
+    alloc: Global,
+    instance: &Instance,
+    dice: &mut Dice,
+) -> Result<([bool; 2], [bool; 2]), AllocError> {
+    let packing = random_packing(alloc, dice)?;
+    let branch = random_branch(alloc, dice)?;
+    let called = [
+        fits(alloc, instance, &branch, &packing)?,
+        is_full(alloc, instance, &branch, &packing)?,
+    ];
+    let plain = [
+        plain_fits(instance, &branch, &packing),
+        plain_full(instance, &branch, &packing),
+    ];
+    Ok((called, plain))
+}
+
+#[test]
+fn random_packings_are_judged_alike(rt: HostRuntime) -> Result<(), Fail> {
+    let alloc = rt.alloc();
+    let instance = triangle(alloc, 1)?;
+    let mut dice = Dice { state: 2027 };
+    let mut fitting = 0u32;
+    let mut full = 0u32;
+    for _ in 0..2000 {
+        let ([fit, filled], plain) = judged(alloc, &instance, &mut dice)?;
+        assert_eq!(rt; [fit, filled], plain);
+        fitting = fitting.saturating_add(u32::from(fit));
+        full = full.saturating_add(u32::from(filled));
+    }
+    assert!(rt; 100 < fitting && fitting < 1900);
+    assert!(rt; 2 < full && full < 1900);
+    Ok(())
+}

@@ -1,0 +1,56 @@
+ghost use Rattle.std.specs.Prelude.{◌≡◌, ℕ, ◌<◌, ◌^◌, ◌==◌, ◌&&◌, ◌||◌, length, All, IfOk, OnOk};
+ghost use Rattle.st_model.specs.Lists.{has};
+ghost use Rattle.cut_packing.specs.Led.{heads_at};
+ghost use Rattle.cut_packing.specs.Loads.{arcs_into};
+ghost use Rattle.cut_packing.specs.UsedUp.{is_used, AreUsedUp};
+
+use crate::Packing;
+use crate::arcs::{Arcs, LoadedArc};
+use crate::lists::Lists;
+use crate::loads::loads;
+use st_model::{Branch, Instance};
+use std::alloc::{AllocError, Global};
+
+/// The heads of the arcs whose whole cost the cuts take, listed at their tails.
+pub fn used_up(
+    alloc: Global,
+    instance: &Instance,
+    branch: &Branch,
+    packing: &Packing,
+) -> Result<Lists<u32>, AllocError>
+    ensures { IfOk result (λ heads. AreUsedUp instance.now branch.now packing.now heads) }
+{
+    let vertices = instance.vertices();
+    let arcs = loads(alloc, instance, branch, packing.cuts.as_slice())?;
+    heads_of(alloc, &arcs, vertices + 1)
+}
+
+// The heads of the arcs that bear just what their links cost, listed at their tails.
+fn heads_of(alloc: Global, arcs: &Arcs, count: u32) -> Result<Lists<u32>, AllocError>
+    requires count { length arcs.now ≡ count }
+    requires tails { (v : ℕ) → All (λ arc. arc.tail < count) (arcs_into arcs.now v) }
+    ensures count { IfOk result (λ heads. length heads ≡ count) }
+    ensures listed { IfOk result (λ heads. (u v : ℕ) →
+        has (heads_at heads u) v ≡ is_used (arcs_into arcs.now v) u) }
+{
+    let mut heads = Lists::new(alloc, count as usize)?;
+    for head in 0..count {
+        list_head(&mut heads, arcs.at(head), head)?;
+    }
+    Ok(heads)
+}
+
+// Lists a head at the tails of those arcs into it that bear just what their links cost.
+fn list_head(heads: &mut Lists<u32>, arcs: &[LoadedArc], head: u32) -> Result<(), AllocError>
+    requires { All (λ arc. arc.tail < length heads.old) arcs.now }
+    ensures count { length heads.new ≡ length heads.old }
+    ensures listed { OnOk result ((u v : ℕ) → has (heads_at heads.new u) v
+        ≡ (has (heads_at heads.old u) v || ((head == v) && is_used arcs.now u))) }
+{
+    for arc in arcs {
+        if arc.load == u128::from(arc.cost) {
+            heads.add(arc.tail, head)?;
+        }
+    }
+    Ok(())
+}
