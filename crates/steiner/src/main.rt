@@ -4,24 +4,21 @@
 #![tactic(auto)]
 
 use st_edge::{DiskShelf, StdSink};
-use std::alloc::Global;
+use std::env;
 use std::process::ExitCode;
-use std::{env, io};
 use steiner_top::{OpenGate, Status, run};
 
 fn main(rt: HostRuntime) -> ExitCode {
-    let status = match words(&rt, rt.alloc()) {
-        Ok(words) => {
-            let mut shelf = DiskShelf::new(&rt);
-            let mut out = StdSink::new(&rt);
-            run(rt.alloc(), &words, &mut shelf, &mut out, &OpenGate).status
-        }
+    let status = match env::args(&rt) {
+        Ok(all) => match all.skip(1).collect::<Vec<String>>(rt.alloc()) {
+            Ok(words) => {
+                let mut shelf = DiskShelf::new(&rt);
+                let mut out = StdSink::new(&rt);
+                run(rt.alloc(), &words, &mut shelf, &mut out, &OpenGate).status
+            }
+            Err(_) => Status::NoMemory,
+        },
         Err(_) => Status::NoMemory,
     };
     ExitCode::from(status.code())
-}
-
-// The words after the program's name.
-fn words(rt: &impl Args, alloc: Global) -> io::Result<Vec<String>> {
-    env::args(rt)?.skip(1).collect(alloc)
 }
