@@ -14,7 +14,7 @@ Contains-from_has (x ∷ xs) v there = by_case (eqb x v) refl there (Contains-fr
     by_case true is h rest = (0, omega arith, grind (arith, nat_tests))
     by_case false is h rest = let later = rest h in (suc later.0, omega (arith, later.1), later.2)
 
-has-from_Contains : (xs : List ℕ) (v : ℕ) → Contains xs v → has xs v ≡ true
+pub has-from_Contains : (xs : List ℕ) (v : ℕ) → Contains xs v → has xs v ≡ true
 has-from_Contains [] v there = absurd (omega (arith, there.1))
 has-from_Contains (x ∷ xs) v (zero, within, at) = let e : eqb x v ≡ true = grind (arith, nat_tests) in rw e refl
 has-from_Contains (x ∷ xs) v (suc k, within, at) = rw (has-from_Contains xs v (k, omega arith, at)) (either (eqb x v))
