@@ -1,5 +1,5 @@
 -- A text tells all that stands in it.
-use Rattle.std.proofs.Common.{◌≡◌, ℕ, ◌+◌, ◌^◌, ◌<◌, ◌≤◌, ◌==◌, Bool, true, false, not, cond, eqb, ltb, ◌&&◌, ◌||◌, List, [], ◌∷◌, ◌++◌, length, map, get_or, drop, All, Contains, codes, refl, sym, ap, ◌∙◌, append_assoc, arith}
+use Rattle.std.proofs.Common.{◌≡◌, ℕ, ◌^◌, ◌<◌, ◌==◌, Bool, true, false, cond, eqb, ◌||◌, List, [], ◌∷◌, ◌++◌, length, map, get_or, drop, All, Contains, codes, refl, sym, ap, ◌∙◌, append_assoc, arith}
 use Rattle.std.specs.List.{flat_map, AllByRecursion}
 use Rattle.std.specs.Fmt.{decimal}
 use Rattle.std.proofs.lemmas.Bool.Decides.{nat_tests}
@@ -10,10 +10,10 @@ use Rattle.st_model.specs.declared.tree.Tree.{Tree}
 use Rattle.st_model.specs.Arborescence.{reached_from}
 use Rattle.st_model.specs.Lists.{has}
 use Rattle.st_model.specs.Regrown.{unordered}
-use Rattle.dimacs_writer.specs.Laws.{Solution, IsInRange, IsSame, IsSmallTree, TextTellsSolution, TextTellsTree, text_of}
-use Rattle.dimacs_writer.specs.Solution.{AreEdges, AreVertices, IsSolutionText, ended, name_byte, number_line, vertex_line, edge_line, remark, header, comment_lines, solutions_lines, run_lines, tree_lines, solution_text_of}
+use Rattle.dimacs_writer.specs.Laws.{Solution, IsSmallTree, TextTellsSolution, TextTellsTree, text_of}
+use Rattle.dimacs_writer.specs.Solution.{AreEdges, AreVertices, IsSolutionText, ended, name_byte, number_line, vertex_line, edge_line, header, comment_lines, solutions_lines, run_lines, solution_text_of}
 use Rattle.dimacs_writer.proofs.Members.{has-from_Contains}
-use Rattle.dimacs_writer.proofs.Cut.{lacks, and_true, lacks-append, lacks-decimal, cut_same, are_whole, lines_same}
+use Rattle.dimacs_writer.proofs.Cut.{lacks, lacks-append, lacks-decimal, cut_same, are_whole, lines_same}
 
 abbrev IsSmall : ℕ → Type 0
 IsSmall n = n < 2 ^ 64
