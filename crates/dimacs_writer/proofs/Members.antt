@@ -6,7 +6,7 @@ use Rattle.std.proofs.lemmas.Bool.Decides.{nat_tests}
 use Rattle.st_model.specs.Lists.{has}
 use Rattle.st_model.specs.Arborescence.{reached_from}
 
-Contains-from_has : (xs : List ℕ) (v : ℕ) → has xs v ≡ true → Contains xs v
+pub Contains-from_has : (xs : List ℕ) (v : ℕ) → has xs v ≡ true → Contains xs v
 Contains-from_has [] v there = absurd (false≢true there)
 Contains-from_has (x ∷ xs) v there = by_case (eqb x v) refl there (Contains-from_has xs v)
   where

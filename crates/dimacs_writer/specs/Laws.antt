@@ -49,6 +49,10 @@ pub record HaveSameSets (s t : Tree) : Type 0 where
   pub vertices : (v : ℕ) → has (reached s) v ≡ has (reached t) v
   pub edges : (edge : ℕ × ℕ) → Contains (map unordered s.arcs) edge ↔ Contains (map unordered t.arcs) edge
 
+-- a tree has one text, whatever the order and the directions of its arcs
+abbrev pub TreeHasOneText : Type 0
+TreeHasOneText = (name : List ℕ) (workers : ℕ) (s t : Tree) (dual primal : ℕ) (bytes others : List ℕ) → HaveSameSets s t → IsSolutionText name workers s dual primal bytes → IsSolutionText name workers t dual primal others → bytes ≡ others
+
 -- trees that have one text are the same but for the order and the directions of their arcs
 abbrev pub TextTellsTree : Type 0
 TextTellsTree = (name other_name : List ℕ) (workers other_workers : ℕ) (s t : Tree) (dual other_dual primal other_primal : ℕ) (bytes : List ℕ) → IsSmallTree s → IsSmallTree t → IsSolutionText name workers s dual primal bytes → IsSolutionText other_name other_workers t other_dual other_primal bytes → HaveSameSets s t
