@@ -1,9 +1,8 @@
 -- What stands before a byte, in two texts that are the same.
-use Rattle.std.proofs.Common.{◌≡◌, ℕ, ◌+◌, ◌%◌, ◌^◌, ◌<◌, ◌≤◌, Bool, true, false, not, eqb, ◌&&◌, List, [], ◌∷◌, ◌++◌, refl, sym, ap, ◌∙◌, append_assoc, arith}
-use Rattle.std.specs.Fmt.{decimal}
+use Rattle.std.proofs.Common.{◌≡◌, ℕ, zero, suc, ◌/◌, ◌%◌, ◌<◌, Bool, true, false, not, cond, eqb, ◌&&◌, List, [], ◌∷◌, ◌++◌, refl, sym, ◌∙◌, append_assoc, arith}
+use Rattle.std.specs.Fmt.{decimal, digits, digits_onto, digit_glyph}
 use Rattle.std.specs.List.{flat_map}
 use Rattle.std.proofs.lemmas.Bool.Decides.{nat_tests}
-use Rattle.std.proofs.lemmas.Fmt.{decimal_by_steps}
 use Rattle.dimacs_writer.specs.Solution.{ended}
 
 -- no byte is d
@@ -21,12 +20,21 @@ lacks-append d (x ∷ xs) ys h k =
     let p = and_true (not (eqb x d)) (lacks d xs) h in
     rw (p.0, lacks-append d xs ys p.1 k) refl
 
--- what is no digit stands in no number
-pub lacks-decimal : (d n : ℕ) → d < 48 → n < 2 ^ 64 → lacks d (decimal n) ≡ true
-lacks-decimal d n low = decimal_by_steps (λ _ ds. lacks d ds ≡ true) (λ m small. grind (arith, nat_tests)) (λ m ds big so_far. lacks-append d ds _ so_far (last m)) n
+lacks-digits : (d k n : ℕ) (rest : List ℕ) → d < 48 → lacks d rest ≡ true → lacks d (digits_onto k 10 false n rest) ≡ true
+lacks-digits d zero n rest low h = h
+lacks-digits d (suc k) n rest low h = by_case (eqb (n / 10) 0) (lacks-digits d k (n / 10) (digit_glyph false (n % 10) ∷ rest) low first)
   where
-    last : (m : ℕ) → lacks d ((48 + m % 10) ∷ []) ≡ true
-    last m = grind (arith, nat_tests)
+    first : lacks d (digit_glyph false (n % 10) ∷ rest) ≡ true
+    first = let other : eqb (digit_glyph false (n % 10)) d ≡ false = grind (arith, nat_tests) in rw (other, h) refl
+
+    by_case : (b : Bool) → lacks d (digits_onto k 10 false (n / 10) (digit_glyph false (n % 10) ∷ rest)) ≡ true → lacks d (cond b (digit_glyph false (n % 10) ∷ rest) (digits_onto k 10 false (n / 10) (digit_glyph false (n % 10) ∷ rest))) ≡ true
+    by_case true more = first
+    by_case false more = more
+
+-- what is no digit stands in no number
+pub lacks-decimal : (d n : ℕ) → d < 48 → lacks d (decimal n) ≡ true
+unfolding digits
+lacks-decimal d n low = lacks-digits d 64 n [] low refl
 
 pub cut_same : (d : ℕ) (xs ys rest others : List ℕ) → lacks d xs ≡ true → lacks d ys ≡ true → xs ++ d ∷ rest ≡ ys ++ d ∷ others → (xs ≡ ys) × (rest ≡ others)
 cut_same d [] [] rest others h k e = (refl, cc)

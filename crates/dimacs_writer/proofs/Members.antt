@@ -1,12 +1,12 @@
 -- Membership of lists of numbers, and of what a tree reaches.
-use Rattle.std.proofs.Common.{◌≡◌, ℕ, zero, suc, ◌+◌, ◌<◌, ◌≤◌, Bool, true, false, ◌||◌, eqb, List, [], ◌∷◌, ◌++◌, length, get_or, map, refl, sym, ap, ◌∙◌, arith}
-use Rattle.std.specs.Prelude.{Contains, ◌↔◌, IsTrue}
+use Rattle.std.proofs.Common.{◌≡◌, ℕ, zero, suc, Bool, true, false, ◌||◌, eqb, List, [], ◌∷◌, ◌++◌, map, refl, sym, ap, ◌∙◌, arith}
+use Rattle.std.specs.Prelude.{Contains, ◌↔◌}
 use Rattle.std.proofs.lemmas.Bool.{false≢true}
 use Rattle.std.proofs.lemmas.Bool.Decides.{nat_tests}
 use Rattle.st_model.specs.Lists.{has}
 use Rattle.st_model.specs.Arborescence.{reached_from}
 
-Contains-from_has : (xs : List ℕ) (v : ℕ) → has xs v ≡ true → Contains xs v
+pub Contains-from_has : (xs : List ℕ) (v : ℕ) → has xs v ≡ true → Contains xs v
 Contains-from_has [] v there = absurd (false≢true there)
 Contains-from_has (x ∷ xs) v there = by_case (eqb x v) refl there (Contains-from_has xs v)
   where
@@ -14,7 +14,7 @@ Contains-from_has (x ∷ xs) v there = by_case (eqb x v) refl there (Contains-fr
     by_case true is h rest = (0, omega arith, grind (arith, nat_tests))
     by_case false is h rest = let later = rest h in (suc later.0, omega (arith, later.1), later.2)
 
-has-from_Contains : (xs : List ℕ) (v : ℕ) → Contains xs v → has xs v ≡ true
+pub has-from_Contains : (xs : List ℕ) (v : ℕ) → Contains xs v → has xs v ≡ true
 has-from_Contains [] v there = absurd (omega (arith, there.1))
 has-from_Contains (x ∷ xs) v (zero, within, at) = let e : eqb x v ≡ true = grind (arith, nat_tests) in rw e refl
 has-from_Contains (x ∷ xs) v (suc k, within, at) = rw (has-from_Contains xs v (k, omega arith, at)) (either (eqb x v))

@@ -1,14 +1,19 @@
 -- A text tells all that stands in it.
-use Rattle.std.proofs.Common.{◌≡◌, ℕ, ◌+◌, ◌^◌, ◌<◌, ◌≤◌, ◌==◌, Bool, true, false, not, cond, eqb, ltb, ◌&&◌, ◌||◌, List, [], ◌∷◌, ◌++◌, length, map, get_or, drop, All, codes, refl, sym, ap, ◌∙◌, append_assoc, arith}
+use Rattle.std.proofs.Common.{◌≡◌, ℕ, ◌^◌, ◌<◌, ◌==◌, Bool, true, false, cond, eqb, ◌||◌, List, [], ◌∷◌, ◌++◌, length, map, get_or, drop, All, Contains, codes, refl, sym, ap, ◌∙◌, append_assoc, arith}
 use Rattle.std.specs.List.{flat_map, AllByRecursion}
 use Rattle.std.specs.Fmt.{decimal}
 use Rattle.std.proofs.lemmas.Bool.Decides.{nat_tests}
 use Rattle.std.proofs.lemmas.Fmt.{decimal_injective}
 use Rattle.std.proofs.lemmas.List.{append_cancel_right}
-use Rattle.std.proofs.lemmas.List.Elements.{recursion_from_All}
-use Rattle.dimacs_writer.specs.Laws.{Solution, IsInRange, IsSame, TextTellsSolution}
-use Rattle.dimacs_writer.specs.Solution.{ended, name_byte, number_line, vertex_line, edge_line, remark, header, comment_lines, solutions_lines, run_lines, tree_lines, solution_text_of}
-use Rattle.dimacs_writer.proofs.Cut.{lacks, and_true, lacks-append, lacks-decimal, cut_same, are_whole, lines_same}
+use Rattle.std.proofs.lemmas.List.Elements.{All-contains, All-contains_itself, All-map, All-weaker, recursion_from_All}
+use Rattle.st_model.specs.declared.tree.Tree.{Tree}
+use Rattle.st_model.specs.Arborescence.{reached_from}
+use Rattle.st_model.specs.Lists.{has}
+use Rattle.st_model.specs.Regrown.{unordered}
+use Rattle.dimacs_writer.specs.Laws.{Solution, IsSmallTree, TextTellsSolution, TextTellsTree, text_of}
+use Rattle.dimacs_writer.specs.Solution.{AreEdges, AreVertices, IsSolutionText, ended, name_byte, number_line, vertex_line, edge_line, header, comment_lines, solutions_lines, run_lines, solution_text_of}
+use Rattle.dimacs_writer.proofs.Members.{has-from_Contains}
+use Rattle.dimacs_writer.proofs.Cut.{lacks, lacks-append, lacks-decimal, cut_same, are_whole, lines_same}
 
 abbrev IsSmall : ℕ → Type 0
 IsSmall n = n < 2 ^ 64
@@ -26,15 +31,15 @@ remark_lacks : (b : Bool) → lacks 10 (cond b (codes "optimal") (codes "budget"
 remark_lacks true = refl
 remark_lacks false = refl
 
-vertices_whole : (vs : List ℕ) (rest : List (List ℕ)) → AllByRecursion IsSmall vs → are_whole rest ≡ true → are_whole (map vertex_line vs ++ rest) ≡ true
-vertices_whole [] rest small h = h
-vertices_whole (v ∷ vs) rest small h = rw (lacks-decimal 10 v (omega arith) small.0, vertices_whole vs rest small.1 h) refl
+vertices_whole : (vs : List ℕ) (rest : List (List ℕ)) → are_whole rest ≡ true → are_whole (map vertex_line vs ++ rest) ≡ true
+vertices_whole [] rest h = h
+vertices_whole (v ∷ vs) rest h = rw (lacks-decimal 10 v (omega arith), vertices_whole vs rest h) refl
 
-edges_whole : (es : List (ℕ × ℕ)) (rest : List (List ℕ)) → AllByRecursion HasSmallEnds es → are_whole rest ≡ true → are_whole (map edge_line es ++ rest) ≡ true
-edges_whole [] rest small h = h
-edges_whole (e ∷ es) rest small h =
-    let ends = lacks-append 10 (decimal e.0) (32 ∷ decimal e.1) (lacks-decimal 10 e.0 (omega arith) small.0.0) (lacks-decimal 10 e.1 (omega arith) small.0.1) in
-    rw (ends, edges_whole es rest small.1 h) refl
+edges_whole : (es : List (ℕ × ℕ)) (rest : List (List ℕ)) → are_whole rest ≡ true → are_whole (map edge_line es ++ rest) ≡ true
+edges_whole [] rest h = h
+edges_whole (e ∷ es) rest h =
+    let ends = lacks-append 10 (decimal e.0) (32 ∷ decimal e.1) (lacks-decimal 10 e.0 (omega arith)) (lacks-decimal 10 e.1 (omega arith)) in
+    rw (ends, edges_whole es rest h) refl
 
 -- ---- the lines of the tree
 
@@ -64,7 +69,7 @@ edges_same (d ∷ es) [] rest others h k e = absurd (differ 32 78 (omega arith) 
 edges_same (d ∷ es) (f ∷ fs) rest others h k e =
     let spelled : decimal d.0 ++ 32 ∷ decimal d.1 ≡ decimal f.0 ++ 32 ∷ decimal f.1 = cc in
     let behind : map edge_line es ++ codes "END" ∷ rest ≡ map edge_line fs ++ codes "END" ∷ others = cc in
-    let parts = cut_same 32 (decimal d.0) (decimal f.0) (decimal d.1) (decimal f.1) (lacks-decimal 32 d.0 (omega arith) h.0.0) (lacks-decimal 32 f.0 (omega arith) k.0.0) spelled in
+    let parts = cut_same 32 (decimal d.0) (decimal f.0) (decimal d.1) (decimal f.1) (lacks-decimal 32 d.0 (omega arith)) (lacks-decimal 32 f.0 (omega arith)) spelled in
     let low = decimal_injective d.0 f.0 h.0.0 k.0.0 parts.0 in
     let high = decimal_injective d.1 f.1 h.0.1 k.0.1 parts.1 in
     let later = edges_same es fs rest others h.1 k.1 behind in
@@ -86,20 +91,28 @@ text_lines : (s : Solution) → solution_text_of s.name s.workers s.vertices s.e
 unfolding solution_text_of
 text_lines s = ap (λ (tail : List (List ℕ)). flat_map ended (front s ++ tail)) (nested (map vertex_line s.vertices) (number_line (codes "Edges") (length s.edges) ∷ map edge_line s.edges) (codes "END" ∷ []) (codes "EOF" ∷ []))
 
-back_whole : (s : Solution) → IsInRange s → are_whole (back s) ≡ true
-back_whole s h =
-    let edges = edges_whole s.edges (codes "END" ∷ codes "EOF" ∷ []) (recursion_from_All HasSmallEnds s.edges h.edges) refl in
-    let count = lacks-decimal 10 (length s.edges) (omega arith) h.few_edges in
-    vertices_whole s.vertices _ (recursion_from_All IsSmall s.vertices h.vertices) (rw (count, edges) refl)
+back_whole : (s : Solution) → are_whole (back s) ≡ true
+back_whole s =
+    let edges = edges_whole s.edges (codes "END" ∷ codes "EOF" ∷ []) refl in
+    vertices_whole s.vertices _ (rw (lacks-decimal 10 (length s.edges) (omega arith), edges) refl)
 
-all_whole : (s : Solution) → IsInRange s → are_whole (front s ++ back s) ≡ true
-all_whole s h =
+all_whole : (s : Solution) → are_whole (front s ++ back s) ≡ true
+all_whole s =
     let name = lacks-append 10 (map name_byte s.name) (34 ∷ []) (name_lacks s.name) refl in
-    let primal = lacks-decimal 10 s.primal (omega arith) h.primal in
-    let workers = lacks-decimal 10 s.workers (omega arith) h.workers in
-    let dual = lacks-decimal 10 s.dual (omega arith) h.dual in
-    let count = lacks-decimal 10 (length s.vertices) (omega arith) h.few_vertices in
-    rw (name, remark_lacks (s.dual == s.primal), primal, workers, dual, count, back_whole s h) refl
+    let primal = lacks-decimal 10 s.primal (omega arith) in
+    let workers = lacks-decimal 10 s.workers (omega arith) in
+    let dual = lacks-decimal 10 s.dual (omega arith) in
+    let count = lacks-decimal 10 (length s.vertices) (omega arith) in
+    rw (name, remark_lacks (s.dual == s.primal), primal, workers, dual, count, back_whole s) refl
+
+same_lines : (s t : Solution) → text_of s ≡ text_of t → front s ++ back s ≡ front t ++ back t
+same_lines s t e = lines_same (front s ++ back s) (front t ++ back t) (all_whole s) (all_whole t) (sym (text_lines s) ∙ e ∙ text_lines t)
+
+same_tree : (s t : Solution) → All IsSmall s.vertices → All IsSmall t.vertices → All HasSmallEnds s.edges → All HasSmallEnds t.edges → text_of s ≡ text_of t → (s.vertices ≡ t.vertices) × (s.edges ≡ t.edges)
+same_tree s t vs ws es fs e =
+    let tail : back s ≡ back t = ap (drop 17) (same_lines s t e) in
+    let tree = vertices_same s.vertices t.vertices (length s.edges) (length t.edges) _ _ (recursion_from_All IsSmall s.vertices vs) (recursion_from_All IsSmall t.vertices ws) tail in
+    (tree.0, edges_same s.edges t.edges _ _ (recursion_from_All HasSmallEnds s.edges es) (recursion_from_All HasSmallEnds t.edges fs) tree.1)
 
 -- what stands from the n-th byte of the k-th line on
 abbrev behind : ℕ → ℕ → List (List ℕ) → List ℕ
@@ -107,18 +120,54 @@ behind n k lines = drop n (get_or lines k [])
 
 pub tells : TextTellsSolution
 tells s t h k e =
-    let lines = lines_same (front s ++ back s) (front t ++ back t) (all_whole s h) (all_whole t k) (sym (text_lines s) ∙ e ∙ text_lines t) in
+    let lines = same_lines s t e in
     let name : map name_byte s.name ++ 34 ∷ [] ≡ map name_byte t.name ++ 34 ∷ [] = ap (behind 6 2) lines in
     let primal : decimal s.primal ≡ decimal t.primal = ap (behind 11 7) lines in
     let workers : decimal s.workers ≡ decimal t.workers = ap (behind 8 10) lines in
     let dual : decimal s.dual ≡ decimal t.dual = ap (behind 5 12) lines in
-    let tail : back s ≡ back t = ap (drop 17) lines in
-    let tree = vertices_same s.vertices t.vertices (length s.edges) (length t.edges) _ _ (recursion_from_All IsSmall s.vertices h.vertices) (recursion_from_All IsSmall t.vertices k.vertices) tail in
+    let tree = same_tree s t h.vertices k.vertices h.edges k.edges e in
     record {
       name = append_cancel_right _ _ (34 ∷ []) name;
       workers = decimal_injective s.workers t.workers h.workers k.workers workers;
       vertices = tree.0;
-      edges = edges_same s.edges t.edges _ _ (recursion_from_All HasSmallEnds s.edges h.edges) (recursion_from_All HasSmallEnds t.edges k.edges) tree.1;
+      edges = tree.1;
       dual = decimal_injective s.dual t.dual h.dual k.dual dual;
       primal = decimal_injective s.primal t.primal h.primal k.primal primal;
+    }
+
+-- ---- trees
+
+small_reached : (r : List ℕ) (arcs : List (ℕ × ℕ)) (v : ℕ) → AllByRecursion HasSmallEnds arcs → ((w : ℕ) → has r w ≡ true → w < 2 ^ 64) → has (reached_from r arcs) v ≡ true → v < 2 ^ 64
+small_reached r [] v small first there = first v there
+small_reached r (arc ∷ arcs) v small first there = small_reached (arc.1 ∷ r) arcs v small.1 (λ w h. by_case w (eqb arc.1 w) refl h) there
+  where
+    by_case : (w : ℕ) (b : Bool) → eqb arc.1 w ≡ b → b || has r w ≡ true → w < 2 ^ 64
+    by_case w true is h = let same : arc.1 ≡ w = grind (arith, nat_tests) in omega (arith, small.0.1)
+    by_case w false is h = first w h
+
+small_vertices : (t : Tree) (vertices : List ℕ) → IsSmallTree t → AreVertices t vertices → All IsSmall vertices
+small_vertices t vertices small are = All-weaker (Contains vertices) IsSmall (λ v there. small_reached (t.start ∷ []) t.arcs v (recursion_from_All HasSmallEnds t.arcs small.arcs) alone (sym (are.same v) ∙ has-from_Contains vertices v there)) vertices (All-contains_itself vertices)
+  where
+    alone : (w : ℕ) → has (t.start ∷ []) w ≡ true → w < 2 ^ 64
+    alone w h = let same : t.start ≡ w = grind (arith, nat_tests) in omega (arith, small.start)
+
+small_edges : (t : Tree) (edges : List (ℕ × ℕ)) → IsSmallTree t → AreEdges t edges → All HasSmallEnds edges
+small_edges t edges small are = All-weaker (Contains edges) HasSmallEnds (λ edge there. All-contains HasSmallEnds (map unordered t.arcs) edge ends ((are.same edge).0 there)) edges (All-contains_itself edges)
+  where
+    ends : All HasSmallEnds (map unordered t.arcs)
+    ends = All-map HasSmallEnds unordered t.arcs (All-weaker HasSmallEnds (λ arc. HasSmallEnds (unordered arc)) (λ arc h. (omega (arith, h.0, h.1), omega (arith, h.0, h.1))) t.arcs small.arcs)
+
+abbrev said : {name : List ℕ} {workers : ℕ} {t : Tree} {dual primal : ℕ} {bytes : List ℕ} → IsSolutionText name workers t dual primal bytes → Solution
+said {name} {workers} {t} {dual} {primal} text = record { name = name; workers = workers; vertices = text.vertices; edges = text.edges; dual = dual; primal = primal }
+
+pub tells_tree : TextTellsTree
+tells_tree name other_name workers other_workers s t dual other_dual primal other_primal bytes small_s small_t first second =
+    let v = first.vertices_of_tree in
+    let w = second.vertices_of_tree in
+    let d = first.edges_of_tree in
+    let f = second.edges_of_tree in
+    let same = same_tree (said first) (said second) (small_vertices s first.vertices small_s v) (small_vertices t second.vertices small_t w) (small_edges s first.edges small_s d) (small_edges t second.edges small_t f) (sym first.text ∙ second.text) in
+    record {
+      vertices = λ x. sym (v.same x) ∙ ap (λ (list : List ℕ). has list x) same.0 ∙ w.same x;
+      edges = λ edge. (λ h. (f.same edge).0 (rw same.1 at ((d.same edge).1 h)), λ h. (d.same edge).0 (rw (← same.1) at ((f.same edge).1 h)));
     }

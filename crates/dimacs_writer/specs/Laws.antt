@@ -1,6 +1,10 @@
 -- What the text of a solution tells.
-use Rattle.std.specs.Prelude.{◌≡◌, ℕ, ◌<◌, ◌^◌, List, length, map, All}
-use Rattle.dimacs_writer.specs.Solution.{name_byte, solution_text_of}
+use Rattle.std.specs.Prelude.{◌≡◌, ◌↔◌, ℕ, ◌<◌, ◌^◌, List, map, All, Contains}
+use Rattle.st_model.specs.declared.tree.Tree.{Tree}
+use Rattle.st_model.specs.Arborescence.{reached}
+use Rattle.st_model.specs.Lists.{has}
+use Rattle.st_model.specs.Regrown.{unordered}
+use Rattle.dimacs_writer.specs.Solution.{IsSolutionText, name_byte, solution_text_of}
 
 -- all that stands in a text
 pub record Solution : Type 0 where
@@ -14,13 +18,11 @@ pub record Solution : Type 0 where
 abbrev pub text_of : Solution → List ℕ
 text_of s = solution_text_of s.name s.workers s.vertices s.edges s.dual s.primal
 
--- its numbers have at most 64 bits, the counts too
+-- its numbers have at most 64 bits
 pub record IsInRange (s : Solution) : Type 0 where
   pub workers : s.workers < 2 ^ 64
   pub vertices : All (λ v. v < 2 ^ 64) s.vertices
-  pub few_vertices : length s.vertices < 2 ^ 64
   pub edges : All (λ edge. (edge.0 < 2 ^ 64) × (edge.1 < 2 ^ 64)) s.edges
-  pub few_edges : length s.edges < 2 ^ 64
   pub dual : s.dual < 2 ^ 64
   pub primal : s.primal < 2 ^ 64
 
@@ -36,3 +38,21 @@ pub record IsSame (s t : Solution) : Type 0 where
 -- solutions with the same text are the same
 abbrev pub TextTellsSolution : Type 0
 TextTellsSolution = (s t : Solution) → IsInRange s → IsInRange t → text_of s ≡ text_of t → IsSame s t
+
+-- its vertices have at most 64 bits
+pub record IsSmallTree (t : Tree) : Type 0 where
+  pub start : t.start < 2 ^ 64
+  pub arcs : All (λ arc. (arc.0 < 2 ^ 64) × (arc.1 < 2 ^ 64)) t.arcs
+
+-- both reach the same vertices along the same links
+pub record HaveSameSets (s t : Tree) : Type 0 where
+  pub vertices : (v : ℕ) → has (reached s) v ≡ has (reached t) v
+  pub edges : (edge : ℕ × ℕ) → Contains (map unordered s.arcs) edge ↔ Contains (map unordered t.arcs) edge
+
+-- a tree has one text, whatever the order and the directions of its arcs
+abbrev pub TreeHasOneText : Type 0
+TreeHasOneText = (name : List ℕ) (workers : ℕ) (s t : Tree) (dual primal : ℕ) (bytes others : List ℕ) → HaveSameSets s t → IsSolutionText name workers s dual primal bytes → IsSolutionText name workers t dual primal others → bytes ≡ others
+
+-- trees that have one text are the same but for the order and the directions of their arcs
+abbrev pub TextTellsTree : Type 0
+TextTellsTree = (name other_name : List ℕ) (workers other_workers : ℕ) (s t : Tree) (dual other_dual primal other_primal : ℕ) (bytes : List ℕ) → IsSmallTree s → IsSmallTree t → IsSolutionText name workers s dual primal bytes → IsSolutionText other_name other_workers t other_dual other_primal bytes → HaveSameSets s t

@@ -30,8 +30,12 @@ name_byte b = if (b == 34) || nat_lt b 32 then 95 else b
 abbrev pub remark : ℕ → ℕ → List ℕ
 remark dual primal = if dual == primal then codes "optimal" else codes "budget"
 
+-- what stands behind the name in its section
+abbrev pub remark_lines : ℕ → ℕ → List (List ℕ)
+remark_lines dual primal = quoted_line (codes "Program") (codes "steiner") ∷ quoted_line (codes "Remark") (remark dual primal) ∷ codes "END" ∷ []
+
 abbrev pub comment_lines : List ℕ → ℕ → ℕ → List (List ℕ)
-comment_lines name dual primal = codes "SECTION Comment" ∷ quoted_line (codes "Name") (map name_byte name) ∷ quoted_line (codes "Program") (codes "steiner") ∷ quoted_line (codes "Remark") (remark dual primal) ∷ codes "END" ∷ []
+comment_lines name dual primal = codes "SECTION Comment" ∷ quoted_line (codes "Name") (map name_byte name) ∷ remark_lines dual primal
 
 -- the primal, at time 0
 abbrev pub solutions_lines : ℕ → List (List ℕ)

@@ -1,8 +1,17 @@
 -- What is written behind a text. Helpers' clauses cite this, and no public one.
-use Rattle.std.specs.Prelude.{◌≡◌, ℕ, List, ◌++◌}
+use Rattle.std.specs.Prelude.{◌≡◌, ℕ, List, [], ◌∷◌, ◌++◌, codes}
 use Rattle.std.specs.List.{flat_map}
-use Rattle.dimacs_writer.specs.Solution.{ended}
+use Rattle.st_model.specs.declared.tree.Tree.{Tree}
+use Rattle.dimacs_writer.specs.Solution.{AreEdges, AreVertices, ended, remark_lines, run_lines, solutions_lines, tree_lines}
 
 -- these lines were written, each with its end
 pub record IsWritten (before after : List ℕ) (lines : List (List ℕ)) : Type 0 where
   pub bytes : after ≡ before ++ flat_map ended lines
+
+-- all that stands behind the name
+pub record AreSections (workers : ℕ) (t : Tree) (dual primal : ℕ) (text : List ℕ) : Type 0 where
+  pub vertices : List ℕ
+  pub edges : List (ℕ × ℕ)
+  pub vertices_of_tree : AreVertices t vertices
+  pub edges_of_tree : AreEdges t edges
+  pub written : IsWritten [] text (remark_lines dual primal ++ solutions_lines primal ++ run_lines workers dual primal ++ tree_lines vertices edges ++ codes "EOF" ∷ [])

@@ -1,6 +1,13 @@
-ghost use Rattle.dimacs_writer.specs.Laws.{TextTellsSolution};
+ghost use Rattle.dimacs_writer.specs.Laws.{TextTellsSolution, TextTellsTree, TreeHasOneText};
 
-/// The text tells all that stands in it, but for the bytes of the name that are written alike.
+/// The text tells all that stands in it, but for the bytes of the name that are written alike, and
+/// so it tells the tree, but for the order and the directions of its arcs.
 pub fn text_tells_solution()
-    ensures { TextTellsSolution }
+    ensures solution { TextTellsSolution }
+    ensures tree { TextTellsTree }
+{}
+
+/// The text of a tree says nothing of the order and the directions of its arcs.
+pub fn tree_has_one_text()
+    ensures { TreeHasOneText }
 {}

@@ -1,14 +1,14 @@
 //! Writes the text of a solution, in the manner of the 11th DIMACS Challenge's solution files.
 //!
 //! The text is the definition `solution_text_of` at the tree's vertices and edges, each once and
-//! in ascending order, whatever the order of the tree's arcs. A caller may rely on every byte:
-//! the same name, workers, tree and bounds give the same text, and the text tells all of them
-//! but the bytes of the name that are written as `_`.
+//! in ascending order. A caller may rely on every byte: trees that reach the same vertices along
+//! the same links have one text, whatever the order and the directions of their arcs, and the text
+//! tells all that stands in it but the bytes of the name that are written as `_`.
 #![tactic(auto)]
 
-ghost use Rattle.std.specs.Prelude.{◌≡◌, ◌++◌, ◌∷◌, [], ℕ, IfOk, List, codes, string_bytes};
-ghost use Rattle.dimacs_writer.specs.Solution.{AreEdges, AreVertices, IsSolutionText, quoted_line, remark, run_lines, solutions_lines, tree_lines};
-ghost use Rattle.dimacs_writer.specs.Writing.{IsWritten};
+ghost use Rattle.std.specs.Prelude.{IfOk, string_bytes};
+ghost use Rattle.dimacs_writer.specs.Solution.{IsSolutionText};
+ghost use Rattle.dimacs_writer.specs.Writing.{AreSections};
 
 mod law;
 mod lines;
@@ -17,7 +17,7 @@ mod sections;
 mod tests;
 mod tree_lists;
 
-pub use law::text_tells_solution;
+pub use law::{text_tells_solution, tree_has_one_text};
 use lines::{first_lines, put_name};
 use sections::{put_remark, put_run, put_solutions, put_tree};
 use st_model::Tree;
@@ -51,8 +51,7 @@ fn sections_of(
     dual: u64,
     primal: u64,
 ) -> Result<String, AllocError>
-    ensures { IfOk result (λ text. (vertices : List ℕ) × (edges : List (ℕ × ℕ)) × AreVertices tree.now vertices × AreEdges tree.now edges
-        × IsWritten [] (string_bytes text) (quoted_line (codes "Program") (codes "steiner") ∷ quoted_line (codes "Remark") (remark dual primal) ∷ codes "END" ∷ [] ++ solutions_lines primal ++ run_lines workers dual primal ++ tree_lines vertices edges ++ codes "EOF" ∷ [])) }
+    ensures { IfOk result (λ text. AreSections workers tree.now dual primal (string_bytes text)) }
 {
     let vertices = vertices_of(alloc, tree)?;
     let edges = edges_of(alloc, tree)?;

@@ -52,7 +52,7 @@ pub fn put_line(text: &mut String, line: &str) -> Result<(), AllocError>
 
 /// Puts a keyword and a number behind the text.
 pub fn put_number(text: &mut String, keyword: &str, number: u64) -> Result<(), AllocError>
-    ensures { OnOk result (IsWritten (string_bytes text.old) (string_bytes text.new) ((number_line keyword.now number) ∷ [])) }
+    ensures { OnOk result (IsWritten (string_bytes text.old) (string_bytes text.new) (number_line keyword.now number ∷ [])) }
 {
     writeln!(text, "{keyword} {number}")
 }
@@ -78,7 +78,7 @@ pub fn put_edges(text: &mut String, edges: &[(u32, u32)]) -> Result<(), AllocErr
 }
 
 fn put_edge(text: &mut String, edge: (u32, u32)) -> Result<(), AllocError>
-    ensures { OnOk result (IsWritten (string_bytes text.old) (string_bytes text.new) ((edge_line edge) ∷ [])) }
+    ensures { OnOk result (IsWritten (string_bytes text.old) (string_bytes text.new) (edge_line edge ∷ [])) }
 {
     let (low, high) = edge;
     writeln!(text, "E {low} {high}")

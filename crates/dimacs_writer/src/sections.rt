@@ -1,6 +1,6 @@
 ghost use Rattle.std.specs.Prelude.{◌≡◌, ◌++◌, ◌∷◌, [], OnOk, string_bytes, codes};
 ghost use Rattle.dimacs_writer.specs.Solution;
-ghost use Rattle.dimacs_writer.specs.Solution.{quoted_line, solutions_lines, run_lines, tree_lines};
+ghost use Rattle.dimacs_writer.specs.Solution.{quoted_line, remark_lines, run_lines, solutions_lines, tree_lines};
 ghost use Rattle.dimacs_writer.specs.Writing.{IsWritten};
 
 use crate::lines::{put_edges, put_line, put_number, put_vertices};
@@ -8,7 +8,7 @@ use std::alloc::AllocError;
 
 /// Puts what follows the name in its section behind the text.
 pub fn put_remark(text: &mut String, dual: u64, primal: u64) -> Result<(), AllocError>
-    ensures { OnOk result (IsWritten (string_bytes text.old) (string_bytes text.new) (quoted_line (codes "Program") (codes "steiner") ∷ quoted_line (codes "Remark") (Solution.remark dual primal) ∷ codes "END" ∷ [])) }
+    ensures { OnOk result (IsWritten (string_bytes text.old) (string_bytes text.new) (remark_lines dual primal)) }
 {
     put_line(text, "Program \"steiner\"")?;
     put_line(text, remark_line(dual, primal))?;

@@ -8,9 +8,9 @@ returns c =
     let said = c.in_ok-text.ensures in
     let whole = rw c.as_bytes.ensures.value at c.in_ok-extend_from_slice.ensures.items in
     record {
-      vertices = said.0;
-      edges = said.1;
-      vertices_of_tree = said.2;
-      edges_of_tree = said.3;
-      text = (then_text _ (c.in_ok-out.ensures then c.in_ok-put_name.ensures) said.4 whole).bytes;
+      vertices = said.vertices;
+      edges = said.edges;
+      vertices_of_tree = said.vertices_of_tree;
+      edges_of_tree = said.edges_of_tree;
+      text = (then_text _ (c.in_ok-out.ensures then c.in_ok-put_name.ensures) said.written whole).bytes;
     }
