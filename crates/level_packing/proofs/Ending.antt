@@ -1,8 +1,8 @@
 -- What a forest says once no link is left.
-use Rattle.std.proofs.Common.{◌≡◌, ◌≢◌, ℕ, ◌+◌, ◌<◌, ◌≤◌, Bool, true, false, not, ◌&&◌, ◌||◌, cond, eqb, List, [], ◌∷◌, length, get_or, refl, sym, ap, subst, ◌∙◌, ◌⊎◌, inl, inr, arith, Option, Some, None}
-use Rattle.std.specs.Prelude.{All, IsTrue, IsFalse, IsSome, IfSome, OnSome, ◌==◌, if◌then◌else◌}
+use Rattle.std.proofs.Common.{◌≡◌, ◌≢◌, ℕ, ◌+◌, ◌≤◌, Bool, true, false, not, ◌&&◌, ◌||◌, cond, eqb, List, [], ◌∷◌, refl, sym, ap, subst, ◌∙◌, ◌⊎◌, inl, inr, arith, Option, Some, None}
+use Rattle.std.specs.Prelude.{All, IsTrue, IsFalse, IsSome, IfSome, OnSome, ◌==◌}
 use Rattle.std.specs.List.{AllByRecursion}
-use Rattle.std.proofs.lemmas.Bool.{cases_eq, cases_Bool, false≢true}
+use Rattle.std.proofs.lemmas.Bool.{cases_eq, false≢true}
 use Rattle.std.proofs.lemmas.Bool.Decides.{nat_tests}
 use Rattle.std.proofs.lemmas.List.Elements.{recursion_from_All, All-weaker, All-cons, All-nil}
 use Rattle.st_model.specs.declared.branch.Branch.{Branch}
@@ -17,13 +17,12 @@ use Rattle.st_model.proofs.Links.{linked_in_range}
 use Rattle.st_model.proofs.Distinct.{between-ends, total-arc_cost_made}
 use Rattle.st_model.proofs.Sums.{sum_to_same, sum_to_none}
 use Rattle.cut_packing.specs.declared.cut.Cut.{Cut}
-use Rattle.cut_packing.specs.declared.packing.Packing.{Packing}
-use Rattle.cut_packing.specs.Packing.{load, named, IsRoot, CutFits, Fits, outside_pays, weight}
+use Rattle.cut_packing.specs.Packing.{load, named, CutFits, Fits, outside_pays, weight}
 use Rattle.cut_packing.proofs.Members.{reached_from-more}
 use Rattle.st_model.proofs.Marked.{at_member}
 use Rattle.cut_packing.proofs.Turned.{turned, entered}
 use Rattle.cut_packing.proofs.Charged.{charged, turned_bears}
-use Rattle.level_packing.specs.Forest.{Groups, IsPresent, IsForest, IsToCome, cluster_of, members_of, formed_at, level}
+use Rattle.level_packing.specs.Forest.{Groups, IsPresent, IsForest, IsToCome, cluster_of, members_of, level}
 use Rattle.level_packing.specs.Growing.{IsAlone}
 use Rattle.level_packing.specs.Spanning.{IsSpanning}
 use Rattle.level_packing.proofs.Members.{All-from_has, only_one, itself}

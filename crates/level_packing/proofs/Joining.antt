@@ -1,9 +1,8 @@
 -- Two clusters that were raised to a link's cost become one.
-use Rattle.std.proofs.Common.{◌≡◌, ◌≢◌, ℕ, ◌+◌, ◌-◌, ◌<◌, ◌≤◌, ◌↔◌, Bool, true, false, not, ◌||◌, ◌&&◌, cond, eqb, List, [], ◌∷◌, ◌++◌, length, get_or, set, refl, sym, ap, subst, ◌∙◌, ◌⊎◌, inl, inr, arith, length-set}
-use Rattle.std.specs.Prelude.{All, Any, IsTrue, IsFalse, IsSome, IfSome, Option, Some, None, unwrap_or, ◌==◌, if◌then◌else◌}
+use Rattle.std.proofs.Common.{◌≡◌, ◌≢◌, ℕ, ◌+◌, ◌≤◌, ◌↔◌, Bool, true, false, ◌||◌, cond, eqb, List, [], ◌∷◌, ◌++◌, length, refl, sym, ap, subst, ◌∙◌, ◌⊎◌, inl, inr, arith}
+use Rattle.std.specs.Prelude.{All, IsTrue, IfSome, Option, Some, None, ◌==◌, if◌then◌else◌}
 use Rattle.std.proofs.lemmas.Bool.{cases_eq, or_cases}
 use Rattle.std.proofs.lemmas.Bool.Decides.{nat_tests}
-use Rattle.std.proofs.lemmas.List.{get_or-set_same, get_or-set_other}
 use Rattle.std.proofs.lemmas.List.Elements.{All-push, All-pop, All-cons}
 use Rattle.st_model.specs.declared.branch.Branch.{Branch}
 use Rattle.st_model.specs.declared.link.Link.{Link}
@@ -12,7 +11,7 @@ use Rattle.st_model.specs.Network.{Network, IsVertex, joins, link}
 use Rattle.st_model.specs.Arborescence.{arc_cost}
 use Rattle.st_model.proofs.Distinct.{joins-ends}
 use Rattle.st_model.proofs.Sums.{total-append, sum_to_same, sum_to-add, sum_to_one}
-use Rattle.cut_packing.specs.Packing.{load, CutFits}
+use Rattle.cut_packing.specs.Packing.{load}
 use Rattle.level_packing.specs.Forest.{Groups, IsPresent, IsPresentLink, IsJoined, IsForest, AreClusters, AreLevel, AreToCome, IsToCome, cluster_of, members_of, formed_at, level}
 use Rattle.level_packing.proofs.Members.{has-append, any_first, any_with}
 

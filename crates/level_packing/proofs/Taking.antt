@@ -1,6 +1,6 @@
 -- One more link: two clusters are raised to its cost, and become one.
-use Rattle.std.proofs.Common.{◌≡◌, ◌≢◌, ℕ, ◌+◌, ◌-◌, ◌<◌, ◌≤◌, Bool, true, false, cond, eqb, List, [], ◌∷◌, ◌++◌, length, get_or, set, refl, sym, ap, subst, ◌∙◌, ◌⊎◌, inl, inr, arith, drop, length-set, length-drop}
-use Rattle.std.specs.Prelude.{All, IsTrue, IfSome, Option, Some, None, ◌==◌, if◌then◌else◌}
+use Rattle.std.proofs.Common.{◌≡◌, ◌≢◌, ℕ, ◌+◌, ◌<◌, ◌≤◌, Bool, true, false, cond, List, [], ◌∷◌, length, get_or, set, refl, sym, ap, ◌∙◌, ◌⊎◌, inl, inr, arith, drop, length-set, length-drop}
+use Rattle.std.specs.Prelude.{All, IsTrue, IfSome, Option, Some, None, ◌==◌}
 use Rattle.std.proofs.lemmas.Bool.{cases_eq, cases_lt, false≢true}
 use Rattle.std.specs.List.Sorted.{IsNonDecreasingBy}
 use Rattle.std.proofs.lemmas.Bool.Decides.{nat_tests}
@@ -9,13 +9,13 @@ use Rattle.std.proofs.lemmas.List.Elements.{All-head, All-tail}
 use Rattle.st_model.specs.declared.branch.Branch.{Branch}
 use Rattle.st_model.specs.declared.link.Link.{Link}
 use Rattle.st_model.specs.Lists.{has}
-use Rattle.st_model.specs.Network.{Network, IsVertex, joins, link}
+use Rattle.st_model.specs.Network.{Network, joins, link}
 use Rattle.st_model.proofs.Distinct.{joins-ends}
 use Rattle.level_packing.specs.Forest.{Groups, AreClusters, IsPresent, IsPresentLink, IsForest, IsGrown, IsToCome, AreToCome, cluster_of, members_of, formed_at}
 use Rattle.level_packing.specs.Growing.{IsRaised, IsMerged, IsMergedInto, IsJoinedBy}
 use Rattle.level_packing.proofs.Members.{All-from_has, any_first}
 use Rattle.level_packing.proofs.Raising.{raise, weaker_limit}
-use Rattle.level_packing.proofs.Joining.{Joins, join}
+use Rattle.level_packing.proofs.Joining.{join}
 
 -- a forest in which a cluster was raised
 pub record AfterRaise (I : Network) (B : Branch) (root x c : ℕ) (rest : List Link) (F G : Groups) : Type 0 where

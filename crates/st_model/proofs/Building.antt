@@ -1,6 +1,6 @@
 -- The network that stated links and needs make is an instance.
-use Rattle.std.proofs.Common.{◌≡◌, ℕ, zero, suc, ◌+◌, ◌-◌, ◌^◌, ◌<◌, ◌≤◌, min, max, Bool, true, false, not, cond, eqb, List, [], ◌∷◌, ◌++◌, length, get_or, map, Option, unwrap_or, refl, sym, ap, ◌∙◌, arith}
-use Rattle.std.specs.Prelude.{◌==◌, filter, All, AllPairs, IsFalse}
+use Rattle.std.proofs.Common.{◌≡◌, ℕ, ◌+◌, ◌-◌, ◌^◌, ◌<◌, ◌≤◌, min, Bool, true, false, not, cond, eqb, List, [], ◌∷◌, unwrap_or, refl, ap, ◌∙◌, arith}
+use Rattle.std.specs.Prelude.{filter, All, AllPairs, IsFalse}
 use Rattle.std.specs.List.{AllByRecursion}
 use Rattle.std.proofs.lemmas.Bool.Decides.{nat_tests}
 use Rattle.std.proofs.lemmas.List.{length-map}
@@ -10,11 +10,11 @@ use Rattle.st_model.specs.declared.link.Link.{Link}
 use Rattle.st_model.specs.declared.need.Need.{Need}
 use Rattle.st_model.specs.declared.need.Need.TheVariants.{Required}
 use Rattle.st_model.specs.Lists.{total, sum_to, up_to}
-use Rattle.st_model.specs.Network.{Network, IsVertex, IsInstance, IsLinkBetween, joins, link, amount, pays, prize}
+use Rattle.st_model.specs.Network.{IsVertex, IsInstance, IsLinkBetween, joins, link, pays, prize}
 use Rattle.st_model.specs.Stated.{merged, network_of, stated_need}
 use Rattle.st_model.specs.Steps.{ordered}
 use Rattle.st_model.proofs.Sums.{total_filter_le, sum_to_same, length-up_to, get_or-up_to}
-use Rattle.st_model.proofs.Merging.{first_link, other_pair, merged_loop, merged_next, joins_ordered}
+use Rattle.st_model.proofs.Merging.{other_pair, merged_loop, merged_next, joins_ordered}
 use Rattle.st_model.proofs.Needs.{sum_of_prizes_le}
 
 -- whatever holds of the first link of each pair holds of all that are merged

@@ -1,12 +1,13 @@
 -- What a tree costs, arc by arc.
-use Rattle.std.proofs.Common.{◌≡◌, ℕ, zero, suc, ◌+◌, ◌-◌, ◌^◌, ◌<◌, ◌≤◌, Bool, true, false, ◌||◌, cond, eqb, List, [], ◌∷◌, ◌++◌, length, get_or, take, drop, refl, sym, ap, ◌∙◌, ◌⊎◌, inl, inr, arith}
+use Rattle.std.proofs.Common.{◌≡◌, ℕ, zero, suc, ◌+◌, ◌-◌, ◌^◌, ◌<◌, ◌≤◌, Bool, true, false, ◌||◌, cond, eqb, List, [], ◌∷◌, length, get_or, take, drop, refl, sym, ◌∙◌, ◌⊎◌, inl, inr, arith}
 use Rattle.std.proofs.lemmas.Bool.{cases_lt}
-use Rattle.std.specs.Prelude.{IsTrue, IsFalse, IsSome, OnSome, Option, Some, None}
+use Rattle.std.specs.Prelude.{IsSome, OnSome, Option, Some, None}
 use Rattle.std.proofs.lemmas.Bool.Decides.{nat_tests}
 use Rattle.std.proofs.lemmas.List.{take_more}
-use Rattle.st_model.specs.Arborescence.{Grows, arc_cost, missed, reached_from}
+use Rattle.st_model.specs.declared.tree.Tree.{Tree}
+use Rattle.st_model.specs.Arborescence.{Grows, arc_cost, cost, missed, reached_from}
 use Rattle.st_model.specs.Lists.{has, total, sum_to}
-use Rattle.st_model.specs.Network.{Network, IsInstance, IsVertex, amount, link, pays}
+use Rattle.st_model.specs.Network.{Network, IsInstance, IsVertex, link, pays}
 use Rattle.st_model.proofs.Sums.{total-append, sum_to_same, sum_to_le, sum_to-add, sum_to_one}
 use Rattle.st_model.proofs.Distinct.{total-arc_cost}
 use Rattle.st_model.proofs.Links.{linked_in_range}
@@ -28,6 +29,10 @@ missed_reached I r v vertex absent =
 -- a start alone misses all but its own prize
 pub missed_start : (I : Network) (start : ℕ) → IsVertex I.n start → sum_to (missed I (start ∷ [])) I.n + pays I start ≡ sum_to (pays I) I.n
 missed_start I start vertex = missed_reached I [] start vertex refl
+
+-- a tree without arcs is a start alone
+pub lone_start : (I : Network) (t : Tree) → IsVertex I.n t.start → t.arcs ≡ [] → cost I t + pays I t.start ≡ sum_to (pays I) I.n
+lone_start I t vertex none = rw none (omega (arith, missed_start I t.start vertex))
 
 pub missed_le_prizes : (I : Network) (r : List ℕ) → sum_to (missed I r) I.n ≤ sum_to (pays I) I.n
 missed_le_prizes I r = sum_to_le (missed I r) (pays I) I.n (λ v low high. at v (has r v))

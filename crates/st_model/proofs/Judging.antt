@@ -1,10 +1,8 @@
 -- A tree is judged arc by arc.
-use Rattle.std.proofs.Common.{◌≡◌, ◌≢◌, ◌||◌, eqb, ℕ, zero, suc, ◌+◌, ◌<◌, ◌≤◌, Bool, true, false, List, [], ◌∷◌, ◌++◌, length, get_or, take, drop, set, replicate, ◌↔◌, refl, sym, ap, ◌∙◌, arith, length-set}
-use Rattle.std.specs.Prelude.{IsTrue, IsFalse, IsSome}
+use Rattle.std.proofs.Common.{◌≡◌, ◌≢◌, ◌||◌, eqb, ℕ, ◌+◌, ◌<◌, ◌≤◌, Bool, true, false, List, [], ◌∷◌, ◌++◌, length, get_or, take, drop, set, replicate, ◌↔◌, refl, ap, ◌∙◌, arith, length-set}
 use Rattle.std.proofs.lemmas.Bool.Decides.{nat_tests}
 use Rattle.std.proofs.lemmas.List.{take_more, drop_more, length-replicate, get_or-replicate, get_or-set_same, get_or-set_other}
 use Rattle.st_model.specs.Arborescence.{Grows, reached_from}
-use Rattle.st_model.specs.Lists.{has}
 use Rattle.st_model.specs.Network.{Network}
 use Rattle.st_model.specs.Marks.{AreMarks, IsNewArc}
 

@@ -14,3 +14,4 @@ pub mod RegrowSteps
 pub mod RegrowLaws
 pub mod RegrowAlike
 pub mod Marked
+pub mod Halves

@@ -1,5 +1,5 @@
 -- The link between two vertices, found by the position of its pair.
-use Rattle.std.proofs.Common.{◌≡◌, ℕ, zero, suc, ◌+◌, ◌<◌, ◌≤◌, min, max, Bool, true, false, cond, ◌&&◌, ◌||◌, eqb, List, [], ◌∷◌, length, get_or, map, Option, Some, None, option_map, refl, sym, ap, ◌∙◌, arith, cond}
+use Rattle.std.proofs.Common.{◌≡◌, ℕ, suc, min, max, Bool, true, false, cond, ◌&&◌, List, [], ◌∷◌, get_or, map, Option, Some, None, option_map, refl, arith, cond}
 use Rattle.std.specs.Prelude.{◌==◌, position, All, OnSome}
 use Rattle.std.specs.List.{AllByRecursion}
 use Rattle.std.proofs.lemmas.List.Elements.{recursion_from_All}

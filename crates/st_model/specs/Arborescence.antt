@@ -1,5 +1,5 @@
 -- Trees in a network, grown arc by arc from a start, and what they cost.
-use Rattle.std.specs.Prelude.{◌≡◌, ℕ, ◌+◌, ◌≤◌, IsTrue, IsFalse, IsSome, if◌then◌else◌, List, [], ◌∷◌, ⊤, unwrap_or}
+use Rattle.std.specs.Prelude.{ℕ, ◌+◌, ◌≤◌, IsTrue, IsFalse, IsSome, if◌then◌else◌, List, [], ◌∷◌, ⊤, unwrap_or}
 use Rattle.st_model.specs.declared.tree.Tree.{Tree}
 use Rattle.st_model.specs.Lists.{has, total, sum_to}
 use Rattle.st_model.specs.Network.{Network, link, is_required, pays, IsVertex}

@@ -9,3 +9,4 @@ pub mod Made
 pub mod Growth
 pub mod Regrown
 pub mod VertexSet
+pub mod Laws

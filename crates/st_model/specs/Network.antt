@@ -1,9 +1,9 @@
 -- A network: vertices 1 to n, links between pairs of them, and what each vertex needs.
-use Rattle.std.specs.Prelude.{◌≡◌, ℕ, ◌+◌, ◌-◌, ◌^◌, ◌<◌, ◌≤◌, min, max, Bool, true, false, not, ◌&&◌, ◌||◌, ◌==◌, IsTrue, IsFalse, if◌then◌else◌, List, [], ◌∷◌, length, map, filter, All, AllPairs, slice_index_or, Option, Some, None, unwrap_or}
+use Rattle.std.specs.Prelude.{◌≡◌, ℕ, ◌+◌, ◌-◌, ◌^◌, ◌<◌, ◌≤◌, Bool, true, false, ◌&&◌, ◌||◌, ◌==◌, IsFalse, if◌then◌else◌, List, [], ◌∷◌, length, All, AllPairs, slice_index_or, Option, Some, None}
 use Rattle.st_model.specs.declared.link.Link.{Link}
 use Rattle.st_model.specs.declared.need.Need.{Need}
 use Rattle.st_model.specs.declared.need.Need.TheVariants.{Required, Pays}
-use Rattle.st_model.specs.Lists.{total, sum_to, up_to}
+use Rattle.st_model.specs.Lists.{total, sum_to}
 
 pub record Network : Type 0 where
   pub n : ℕ

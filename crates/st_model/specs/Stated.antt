@@ -1,5 +1,5 @@
 -- The instance that stated links and needs make, whatever is stated twice.
-use Rattle.std.specs.Prelude.{ℕ, min, max, not, ◌&&◌, ◌==◌, if◌then◌else◌, List, [], ◌∷◌, map, filter, Option, Some, None, unwrap_or}
+use Rattle.std.specs.Prelude.{ℕ, min, max, not, ◌==◌, if◌then◌else◌, List, [], ◌∷◌, map, filter, Option, Some, None, unwrap_or}
 use Rattle.st_model.specs.declared.link.Link.{Link}
 use Rattle.st_model.specs.declared.need.Need.{Need}
 use Rattle.st_model.specs.declared.need.Need.TheVariants.{Required, Pays}

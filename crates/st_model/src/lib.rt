@@ -10,7 +10,10 @@ mod branch;
 mod build;
 mod cost;
 mod instance;
+#[cfg(test)]
+mod instance_tests;
 mod judge;
+mod law;
 mod link;
 mod listed;
 mod need;
@@ -20,10 +23,13 @@ mod tree;
 #[cfg(test)]
 mod tree_tests;
 mod vertex_set;
+#[cfg(test)]
+mod vertex_set_tests;
 
 pub use branch::Branch;
 pub use cost::tree_cost;
 pub use instance::{Instance, MAX_VERTICES};
+pub use law::{halves_share_the_trees, lone_starts_miss_the_rest};
 pub use link::Link;
 pub use listed::Listed;
 pub use need::Need;

@@ -6,7 +6,7 @@ use std::alloc::{AllocError, Global};
 use std::test::Fail;
 
 // A triangle 1, 2, 3 of required vertices whose sides cost 4, and its centre 4 at 2 from each.
-fn triangle(alloc: Global) -> Result<Instance, AllocError>
+pub fn triangle(alloc: Global) -> Result<Instance, AllocError>
     ensures { IfOk result (λ i. i.n ≡ 4) }
 {
     let links = [
@@ -79,6 +79,8 @@ fn regrows_only_where_it_reaches(rt: HostRuntime) -> Result<(), Fail> {
         let refused = regrow(rt.alloc(), &instance, &tree, at).err();
         assert_eq!(rt; refused, Some(RegrowError::NotReached), "at {at}");
     }
+    let message = format!(in rt.alloc(); "{}", RegrowError::NotReached)?;
+    assert_eq!(rt; message.as_str(), "the tree doesn't reach the vertex");
     Ok(())
 }
 

@@ -1,4 +1,4 @@
-use Rattle.std.proofs.Common.{◌∙◌, sym, eqb}
+use Rattle.std.proofs.Common.{eqb}
 use Rattle.std.proofs.lemmas.List.Filters.{dedup_is}
 use Rattle.std.proofs.lemmas.Map.Keys.{IsStrictlyIncreasing-dedup}
 use Rattle.level_packing.proofs.Members.{ascending_members}

@@ -1,5 +1,3 @@
-use Rattle.std.proofs.Common.{subst, sym, ◌∙◌}
-use Rattle.st_model.specs.Made.{AreConnectedFrom, IsMadeOf}
 use Rattle.level_packing.specs.Forest.{groups}
 use Rattle.level_packing.proofs.Ending.{all_connected, all_fit, spans, weighs}
 use Rattle.level_packing.proofs.close.spanned.Goals as goal

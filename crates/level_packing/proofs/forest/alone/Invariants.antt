@@ -1,4 +1,4 @@
-use Rattle.std.proofs.Common.{◌≡◌, ℕ, ◌<◌, ◌+◌, [], ◌∷◌, map, slice_index_or, vec_len}
+use Rattle.std.proofs.Common.{◌≡◌, ℕ, ◌<◌, [], ◌∷◌, map, slice_index_or, vec_len}
 use Rattle.level_packing.proofs.forest.alone.Given as goal
 
 abbrev pub invariant-loop-vertex : goal.invariant-loop-vertex

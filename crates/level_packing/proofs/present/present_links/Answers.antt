@@ -1,9 +1,9 @@
-use Rattle.std.proofs.Common.{rules, refl, not, sym, ap, ◌∙◌, Bool, true, false, ◌≡◌}
+use Rattle.std.proofs.Common.{rules, refl, not, sym, ◌∙◌, Bool, true, false, ◌≡◌}
 use Rattle.std.proofs.lemmas.List.Sorted.{All-permutation, IsNonDecreasingBy-from_sort, answers_always}
 use Rattle.st_model.specs.declared.link.Link.{Link}
 use Rattle.st_model.specs.Lists.{has}
 use Rattle.level_packing.proofs.Linked.{kept_links, kept_present, to_come_permutation}
-use Rattle.level_packing.specs.Forest.{IsPresentLink, IsToCome}
+use Rattle.level_packing.specs.Forest.{IsPresentLink}
 use Rattle.level_packing.proofs.present.present_links.Goals as goal
 
 pub returns-clause-links : goal.returns-clause-links

@@ -1,4 +1,4 @@
-use Rattle.std.proofs.Common.{◌≡◌, ◌∙◌, sym, ap, map, slice_index_or, set, ◌-◌}
+use Rattle.std.proofs.Common.{◌∙◌, sym, ap, map, slice_index_or, set, ◌-◌}
 use Rattle.std.proofs.lemmas.List.{take_more}
 use Rattle.st_model.specs.declared.need.Need.TheVariants.{Required}
 use Rattle.st_model.specs.Lists.{up_to}

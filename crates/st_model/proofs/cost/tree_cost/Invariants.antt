@@ -1,7 +1,6 @@
 use Rattle.std.proofs.Common.{◌≡◌, [], ◌∷◌, take, drop}
 use Rattle.st_model.specs.Arborescence.{Grows, arc_cost, missed, reached_from}
 use Rattle.st_model.specs.Lists.{sum_to, total}
-use Rattle.st_model.specs.Network.{pays}
 use Rattle.st_model.proofs.cost.tree_cost.Given as goal
 
 -- what the arcs so far cost and miss, and the rest still grows

@@ -1,6 +1,5 @@
-use Rattle.std.proofs.Common.{◌∙◌, ap, sym, subst, ◌≡◌, true, false, take, drop, take_all}
+use Rattle.std.proofs.Common.{◌∙◌, sym, take, take_all}
 use Rattle.st_model.specs.Arborescence.{reached_from}
-use Rattle.st_model.specs.Marks.{AreMarks}
 use Rattle.st_model.proofs.Judging.{grows_next, reached_next}
 use Rattle.st_model.proofs.judge.grows.Goals as goal
 

@@ -1,4 +1,4 @@
-use Rattle.std.proofs.Common.{◌≡◌, ◌+◌, ◌≤◌, ℕ, true, false, slice_index_or}
+use Rattle.std.proofs.Common.{◌≡◌, ◌≤◌, ℕ, true, false, slice_index_or}
 use Rattle.std.specs.Prelude.{IsTrue}
 use Rattle.st_model.specs.Network.{is_required}
 use Rattle.st_model.proofs.judge.reaches_required.Given as goal

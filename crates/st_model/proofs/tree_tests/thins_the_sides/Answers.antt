@@ -1,4 +1,4 @@
-use Rattle.std.proofs.Common.{rules, sym, ◌∙◌, List, [], ◌∷◌, lit<}
+use Rattle.std.proofs.Common.{rules, sym, ◌∙◌, [], ◌∷◌, lit<}
 use Rattle.std.specs.Prelude.{IsTrue}
 use Rattle.std.proofs.lemmas.List.Elements.{All-from_recursion}
 use Rattle.st_model.proofs.tree_tests.thins_the_sides.Goals as goal

@@ -1,4 +1,4 @@
-use Rattle.std.proofs.Common.{◌≡◌, ◌≢◌, ℕ, ◌+◌, ◌∷◌, ◌⊎◌, inl, inr, get_or, drop, sym, ap, subst, ◌∙◌, arith}
+use Rattle.std.proofs.Common.{◌≡◌, ◌+◌, ◌∷◌, inl, inr, get_or, drop, sym, subst, ◌∙◌, arith}
 use Rattle.std.proofs.lemmas.List.{drop_more, get_or_read}
 use Rattle.st_model.specs.declared.link.Link.{Link}
 use Rattle.level_packing.specs.Forest.{IsGrown, IsPresentLink, groups, cluster_of}

@@ -1,4 +1,3 @@
-use Rattle.std.proofs.Common.{◌∙◌, ap, sym, subst}
 use Rattle.st_model.proofs.Building.{is_instance}
 use Rattle.st_model.proofs.instance.Instance.build.Goals as goal
 

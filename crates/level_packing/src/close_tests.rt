@@ -1,0 +1,292 @@
+ghost use Rattle.std.specs.Prelude.{◌≡◌, ℕ, ◌+◌, ◌≤◌, ◌||◌, IsTrue};
+ghost use Rattle.std.specs.Bool.{OnTrue};
+ghost use Rattle.st_model.specs.Branch.{is_certain};
+ghost use Rattle.st_model.specs.Lists.{has};
+ghost use Rattle.st_model.specs.Network.{IsVertex};
+ghost use Rattle.level_packing.specs.Forest.{IsPresent};
+
+use crate::search::first_present;
+use crate::{Leaf, close_all};
+use cut_packing::Cut;
+use st_model::{Branch, Instance, Link, Listed, Need, Tree, VertexSet, is_tree, tree_cost};
+use std::alloc::{AllocError, Global};
+use std::test::Fail;
+
+// How a branch was closed, by this file's own sums.
+#[derive(Clone, Copy, Debug, PartialEq, Eq)]
+enum Closing {
+    Undecided,
+    NoSpanningTree,
+    Overloaded,
+    Tree { cost: u64, weight: u64 },
+    Wall { weight: u64 },
+}
+
+// Whether a vertex is outside, inside or required.
+fn is_settled(instance: &Instance, branch: &Branch, vertex: u32) -> bool
+    requires { IsVertex instance.now.n vertex }
+    ensures { result ≡ (has branch.now.outside vertex || is_certain instance.now branch.now vertex) }
+{
+    branch.outside.as_slice().contains(&vertex)
+        || matches!(instance.need(vertex), Need::Required)
+        || branch.inside.as_slice().contains(&vertex)
+}
+
+// Whether each present vertex is required or inside.
+fn is_decided(instance: &Instance, branch: &Branch) -> bool
+    ensures { OnTrue result ((v : ℕ) → IsPresent instance.now branch.now v → IsTrue (is_certain instance.now branch.now v)) }
+{
+    for before in 0..instance.vertices() {
+        if !is_settled(instance, branch, before + 1) {
+            return false;
+        }
+    }
+    true
+}
+
+// Closes a branch, unless something is left to decide or no vertex is present.
+fn closed(
+    alloc: Global,
+    instance: &Instance,
+    branch: &Branch,
+    target: u64,
+) -> Result<Option<Leaf>, AllocError> {
+    let places = instance.vertices() as usize + 1;
+    let outside = VertexSet::of(alloc, places, branch.outside.as_slice())?;
+    let Some(_) = first_present(instance, branch, &outside) else {
+        return Ok(None);
+    };
+    if !is_decided(instance, branch) {
+        return Ok(None);
+    }
+    Ok(Some(close_all(alloc, instance, branch, target)?))
+}
+
+// Whether the tree reaches exactly the vertices that aren't outside.
+fn spans(instance: &Instance, tree: &Tree, outside: &[u32]) -> bool {
+    let arcs = tree.arcs.as_slice();
+    (0..instance.vertices()).all(|before| {
+        let vertex = before + 1;
+        let reached = tree.start == vertex || arcs.iter().any(|arc| arc.1 == vertex);
+        reached != outside.contains(&vertex)
+    })
+}
+
+// What the cuts lay on the arc between two vertices.
+fn load(cuts: &[Cut], tail: u32, head: u32) -> u64 {
+    let mut sum: u64 = 0;
+    for cut in cuts {
+        let set = cut.set.as_slice();
+        if set.contains(&head) && !set.contains(&tail) {
+            sum = sum.saturating_add(cut.y);
+        }
+    }
+    sum
+}
+
+// Whether no link between vertices that aren't outside bears more than it costs, either way.
+fn fits_links(instance: &Instance, outside: &[u32], cuts: &[Cut]) -> bool {
+    instance.links().iter().all(|link| {
+        outside.contains(&link.a)
+            || outside.contains(&link.b)
+            || load(cuts, link.a, link.b).max(load(cuts, link.b, link.a)) <= link.cost
+    })
+}
+
+// The values of the cuts, and the prizes of the vertices outside.
+fn weight(instance: &Instance, outside: &[u32], cuts: &[Cut]) -> u64 {
+    let mut sum: u64 = 0;
+    for cut in cuts {
+        sum = sum.saturating_add(cut.y);
+    }
+    for before in 0..instance.vertices() {
+        let vertex = before + 1;
+        if let Need::Pays(prize) = instance.need(vertex)
+            && outside.contains(&vertex)
+        {
+            sum = sum.saturating_add(prize);
+        }
+    }
+    sum
+}
+
+fn closing_of(
+    alloc: Global,
+    instance: &Instance,
+    inside: &[u32],
+    outside: &[u32],
+    target: u64,
+) -> Result<Closing, AllocError> {
+    let branch = Branch {
+        inside: Listed::of(Vec::from_slice(alloc, inside)?),
+        outside: Listed::of(Vec::from_slice(alloc, outside)?),
+    };
+    let Some(leaf) = closed(alloc, instance, &branch, target)? else {
+        return Ok(Closing::Undecided);
+    };
+    let (tree, packing) = match leaf {
+        Leaf::Tree(tree, packing) => (Some(tree), packing),
+        Leaf::Wall(packing) => (None, packing),
+    };
+    let cuts = packing.cuts.as_slice();
+    if !fits_links(instance, outside, cuts) {
+        return Ok(Closing::Overloaded);
+    }
+    let weight = weight(instance, outside, cuts);
+    let Some(tree) = tree else {
+        return Ok(Closing::Wall { weight });
+    };
+    if !is_tree(alloc, instance, &tree)? || !spans(instance, &tree, outside) {
+        return Ok(Closing::NoSpanningTree);
+    }
+    let cost = tree_cost(instance, &tree);
+    Ok(Closing::Tree { cost, weight })
+}
+
+#[test]
+fn closes_the_triangle(rt: HostRuntime) -> Result<(), Fail> {
+    let links = [
+        Link {
+            a: 1,
+            b: 4,
+            cost: 2,
+        },
+        Link {
+            a: 2,
+            b: 4,
+            cost: 2,
+        },
+        Link {
+            a: 3,
+            b: 4,
+            cost: 2,
+        },
+        Link {
+            a: 1,
+            b: 2,
+            cost: 4,
+        },
+        Link {
+            a: 2,
+            b: 3,
+            cost: 4,
+        },
+        Link {
+            a: 1,
+            b: 3,
+            cost: 4,
+        },
+    ];
+    let needs = [
+        (1, Need::Required),
+        (2, Need::Required),
+        (3, Need::Required),
+    ];
+    let instance = Instance::build(rt.alloc(), 4, &links, &needs)?;
+    let with_centre = closing_of(rt.alloc(), &instance, &[4], &[], 9)?;
+    assert_eq!(rt; with_centre, Closing::Tree { cost: 6, weight: 6 });
+    let without_centre = closing_of(rt.alloc(), &instance, &[], &[4], 9)?;
+    assert_eq!(rt; without_centre, Closing::Tree { cost: 8, weight: 8 });
+    let undecided = closing_of(rt.alloc(), &instance, &[], &[], 9)?;
+    assert_eq!(rt; undecided, Closing::Undecided);
+    Ok(())
+}
+
+#[test]
+fn closes_parts_that_are_not_joined(rt: HostRuntime) -> Result<(), Fail> {
+    let links = [
+        Link {
+            a: 1,
+            b: 2,
+            cost: 3,
+        },
+        Link {
+            a: 3,
+            b: 4,
+            cost: 5,
+        },
+    ];
+    let instance = Instance::build(rt.alloc(), 4, &links, &[(4, Need::Pays(7))])?;
+    let both = closing_of(rt.alloc(), &instance, &[1, 2, 3, 4], &[], 9)?;
+    assert!(rt; matches!(both, Closing::Wall { weight: 9.. }), "{both:?}");
+    let first = closing_of(rt.alloc(), &instance, &[1, 2], &[3, 4], 9)?;
+    assert_eq!(rt;
+        first,
+        Closing::Tree {
+            cost: 10,
+            weight: 10
+        }
+    );
+    let one = closing_of(rt.alloc(), &instance, &[3], &[1, 2, 4], 9)?;
+    assert_eq!(rt; one, Closing::Tree { cost: 7, weight: 7 });
+    Ok(())
+}
+
+#[test]
+fn closes_along_the_cheapest_links(rt: HostRuntime) -> Result<(), Fail> {
+    let rising = [
+        Link {
+            a: 1,
+            b: 4,
+            cost: 7,
+        },
+        Link {
+            a: 2,
+            b: 3,
+            cost: 2,
+        },
+        Link {
+            a: 3,
+            b: 4,
+            cost: 4,
+        },
+        Link {
+            a: 1,
+            b: 2,
+            cost: 1,
+        },
+    ];
+    let ring = Instance::build(rt.alloc(), 4, &rising, &[])?;
+    let equal = [
+        Link {
+            a: 1,
+            b: 2,
+            cost: 5,
+        },
+        Link {
+            a: 2,
+            b: 3,
+            cost: 5,
+        },
+        Link {
+            a: 3,
+            b: 1,
+            cost: 5,
+        },
+    ];
+    let even = Instance::build(rt.alloc(), 3, &equal, &[])?;
+    let free = [
+        Link {
+            a: 1,
+            b: 2,
+            cost: 0,
+        },
+        Link {
+            a: 2,
+            b: 3,
+            cost: 0,
+        },
+    ];
+    let gift = Instance::build(rt.alloc(), 3, &free, &[])?;
+    let lone = Instance::build(rt.alloc(), 1, &[], &[])?;
+    for (instance, inside, cost) in [
+        (&ring, [1, 2, 3, 4].as_slice(), 7),
+        (&even, [1, 2, 3].as_slice(), 10),
+        (&gift, [1, 2, 3].as_slice(), 0),
+        (&lone, [1].as_slice(), 0),
+    ] {
+        let closing = closing_of(rt.alloc(), instance, inside, &[], 0)?;
+        assert_eq!(rt; closing, Closing::Tree { cost, weight: cost });
+    }
+    Ok(())
+}

@@ -1,0 +1,217 @@
+use crate::tree_tests::triangle;
+use crate::{Instance, Link, Listed, Need, Tree, is_tree, tree_cost};
+use std::alloc::{AllocError, Global};
+use std::test::Fail;
+
+#[test]
+fn builds_one_link_and_one_need_each(rt: HostRuntime) -> Result<(), Fail> {
+    let stated_links = [
+        Link {
+            a: 1,
+            b: 2,
+            cost: 5,
+        },
+        Link {
+            a: 3,
+            b: 2,
+            cost: 7,
+        },
+        Link {
+            a: 2,
+            b: 1,
+            cost: 3,
+        },
+        Link {
+            a: 4,
+            b: 4,
+            cost: 1,
+        },
+        Link {
+            a: 2,
+            b: 3,
+            cost: 9,
+        },
+        Link {
+            a: 1,
+            b: 2,
+            cost: 4,
+        },
+    ];
+    let stated_needs = [
+        (1, Need::Pays(3)),
+        (2, Need::Pays(4)),
+        (2, Need::Required),
+        (1, Need::Pays(9)),
+        (3, Need::Required),
+        (3, Need::Pays(8)),
+        (1, Need::Pays(2)),
+    ];
+    let instance = Instance::build(rt.alloc(), 4, &stated_links, &stated_needs)?;
+    let links = [
+        Link {
+            a: 1,
+            b: 2,
+            cost: 3,
+        },
+        Link {
+            a: 2,
+            b: 3,
+            cost: 7,
+        },
+    ];
+    assert_eq!(rt; instance.vertices(), 4);
+    assert_eq!(rt; instance.links(), links.as_slice());
+    for (vertex, need) in [
+        (1, Need::Pays(9)),
+        (2, Need::Required),
+        (3, Need::Required),
+        (4, Need::Pays(0)),
+    ] {
+        assert_eq!(rt; instance.need(vertex), need, "at {vertex}");
+    }
+    for (a, b, cost) in [
+        (1, 2, Some(3)),
+        (2, 1, Some(3)),
+        (2, 3, Some(7)),
+        (3, 2, Some(7)),
+        (1, 3, None),
+        (4, 4, None),
+        (0, 1, None),
+        (1, 5, None),
+    ] {
+        assert_eq!(rt; instance.link_cost(a, b), cost, "between {a} and {b}");
+    }
+    Ok(())
+}
+
+#[test]
+fn builds_a_single_vertex(rt: HostRuntime) -> Result<(), Fail> {
+    let instance = Instance::build(rt.alloc(), 1, &[], &[])?;
+    assert_eq!(rt; instance.vertices(), 1);
+    assert!(rt; instance.links().is_empty());
+    assert_eq!(rt; instance.need(1), Need::Pays(0));
+    assert_eq!(rt; cost_of(rt.alloc(), &instance, 1, &[])?, Some(0));
+    Ok(())
+}
+
+// What the tree costs, if it is one.
+fn cost_of(
+    alloc: Global,
+    instance: &Instance,
+    start: u32,
+    arcs: &[(u32, u32)],
+) -> Result<Option<u64>, AllocError> {
+    let tree = Tree {
+        start,
+        arcs: Listed::of(Vec::from_slice(alloc, arcs)?),
+    };
+    if is_tree(alloc, instance, &tree)? {
+        Ok(Some(tree_cost(instance, &tree)))
+    } else {
+        Ok(None)
+    }
+}
+
+#[test]
+fn judges_trees_of_the_triangle(rt: HostRuntime) -> Result<(), Fail> {
+    let instance = triangle(rt.alloc())?;
+    for (start, arcs, cost, why) in [
+        (
+            1,
+            [(1, 4), (4, 2), (4, 3)].as_slice(),
+            Some(6),
+            "over the centre",
+        ),
+        (
+            4,
+            [(4, 2), (4, 1), (4, 3)].as_slice(),
+            Some(6),
+            "from the centre",
+        ),
+        (1, [(1, 2), (2, 3)].as_slice(), Some(8), "two sides"),
+        (
+            1,
+            [(1, 2), (1, 4), (4, 3)].as_slice(),
+            Some(8),
+            "a side and the centre",
+        ),
+        (
+            1,
+            [(1, 2), (2, 3), (1, 3)].as_slice(),
+            None,
+            "a head that is reached",
+        ),
+        (
+            1,
+            [(1, 2), (2, 3), (2, 1)].as_slice(),
+            None,
+            "the start as a head",
+        ),
+        (
+            1,
+            [(1, 2), (4, 3)].as_slice(),
+            None,
+            "a tail that isn't reached",
+        ),
+        (
+            1,
+            [(4, 2), (1, 4), (4, 3)].as_slice(),
+            None,
+            "a tail that is reached later",
+        ),
+        (
+            1,
+            [(1, 2), (2, 5), (2, 3)].as_slice(),
+            None,
+            "no such vertex",
+        ),
+        (1, [(1, 2), (2, 2), (2, 3)].as_slice(), None, "no such link"),
+        (
+            1,
+            [(1, 4), (4, 2)].as_slice(),
+            None,
+            "a required vertex that isn't reached",
+        ),
+        (0, [].as_slice(), None, "the start is 0"),
+        (5, [].as_slice(), None, "the start is past the last vertex"),
+    ] {
+        assert_eq!(rt; cost_of(rt.alloc(), &instance, start, arcs)?, cost, "{why}");
+    }
+    Ok(())
+}
+
+#[test]
+fn prizes_that_are_missed_are_paid(rt: HostRuntime) -> Result<(), Fail> {
+    let links = [
+        Link {
+            a: 1,
+            b: 2,
+            cost: 2,
+        },
+        Link {
+            a: 2,
+            b: 3,
+            cost: 4,
+        },
+    ];
+    let needs = [
+        (1, Need::Required),
+        (2, Need::Pays(50)),
+        (3, Need::Pays(700)),
+    ];
+    let instance = Instance::build(rt.alloc(), 3, &links, &needs)?;
+    for (start, arcs, cost) in [
+        (1, [].as_slice(), Some(750)),
+        (1, [(1, 2)].as_slice(), Some(702)),
+        (1, [(1, 2), (2, 3)].as_slice(), Some(6)),
+        (3, [(3, 2), (2, 1)].as_slice(), Some(6)),
+        (3, [(3, 2)].as_slice(), None),
+    ] {
+        assert_eq!(rt;
+            cost_of(rt.alloc(), &instance, start, arcs)?,
+            cost,
+            "from {start}"
+        );
+    }
+    Ok(())
+}
