@@ -1,0 +1,7 @@
+pub mod Sums
+pub mod Members
+pub mod Marked
+pub mod ArcLists
+pub mod Turned
+pub mod Charged
+pub mod Duality

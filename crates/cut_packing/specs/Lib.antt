@@ -1,0 +1,6 @@
+pub mod VertexSet
+pub mod Packing
+pub mod Loads
+pub mod Full
+pub mod ProofTree
+pub mod Laws

@@ -1,0 +1,19 @@
+//! Directed cuts with values that bound every tree of a branch from below.
+//!
+//! A `Packing` that *fits* a branch of an instance weighs at most what any tree of the branch
+//! costs (`weak_duality`), and so does what a proof tree of splits and packings proves
+//! (`proof_tree_bounds`). `fits`, `weight` and `is_full` compute the definitions of their names; a
+//! caller may rely on them exactly, for every packing, whatever stands in it.
+#![tactic(auto)]
+
+mod arcs;
+mod cut;
+mod law;
+mod packing;
+mod vertex_set;
+mod weighing;
+
+pub use cut::Cut;
+pub use law::{proof_tree_bounds, weak_duality};
+pub use packing::Packing;
+pub use weighing::weight;
