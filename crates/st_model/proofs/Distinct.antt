@@ -1,7 +1,7 @@
 -- The arcs of a tree that grows are different links, so they cost no more than all links do.
-use Rattle.std.proofs.Common.{◌≡◌, ℕ, ◌+◌, ◌≤◌, Bool, true, false, cond, ◌&&◌, ◌||◌, eqb, List, [], ◌∷◌, map, Option, Some, None, refl, sym, ap, arith, ◌⊎◌, inl, inr, eq-eqb, ◌∙◌}
+use Rattle.std.proofs.Common.{◌≡◌, ℕ, ◌+◌, ◌≤◌, Bool, true, false, cond, ◌&&◌, ◌||◌, eqb, List, [], ◌∷◌, map, Some, refl, ap, arith, ◌⊎◌, inl, inr, eq-eqb, ◌∙◌}
 use Rattle.std.proofs.Math.Bool.{or_comm}
-use Rattle.std.specs.Prelude.{◌==◌, IsTrue, IsFalse, IsSome, unwrap_or, All}
+use Rattle.std.specs.Prelude.{◌==◌, IsTrue, unwrap_or, All}
 use Rattle.std.proofs.lemmas.Bool.Decides.{nat_tests}
 use Rattle.st_model.specs.declared.link.Link.{Link}
 use Rattle.st_model.specs.Lists.{has, total}

@@ -10,3 +10,7 @@ pub mod Distinct
 pub mod ThinLists
 pub mod ThinGrowth
 pub mod ThinSettled
+pub mod RegrowSteps
+pub mod RegrowLaws
+pub mod RegrowAlike
+pub mod Marked

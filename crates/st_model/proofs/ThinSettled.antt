@@ -1,27 +1,28 @@
 -- When nothing that is reached has a neighbour that isn't, all ends of connected pairs are reached.
-use Rattle.std.proofs.Common.{◌≡◌, ℕ, zero, suc, ◌+◌, ◌<◌, ◌≤◌, Bool, true, false, ◌||◌, ◌&&◌, ◌⊎◌, inl, inr, eqb, List, [], ◌∷◌, ◌++◌, length, get_or, take, drop, refl, sym, ap, ◌∙◌, arith, subst, eq-eqb}
-use Rattle.std.specs.Prelude.{IsTrue, IsSome, All}
-use Rattle.std.specs.List.{AllByRecursion, list_any}
+use Rattle.std.proofs.Common.{◌≡◌, ℕ, zero, suc, ◌+◌, ◌<◌, Bool, true, false, ◌||◌, inl, inr, List, [], ◌∷◌, ◌++◌, length, get_or, take, drop, refl, sym, ap, ◌∙◌, arith, subst, eq-eqb}
+use Rattle.std.specs.Prelude.{IsTrue, All}
+use Rattle.std.specs.List.{AllByRecursion}
 use Rattle.std.proofs.lemmas.Bool.Decides.{eqb_tells}
-use Rattle.std.proofs.lemmas.List.Elements.{recursion_from_All, All-from_recursion}
-use Rattle.std.proofs.lemmas.List.{take_more, take-append-drop, take-append-le}
+use Rattle.std.proofs.lemmas.List.Elements.{recursion_from_All}
+use Rattle.std.proofs.lemmas.List.{take-append-drop, take-append-le}
 use Rattle.std.proofs.Math.Seq.{take-length}
 use Rattle.std.proofs.Math.Bool.{or_comm}
 use Rattle.std.proofs.lemmas.List.Folds.{list_any_at}
 use Rattle.st_model.specs.Lists.{has}
-use Rattle.st_model.specs.Network.{Network, IsInstance, link}
 use Rattle.st_model.specs.Arborescence.{reached_from}
 use Rattle.st_model.specs.Made.{is_between, has_pair, AreConnectedFrom}
-use Rattle.st_model.specs.Growth.{neighbours, reaches, HasReached, AreSettled}
+use Rattle.st_model.specs.Growth.{neighbours, reaches, AreSettled}
 use Rattle.st_model.proofs.Distinct.{has-cons_head}
-use Rattle.st_model.proofs.ThinGrowth.{reached_from-push, has-neighbours, has-reached_from, has-reached_from_take, link-from_pair, link-vertices}
+use Rattle.st_model.proofs.Judging.{reached_next}
+use Rattle.st_model.proofs.ThinGrowth.{has-neighbours, has-reached_from, has-reached_from_take}
 
 -- what holds of all holds of each that is there
 All-has : (P : ℕ → Type 0) (xs : List ℕ) (v : ℕ) → AllByRecursion P xs → IsTrue (has xs v) → P v
 All-has P [] v all h = cc
 All-has P (x ∷ xs) v all h = elim (eqb_tells x v) [
-  inl e ↦ subst P e.1 all.0
-  | inr e ↦ All-has P xs v all.1 (rw e.0 at h) ]
+  | inl e ↦ subst P e.1 all.0
+  | inr e ↦ All-has P xs v all.1 (rw e.0 at h)
+]
 
 -- the head of each arc is reached
 pub reaches-head : (r : List ℕ) (arcs : List (ℕ × ℕ)) (i : ℕ) (d : ℕ × ℕ) → i < length arcs → IsTrue (has (reached_from r arcs) (get_or arcs i d).1)
@@ -37,8 +38,9 @@ settled-one pairs start arcs heads v w reached are pair =
 -- at first, once those of the start are
 pub AreSettled-start : (pairs : List (ℕ × ℕ)) (start : ℕ) (arcs : List (ℕ × ℕ)) (heads : List ℕ) → All (λ head. IsTrue (reaches start arcs head)) heads → heads ≡ neighbours pairs start → AreSettled pairs start arcs 0
 AreSettled-start pairs start arcs heads reached are v w first pair = elim (eqb_tells start v) [
-  inl e ↦ settled-one pairs start arcs heads v w reached (are ∙ ap (neighbours pairs) e.1) pair
-  | inr e ↦ let none : (false || false) ≡ true = rw e.0 at first in cc ]
+  | inl e ↦ settled-one pairs start arcs heads v w reached (are ∙ ap (neighbours pairs) e.1) pair
+  | inr e ↦ let none : (false || false) ≡ true = rw e.0 at first in cc
+]
 
 -- with the head of the next arc, once its neighbours are reached
 pub AreSettled-more : (pairs : List (ℕ × ℕ)) (start : ℕ) (old new : List (ℕ × ℕ)) (next : ℕ) (heads : List ℕ) (tail : ℕ) (d : ℕ × ℕ) → AreSettled pairs start old next → next < length old → take (length old) new ≡ old → tail ≡ (get_or old next d).1 → All (λ head. IsTrue (reaches start new head)) heads → heads ≡ neighbours pairs tail → AreSettled pairs start new (next + 1)
@@ -46,22 +48,23 @@ AreSettled-more pairs start old new next heads tail d settled in_range extends t
     let arc = get_or old next d in
     let r = start ∷ [] in
     let new_is : new ≡ old ++ drop (length old) new = sym (take-append-drop (length old) new) ∙ ap (λ l. l ++ drop (length old) new) extends in
-    let first_are : take (next + 1) new ≡ take next old ++ arc ∷ [] = ap (take (next + 1)) new_is ∙ (take-append-le (next + 1) old (drop (length old) new) (omega arith) ∙ take_more old next d in_range) in
-    let reached_first : IsTrue (has (arc.1 ∷ reached_from r (take next old)) v) = sym (ap (λ l. has l v) (ap (reached_from r) first_are ∙ reached_from-push r (take next old) arc.0 arc.1)) ∙ first in
+    let first_are : take (next + 1) new ≡ take (next + 1) old = ap (take (next + 1)) new_is ∙ take-append-le (next + 1) old (drop (length old) new) (omega arith) in
+    let reached_first : IsTrue (has (arc.1 ∷ reached_from r (take next old)) v) = sym (ap (λ l. has l v) (ap (reached_from r) first_are ∙ reached_next r old next d in_range)) ∙ first in
     elim (eqb_tells arc.1 v) [
-      inl e ↦ settled-one pairs start new heads v w reached (are ∙ ap (neighbours pairs) (tail_is ∙ e.1)) pair
+      | inl e ↦ settled-one pairs start new heads v w reached (are ∙ ap (neighbours pairs) (tail_is ∙ e.1)) pair
       | inr e ↦
-        let before : IsTrue (has (reached_from r (take next old)) v) = rw e.0 at reached_first in
-        has-reached_from_take r new (length old) w (rw extends (settled v w before pair)) ]
+          let before : IsTrue (has (reached_from r (take next old)) v) = rw e.0 at reached_first in
+          has-reached_from_take r new (length old) w (rw extends (settled v w before pair))
+    ]
 
 -- at the end
 pub all-reached : (pairs : List (ℕ × ℕ)) (start : ℕ) (arcs : List (ℕ × ℕ)) → AreSettled pairs start arcs (length arcs) → AreConnectedFrom start pairs → All (λ pair. IsTrue (reaches start arcs pair.0) × IsTrue (reaches start arcs pair.1)) pairs
 all-reached pairs start arcs settled connected =
     let same : All (λ pair. reaches start arcs pair.0 ≡ reaches start arcs pair.1) pairs = λ k d in_range.
-      let pair = get_or pairs k d in
-      same_test (reaches start arcs pair.0) (reaches start arcs pair.1)
-        (λ h. settled pair.0 pair.1 (rw take-length h) (pair-there pairs k d pair.0 pair.1 in_range (itself pair)))
-        (λ h. settled pair.1 pair.0 (rw take-length h) (pair-there pairs k d pair.1 pair.0 in_range (itself_turned pair))) in
+    let pair = get_or pairs k d in
+    same_test (reaches start arcs pair.0) (reaches start arcs pair.1)
+    (λ h. settled pair.0 pair.1 (rw take-length h) (pair-there pairs k d pair.0 pair.1 in_range (itself pair)))
+    (λ h. settled pair.1 pair.0 (rw take-length h) (pair-there pairs k d pair.1 pair.0 in_range (itself_turned pair))) in
     let firsts = connected (reaches start arcs) (has-reached_from (start ∷ []) arcs start (has-cons_head [] start start refl)) same in
     λ k d in_range. (firsts k d in_range, sym (same k d in_range) ∙ firsts k d in_range)
   where

@@ -1,11 +1,12 @@
 -- Who stands beside whom in a list of pairs, and a tree that is being grown of them.
-use Rattle.std.specs.Prelude.{◌≡◌, ℕ, ◌+◌, ◌≤◌, ◌==◌, Bool, false, IsTrue, if◌then◌else◌, List, [], ◌∷◌, ◌++◌, length, take, All, slice_index_or, sum_by}
+use Rattle.std.specs.Prelude.{◌≡◌, ℕ, ◌+◌, ◌≤◌, ◌==◌, Bool, IsTrue, if◌then◌else◌, List, [], ◌∷◌, ◌++◌, length, take, All, sum_by}
 use Rattle.std.specs.List.{flat_map}
 use Rattle.st_model.specs.declared.thinning.Growth.{Growth}
 use Rattle.st_model.specs.Lists.{has}
 use Rattle.st_model.specs.Network.{Network}
 use Rattle.st_model.specs.Arborescence.{reached_from, Grows}
 use Rattle.st_model.specs.Made.{has_pair}
+use Rattle.st_model.specs.Marks.{AreMarks}
 
 -- the other end of the pair, for each of its ends that is v
 abbrev pub others : ℕ → ℕ × ℕ → List ℕ
@@ -23,8 +24,7 @@ reaches start arcs v = has (reached_from (start ∷ []) arcs) v
 pub record IsGrowth (I : Network) (pairs : List (ℕ × ℕ)) (start : ℕ) (g : Growth) : Type 0 where
   pub grows : Grows I (start ∷ []) g.arcs.items
   pub made : All (λ arc. IsTrue (has_pair pairs arc.0 arc.1)) g.arcs.items
-  pub marks : length g.marked.items ≡ I.n + 1
-  pub marked : (v : ℕ) → v ≤ I.n → slice_index_or g.marked.items v false ≡ reaches start g.arcs.items v
+  pub marks : AreMarks I.n g.marked.items (reached_from (start ∷ []) g.arcs.items)
   -- each arc took a vertex that wasn't marked, and the start is marked
   pub room : length g.arcs.items + sum_by (λ mark. if mark then 0 else 1) g.marked.items ≤ I.n
 

@@ -7,3 +7,5 @@ pub mod Arborescence
 pub mod Branch
 pub mod Made
 pub mod Growth
+pub mod Regrown
+pub mod VertexSet

@@ -14,8 +14,12 @@ mod judge;
 mod link;
 mod listed;
 mod need;
+mod regrowing;
 mod thinning;
 mod tree;
+#[cfg(test)]
+mod tree_tests;
+mod vertex_set;
 
 pub use branch::Branch;
 pub use cost::tree_cost;
@@ -23,5 +27,7 @@ pub use instance::{Instance, MAX_VERTICES};
 pub use link::Link;
 pub use listed::Listed;
 pub use need::Need;
+pub use regrowing::{RegrowError, regrow, regrowing_keeps_trees};
 pub use thinning::thin;
 pub use tree::{Tree, is_tree};
+pub use vertex_set::VertexSet;

@@ -5,6 +5,7 @@ ghost use Rattle.st_model.specs.Arborescence.{IsArborescence, Grows, reached};
 ghost use Rattle.st_model.specs.Made.{has_pair, IsMadeOf, AreConnectedFrom};
 ghost use Rattle.st_model.specs.Growth.{neighbours, reaches, IsGrowth, AreSettled};
 
+use crate::judge::marks_of;
 use crate::{Instance, Listed, Tree};
 use std::alloc::{AllocError, Global};
 
@@ -79,8 +80,7 @@ impl Growth {
         ensures growth { IfOk result (IsGrowth instance.now links.now start) }
         ensures start { IfOk result (λ growth. growth.arcs.items ≡ []) }
     {
-        let mut marked = vec![in alloc; false; instance.vertices() as usize + 1]?;
-        marked[start as usize] = true;
+        let marked = marks_of(alloc, instance.vertices(), start)?;
         Ok(Growth {
             arcs: Vec::new(alloc),
             marked,

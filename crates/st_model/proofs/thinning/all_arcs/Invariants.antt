@@ -1,4 +1,4 @@
-use Rattle.std.proofs.Common.{◌≡◌, ℕ, ◌-◌, ◌≤◌, length}
+use Rattle.std.proofs.Common.{◌-◌, ◌≤◌, length}
 use Rattle.st_model.specs.Growth.{IsGrowth, AreSettled}
 use Rattle.st_model.proofs.thinning.all_arcs.Given as goal
 

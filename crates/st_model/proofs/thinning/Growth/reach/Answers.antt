@@ -8,12 +8,12 @@ use Rattle.st_model.proofs.thinning.Growth.reach.Goals as goal
 pub index-requires : goal.index-requires
 index-requires c =
     let small = neighbour-vertex c.args.instance.now c.args.links.now c.args.tail c.args.heads.now c.loop-head.head-index c.requires.instance c.requires.links c.requires.heads c.loop-head-test.true in
-    omega (arith, c.loop-head.invariant.growth.marks, small)
+    omega (arith, c.loop-head.invariant.growth.marks.long, small)
 
 pub index_mut-requires : goal.index_mut-requires
 index_mut-requires c =
     let small = neighbour-vertex c.args.instance.now c.args.links.now c.args.tail c.args.heads.now c.loop-head.head-index c.requires.instance c.requires.links c.requires.heads c.loop-head-test.true in
-    omega (arith, c.loop-head.invariant.growth.marks, small)
+    omega (arith, c.loop-head.invariant.growth.marks.long, small)
 
 pub loop-head-preserved : goal.loop-head-preserved
 loop-head-preserved c =

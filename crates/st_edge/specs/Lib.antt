@@ -1,0 +1,7 @@
+pub mod DiskShelf
+pub mod Faults
+pub mod MemoryShelf
+pub mod MemorySink
+pub mod Shelf
+pub mod Sink
+pub mod StdSink

@@ -1,0 +1,21 @@
+-- What a load and a save of a shelf do to the texts under their names.
+use Rattle.std.specs.Prelude.{◌≡◌, ◌≢◌, ℕ, ◌<◌, ◌≤◌, List, length, Option, IfSome, Result, IfOk, IsErrOf}
+use Rattle.std.specs.declared.alloc.Global.{Global}
+use Rattle.std.specs.declared.vec.Vec.{Vec}
+use Rattle.st_edge.specs.declared.shelf.LoadFault.{LoadFault}
+use Rattle.st_edge.specs.declared.shelf.LoadFault.TheVariants.{TooLong}
+
+-- A load answers a text within the limit: the one that was told, where one was.
+-- It says that a text is too long only where that text is longer than the limit.
+pub record Loads (told : Option (List ℕ)) (limit : ℕ) (result : Result (Vec ℕ Global) LoadFault) : Type 0 where
+  pub within : IfOk result (λ bytes. length bytes.items ≤ limit)
+  pub text : IfSome told (λ text. IfOk result (λ bytes. bytes.items ≡ text))
+  pub too_long : IfSome told (λ text. IsErrOf result TooLong → limit < length text)
+
+-- every name has the text that it had
+abbrev pub SameTexts : (List ℕ → Option (List ℕ)) → (List ℕ → Option (List ℕ)) → Type 0
+SameTexts old new = (name : List ℕ) → new name ≡ old name
+
+-- every other name has the text that it had
+abbrev pub SameOtherTexts : List ℕ → (List ℕ → Option (List ℕ)) → (List ℕ → Option (List ℕ)) → Type 0
+SameOtherTexts name old new = (other : List ℕ) → other ≢ name → new other ≡ old other

@@ -1,0 +1,193 @@
+ghost use Rattle.std.specs.Prelude.{◌≡◌, ◌≢◌, ◌<◌, ◌≤◌, ◌↔◌, length, Err, IfOk, IsErrOf};
+ghost use Rattle.std.specs.Io.{ReadsAtMost};
+ghost use Rattle.std.specs.IoError.{error_kind};
+ghost use Rattle.std.specs.Io.KnownBytes.{ReadConsumes};
+ghost use Rattle.st_edge.specs.Faults.{one_more, HasCause};
+ghost use Rattle.st_edge.specs.Shelf.{Loads};
+
+use crate::{LoadFault, SaveFault, Shelf};
+use std::alloc::{AllocError, Global};
+use std::fs::File;
+use std::io::{ErrorKind, Read};
+use std::marker::Model;
+use std::rt::Files;
+use std::{fs, io};
+
+/// How many bytes a load asks a file for at once.
+const PIECE: usize = 1 << 16;
+
+/// Files, by their paths, as the runtime reaches them. What they hold is not known.
+#[derive(Drop)]
+pub struct DiskShelf<R> {
+    files: R,
+    read_faults: u64,
+    write_faults: u64,
+}
+
+impl<R> Model for DiskShelf<R> {
+    ghost use Rattle.st_edge.specs.DiskShelf.{FaultCounts};
+
+    ghost Value = { FaultCounts };
+
+    ghost view = { λ s. record { read_faults = s.read_faults; write_faults = s.write_faults } };
+}
+
+impl<R> DiskShelf<R> {
+    /// A shelf over the files that the runtime reaches.
+    pub fn new(files: R) -> Self
+        ensures { result ≡ record { read_faults = 0; write_faults = 0 } }
+    {
+        DiskShelf {
+            files,
+            read_faults: 0,
+            write_faults: 0,
+        }
+    }
+}
+
+impl<R: Files> Shelf for DiskShelf<R> {
+    ghost use Rattle.std.specs.Prelude.{None};
+
+    ghost text = { λ _ _. None };
+
+    ghost read_faults = { λ s. s.read_faults };
+
+    ghost write_faults = { λ s. s.write_faults };
+
+    /// A directory, a name that isn't there and a name without permission are `Failed`.
+    fn load(&mut self, alloc: Global, name: &str, limit: u64) -> Result<Vec<u8>, LoadFault>
+        ensures counted { IsErrOf result LoadFault.Failed
+            → self.new ≡ record self.old { read_faults = one_more self.old.read_faults } }
+        ensures kept { result ≢ Err LoadFault.Failed → self.new ≡ self.old }
+
+        // As of every shelf, where nothing is told of the texts.
+        ensures within { IfOk result (λ bytes. length bytes.items ≤ limit) }
+        ensures cause { HasCause self.old.read_faults self.new.read_faults (IsErrOf result LoadFault.Failed) }
+        ensures write_faults { self.new.write_faults ≡ self.old.write_faults }
+    {
+        let result = load_file(&self.files, alloc, name, limit);
+        if let Err(LoadFault::Failed) = result {
+            self.read_faults = self.read_faults.saturating_add(1);
+        }
+        result
+    }
+
+    /// The file is made, or emptied and written again: after `Failed` or `NoMemory` it may hold a front of the bytes.
+    fn save(&mut self, name: &str, bytes: &[u8]) -> Result<(), SaveFault>
+        ensures counted { IsErrOf result SaveFault.Failed
+            → self.new ≡ record self.old { write_faults = one_more self.old.write_faults } }
+        ensures kept { result ≢ Err SaveFault.Failed → self.new ≡ self.old }
+
+        // As of every shelf, where nothing is told of the texts.
+        ensures cause { HasCause self.old.write_faults self.new.write_faults (IsErrOf result SaveFault.Failed) }
+        ensures read_faults { self.new.read_faults ≡ self.old.read_faults }
+    {
+        let result = fs::write(&self.files, name, bytes).map_err(save_fault_of);
+        if let Err(SaveFault::Failed) = result {
+            self.write_faults = self.write_faults.saturating_add(1);
+        }
+        result
+    }
+}
+
+fn load_file<R: Files>(
+    files: &R,
+    alloc: Global,
+    name: &str,
+    limit: u64,
+) -> Result<Vec<u8>, LoadFault>
+    ensures { IfOk result (λ bytes. length bytes.items ≤ limit) }
+{
+    let mut file = File::open(files, name).map_err(load_fault_of)?;
+    let mut piece = zeros(alloc, PIECE)?;
+    read_within(alloc, &mut file, &mut piece, limit)
+}
+
+// A buffer of this length. A function of its own, so that no proof writes the zeros out.
+fn zeros(alloc: Global, len: usize) -> Result<Vec<u8>, AllocError>
+    ensures { IfOk result (λ zeros. length zeros.items ≡ len) }
+{
+    vec![in alloc; 0; len]
+}
+
+// Reads to the end, a piece at a time, or until `limit + 1` bytes have come.
+fn read_within<S: Read>(
+    alloc: Global,
+    source: &mut S,
+    piece: &mut [u8],
+    limit: u64,
+) -> Result<Vec<u8>, LoadFault>
+    requires { 0 < length piece.old }
+    ensures { Loads (S.remaining source.old) limit result }
+{
+    let mut text = Vec::new(alloc);
+    loop {
+        let count = read_piece(source, piece)?;
+        if count == 0 {
+            return Ok(text);
+        }
+        if limit - (text.len() as u64) < count as u64 {
+            return Err(LoadFault::TooLong);
+        }
+        text.extend_from_slice(&piece[..count])?;
+    }
+}
+
+fn read_piece<S: Read>(source: &mut S, piece: &mut [u8]) -> Result<usize, LoadFault>
+    ensures bound { ReadsAtMost result piece.new }
+    ensures bytes { ReadConsumes (S.remaining source.old) (S.remaining source.new) result piece.new }
+    ensures never_long { result ≢ Err LoadFault.TooLong }
+{
+    source.read(piece).map_err(load_fault_of)
+}
+
+fn load_fault_of(error: io::Error) -> LoadFault
+    ensures no_memory { (result ≡ LoadFault.NoMemory) ↔ (error_kind error ≡ ErrorKind.OutOfMemory) }
+    ensures never_long { result ≢ LoadFault.TooLong }
+{
+    match error.kind() {
+        ErrorKind::OutOfMemory => LoadFault::NoMemory,
+        _ => LoadFault::Failed,
+    }
+}
+
+fn save_fault_of(error: io::Error) -> SaveFault
+    ensures { (result ≡ SaveFault.NoMemory) ↔ (error_kind error ≡ ErrorKind.OutOfMemory) }
+{
+    match error.kind() {
+        ErrorKind::OutOfMemory => SaveFault::NoMemory,
+        _ => SaveFault::Failed,
+    }
+}
+
+#[cfg(test)]
+mod tests {
+    use super::*;
+
+    /// Gives two bytes at a time, and fails after so many reads.
+    #[derive(Drop)]
+    struct Worn(u8);
+
+    impl Read for Worn {
+        fn read(&mut self, buf: &mut [u8]) -> io::Result<usize> {
+            if self.0 == 0 {
+                return Err(io::Error::from(ErrorKind::TimedOut));
+            }
+            self.0 -= 1;
+            Ok(buf.len().min(2))
+        }
+    }
+
+    #[test]
+    fn a_read_that_fails_in_mid_stream_is_told(rt: HostRuntime) {
+        for (reads, limit, want) in [
+            (0, 9, LoadFault::Failed),
+            (2, 9, LoadFault::Failed),
+            (2, 4, LoadFault::Failed),
+            (2, 3, LoadFault::TooLong),
+        ] {
+            let read = read_within(rt.alloc(), &mut Worn(reads), &mut [0; 4], limit);
+            assert_eq!(rt; read.err(), Some(want), "{reads} reads, limit {limit}");
+        }
+    }
+}
