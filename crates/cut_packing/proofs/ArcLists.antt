@@ -1,9 +1,11 @@
 -- Lists of arcs in vectors, seen as lists of lists.
-use Rattle.std.proofs.Common.{◌≡◌, ℕ, ◌+◌, ◌<◌, List, [], ◌++◌, length, map, get_or, set, take, drop, arith, Vec, Global, refl, sym, ap, ◌∙◌}
-use Rattle.std.proofs.lemmas.List.{map-set, get_or-map, drop_all, take_all, append-nil, get_or_default}
+use Rattle.std.proofs.Common.{◌≡◌, ℕ, ◌+◌, ◌<◌, List, [], ◌++◌, length, map, get_or, set, take, drop, arith, Vec, Global, refl, sym, ap, subst, ◌∙◌}
+use Rattle.std.proofs.lemmas.List.{map-set, get_or-map, length-map, drop_all, take_all, append-nil, get_or_default}
 use Rattle.std.proofs.lemmas.List.Edits.{map_over_more}
 use Rattle.std.proofs.Math.Seq.{map-set_same}
-use Rattle.std.specs.Prelude.{IsTrue, IsFalse}
+use Rattle.std.proofs.Math.ListN.{get_or-map as at_default}
+use Rattle.std.proofs.lemmas.List.Elements.{All-map}
+use Rattle.std.specs.Prelude.{IsTrue, IsFalse, All, ◌↔◌}
 use Rattle.st_model.specs.Lists.{has}
 use Rattle.cut_packing.specs.declared.arcs.LoadedArc.{LoadedArc}
 use Rattle.cut_packing.specs.Loads.{arcs_into, laid}
@@ -43,3 +45,13 @@ pub laid_more : (members : List ℕ) (y : ℕ) (before now : List LoadedArc) (i 
 laid_more members y before now i d new below same h e =
     let within : i < length now = omega arith in
     rw (← e) (map_over_more (laid members y) before now i (get_or now i d) below h (get_or_default now i d (get_or now i d) within))
+
+-- what holds of each list
+pub All-lists : (P : List LoadedArc → Type 0) (vectors : List (Vec LoadedArc Global)) → All P (lists_of vectors) ↔ All (λ list. P list.items) vectors
+All-lists P vectors = (
+  λ h k d below. subst P (listed_at k d) (h k d.items (rw (length-map vectors (λ list. list.items)) below)),
+  λ h. All-map P (λ list. list.items) vectors h,
+)
+  where
+    listed_at : (k : ℕ) (d : Vec LoadedArc Global) → get_or (lists_of vectors) k d.items ≡ (get_or vectors k d).items
+    listed_at k d = at_default (λ list. list.items) vectors k d

@@ -37,7 +37,7 @@ certain_reached I B t v tree belongs in_range certain =
     ]
 
 -- the vertex that a cut names is in range
-named_vertex : (I : Network) (B : Branch) (c : Cut) → CutFits I B c → IsVertex I.n c.q
+pub named_vertex : (I : Network) (B : Branch) (c : Cut) → CutFits I B c → IsVertex I.n c.q
 named_vertex I B c fits = at_member (IsVertex I.n) c.set c.q (recursion_from_All _ c.set fits.in_range) fits.member
 
 -- the cuts whose vertex the tree reaches are paid for by its links

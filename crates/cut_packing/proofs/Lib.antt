@@ -1,7 +1,10 @@
 pub mod Sums
 pub mod Members
 pub mod Marked
+pub mod Loaded
 pub mod ArcLists
 pub mod Turned
 pub mod Charged
 pub mod Duality
+pub mod Judged
+pub mod HeldSets

@@ -1,8 +1,8 @@
 -- Marks at the members of a list.
-use Rattle.std.proofs.Common.{◌≡◌, ◌≢◌, ℕ, suc, ◌+◌, ◌<◌, Bool, true, false, ◌||◌, List, [], ◌∷◌, ◌++◌, length, drop, get_or, set, ◌⊎◌, inl, inr, refl, sym, ◌∙◌, get_or-set_same, get_or-set_other, drop-cons, add-one}
+use Rattle.std.proofs.Common.{◌≡◌, ◌≢◌, ℕ, zero, suc, ◌+◌, ◌<◌, Bool, true, false, ◌||◌, List, [], ◌∷◌, ◌++◌, length, take, drop, get_or, set, ◌⊎◌, inl, inr, refl, sym, ◌∙◌, get_or-set_same, get_or-set_other, drop-cons, add-one, arith}
 use Rattle.std.specs.Prelude.{◌==◌, All, IsTrue, IsFalse}
-use Rattle.std.proofs.lemmas.Bool.{cases_eq, cases_lt, ne_eqb, eq-eqb, or_parts, or_left, false≢true}
-use Rattle.std.proofs.lemmas.List.{get_or_past}
+use Rattle.std.proofs.lemmas.Bool.{cases_eq, cases_lt, ne_eqb, eq-eqb, or_parts, or_left, or_from, false≢true}
+use Rattle.std.proofs.lemmas.List.{get_or_past, take_more}
 use Rattle.std.proofs.lemmas.List.Folds.{list_any-append, list_any_at}
 use Rattle.st_model.specs.Lists.{has}
 use Rattle.cut_packing.specs.VertexSet.{AllApart, IsMarked}
@@ -81,3 +81,14 @@ pub IsMarked-at : (marks : List Bool) (members : List ℕ) (i : ℕ) → i < len
 IsMarked-at marks members i below h =
     let now = rw (drop-cons members i 0 below) at h in
     marked_below marks _ (now.marked _ ∙ or_left (get_or members i 0 == get_or members i 0) _ (eq-eqb _ _ refl))
+
+-- no element stands before its place
+pub AllApart-at : (xs : List ℕ) (i : ℕ) → AllApart xs → i < length xs → IsFalse (has (take i xs) (get_or xs i 0))
+AllApart-at [] i apart below = absurd (omega arith)
+AllApart-at (x ∷ xs) zero apart below = refl
+AllApart-at (x ∷ xs) (suc i) apart below =
+    or_from (x == get_or xs i 0) (has (take i xs) (get_or xs i 0)) (ne_eqb x (get_or xs i 0) (λ same. false≢true (sym apart.0 ∙ (rw same (has_at xs i 0 (omega arith)))))) (AllApart-at xs i apart.1 (omega arith))
+
+-- one element more
+pub has_more : (xs : List ℕ) (i v : ℕ) → i < length xs → has (take (i + 1) xs) v ≡ (has (take i xs) v || (get_or xs i 0 == v))
+has_more xs i v below = rw (take_more xs i 0 below) (has-push (take i xs) (get_or xs i 0) v)

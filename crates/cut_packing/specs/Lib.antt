@@ -2,5 +2,6 @@ pub mod VertexSet
 pub mod Packing
 pub mod Loads
 pub mod Full
+pub mod SetTable
 pub mod ProofTree
 pub mod Laws

@@ -31,12 +31,20 @@ pub record CutFits (I : Network) (B : Branch) (c : Cut) : Type 0 where
   pub member : IsTrue (has c.set c.q)
   pub present : IsTrue (is_present B c.q)
 
--- no arc between present vertices, and no vertex that may be left out, bears more than it costs
+-- no arc between present vertices bears more than its link costs
+abbrev pub ArcsFit : Network → Branch → List Cut → Type 0
+ArcsFit I B cuts = (u v : ℕ) → IsTrue (is_present B u) → IsTrue (is_present B v) → IfSome (link I.links u v) (λ price. load cuts (u, v) ≤ price)
+
+-- the cuts name no vertex that may be left out beyond what it pays
+abbrev pub PrizesFit : Network → Branch → List Cut → Type 0
+PrizesFit I B cuts = (q : ℕ) → IsVertex I.n q → IsFalse (is_certain I B q) → named cuts q ≤ pays I q
+
+-- the root, each cut, the arcs and the prizes fit
 pub record Fits (I : Network) (B : Branch) (P : Packing) : Type 0 where
   pub root : RootFits I B P
   pub cuts : All (CutFits I B) P.cuts
-  pub arcs : (u v : ℕ) → IsTrue (is_present B u) → IsTrue (is_present B v) → IfSome (link I.links u v) (λ price. load P.cuts (u, v) ≤ price)
-  pub prizes : (q : ℕ) → IsVertex I.n q → IsFalse (is_certain I B q) → named P.cuts q ≤ pays I q
+  pub arcs : ArcsFit I B P.cuts
+  pub prizes : PrizesFit I B P.cuts
 
 -- what v costs every tree of the branch, where it is outside
 abbrev pub outside_pays : Network → Branch → ℕ → ℕ

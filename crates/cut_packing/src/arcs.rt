@@ -1,4 +1,4 @@
-ghost use Rattle.std.specs.Prelude.{◌≡◌, ◌+◌, ◌<◌, ◌^◌, [], ◌∷◌, length, map, replicate, All, IfOk, OnOk, OnErr, slice_set};
+ghost use Rattle.std.specs.Prelude.{◌≡◌, ◌+◌, ◌<◌, ◌≤◌, ◌↔◌, ◌^◌, IsTrue, [], ◌∷◌, length, map, replicate, All, IfOk, OnOk, OnErr, slice_set};
 ghost use Rattle.cut_packing.specs.Loads.{arcs_into, with_arc, laid};
 
 use crate::vertex_set::VertexSet;
@@ -41,11 +41,18 @@ impl Arcs {
     }
 
     /// The arcs into a vertex.
-    pub fn into(&self, head: u32) -> &[LoadedArc]
+    pub fn entering(&self, head: u32) -> &[LoadedArc]
         requires { head < length self.now }
         ensures { result.now ≡ arcs_into self.now head }
     {
         &self.lists[head as usize]
+    }
+
+    /// Whether each arc bears at most its link's cost.
+    pub fn can_bear(&self) -> bool
+        ensures { IsTrue result ↔ All (All (λ arc. arc.load ≤ arc.cost)) self.now }
+    {
+        lists_can_bear(&self.lists)
     }
 
     /// Adds an arc into a vertex.
@@ -67,6 +74,20 @@ impl Arcs {
     {
         lay_on(&mut self.lists[head as usize], set, value);
     }
+}
+
+// Whether each arc of each list bears at most its link's cost.
+fn lists_can_bear(lists: &[Vec<LoadedArc>]) -> bool
+    ensures { IsTrue result ↔ All (λ list. All (λ arc. arc.load ≤ arc.cost) list.items) lists.now }
+{
+    lists.iter().all(|list| can_bear(list))
+}
+
+// Whether each arc bears at most its link's cost.
+fn can_bear(arcs: &[LoadedArc]) -> bool
+    ensures { IsTrue result ↔ All (λ arc. arc.load ≤ arc.cost) arcs.now }
+{
+    arcs.iter().all(|arc| arc.load <= u128::from(arc.cost))
 }
 
 // Lays a value on the arcs from outside a set.

@@ -8,12 +8,18 @@
 
 mod arcs;
 mod cut;
+mod fitting;
 mod law;
+mod loads;
+mod named;
 mod packing;
+mod set_table;
 mod vertex_set;
 mod weighing;
 
 pub use cut::Cut;
+pub use fitting::fits;
 pub use law::{proof_tree_bounds, weak_duality};
 pub use packing::Packing;
+pub use set_table::SetTable;
 pub use weighing::weight;

@@ -36,6 +36,23 @@ impl VertexSet {
         })
     }
 
+    /// The vertices of a list that are below a count, whatever else it holds.
+    pub fn of(alloc: Global, count: usize, vertices: &[u32]) -> Result<Self, AllocError>
+        ensures count { IfOk result (λ s. s.count ≡ count) }
+        ensures members { IfOk result
+            (λ s. (v : ℕ) → v < count → has s.members v ≡ has vertices.now v) }
+    {
+        let mut set = VertexSet::new(alloc, count)?;
+        set.fill(vertices)?;
+        Ok(set)
+    }
+
+    fn count(&self) -> usize
+        ensures { result ≡ self.now.count }
+    {
+        self.marks.len()
+    }
+
     pub fn contains(&self, vertex: u32) -> bool
         ensures { result ≡ has self.now.members vertex }
     {
@@ -62,6 +79,21 @@ impl VertexSet {
         if !self.marks[vertex as usize] {
             self.members.push(vertex)?;
             self.marks[vertex as usize] = true;
+        }
+        Ok(())
+    }
+
+    /// Replaces the members by the vertices of a list that are below the count.
+    pub fn fill(&mut self, vertices: &[u32]) -> Result<(), AllocError>
+        ensures members { OnOk result
+            ((v : ℕ) → v < self.old.count → has self.new.members v ≡ has vertices.now v) }
+        ensures count { self.new.count ≡ self.old.count }
+    {
+        self.clear();
+        for vertex in vertices {
+            if (*vertex as usize) < self.count() {
+                self.insert(*vertex)?;
+            }
         }
         Ok(())
     }

@@ -1,0 +1,78 @@
+ghost use Rattle.std.specs.Prelude.{◌≡◌, ℕ, ◌+◌, ◌<◌, ◌^◌, ◌&&◌, not, [], length, map, replicate, All, IfOk, if◌then◌else◌};
+ghost use Rattle.st_model.specs.Lists.{has};
+ghost use Rattle.cut_packing.specs.Loads.{arcs_into, laid, AreLoaded};
+ghost use Rattle.cut_packing.specs.VertexSet.{AllApart};
+
+use crate::Cut;
+use crate::arcs::{Arcs, LoadedArc};
+use crate::vertex_set::VertexSet;
+use st_model::{Branch, Instance, Link};
+use std::alloc::{AllocError, Global};
+
+/// The arcs between present vertices, with what the cuts lay on them.
+pub fn loads(
+    alloc: Global,
+    instance: &Instance,
+    branch: &Branch,
+    cuts: &[Cut],
+) -> Result<Arcs, AllocError>
+    ensures { IfOk result
+        (λ arcs. AreLoaded instance.now branch.now instance.now.links cuts.now arcs) }
+{
+    let mut arcs = free_arcs(alloc, instance, branch)?;
+    let mut members = VertexSet::new(alloc, instance.vertices() as usize + 1)?;
+    for cut in cuts {
+        members.fill(cut.set.as_slice())?;
+        lay(&mut arcs, &members, cut.y);
+    }
+    Ok(arcs)
+}
+
+// The arcs between present vertices, with nothing on them.
+fn free_arcs(alloc: Global, instance: &Instance, branch: &Branch) -> Result<Arcs, AllocError>
+    ensures { IfOk result
+        (λ arcs. AreLoaded instance.now branch.now instance.now.links [] arcs) }
+{
+    let count = instance.vertices() as usize + 1;
+    let outside = VertexSet::of(alloc, count, branch.outside.as_slice())?;
+    let mut arcs = Arcs::new(alloc, count)?;
+    for link in instance.links() {
+        if is_present(&outside, link) {
+            arcs.add(link.b, free(link.a, link.cost))?;
+            arcs.add(link.a, free(link.b, link.cost))?;
+        }
+    }
+    Ok(arcs)
+}
+
+// Whether neither end of a link is outside.
+fn is_present(outside: &VertexSet, link: &Link) -> bool
+    ensures { result ≡ (not (has outside.now.members link.now.a)
+        && not (has outside.now.members link.now.b)) }
+{
+    !outside.contains(link.a) && !outside.contains(link.b)
+}
+
+// An arc from a vertex, with nothing on it.
+fn free(tail: u32, cost: u64) -> LoadedArc
+    ensures { result ≡ record { tail = tail; cost = cost; load = 0 } }
+{
+    LoadedArc {
+        tail,
+        cost,
+        load: 0,
+    }
+}
+
+// Lays a value on all arcs that enter a set.
+fn lay(arcs: &mut Arcs, set: &VertexSet, value: u64)
+    requires count { set.now.count ≡ length arcs.old }
+    requires room { (v : ℕ) → All (λ arc. arc.load + value < 2 ^ 128) (arcs_into arcs.old v) }
+    ensures count { length arcs.new ≡ length arcs.old }
+    ensures laid { (v : ℕ) → arcs_into arcs.new v ≡ (if has set.now.members v
+        then map (laid set.now.members value) (arcs_into arcs.old v) else arcs_into arcs.old v) }
+{
+    for head in set.members() {
+        arcs.lay(*head, set, value);
+    }
+}
