@@ -1,0 +1,3 @@
+pub mod Preorder
+pub mod Text
+pub mod Reading
