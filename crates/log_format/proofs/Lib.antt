@@ -4,3 +4,5 @@ pub mod Numerals
 pub mod Preorders
 pub mod Loop
 pub mod LineLaws
+pub mod Sets
+pub mod StageLaws

@@ -1,3 +1,4 @@
 pub mod Preorder
 pub mod Text
 pub mod Reading
+pub mod Reached

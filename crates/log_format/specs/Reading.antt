@@ -151,7 +151,7 @@ step AtHeader line = stage_if header line AtClaim
 step AtClaim line = if bytes_eq line (codes "CLAIM NONE") then Some AtWall else (pair_of (codes "CLAIM TREE") 0 most 0 most line >>= λ b. Some (AtTree b.0 b.1))
 step (AtTree primal dual) line = pair_of (codes "TREE") 1 1000000 0 most line >>= λ t. Some (AtArcs primal dual t.0 [] t.1)
 step (AtArcs primal dual start arcs left) line = if left == 0 then stage_if (codes "STEPS 0") line (AtProof (record { primal = primal; dual = dual; tree = record { start = start; arcs = arcs } }))
-  else (pair_of (codes "A") 1 1000000 1 1000000 line >>= λ arc. Some (AtArcs primal dual start (arcs ++ arc ∷ []) (left - 1)))
+    else (pair_of (codes "A") 1 1000000 1 1000000 line >>= λ arc. Some (AtArcs primal dual start (arcs ++ arc ∷ []) (left - 1)))
 step (AtProof a) line = stage_if (codes "PROOF") line (AtHalf (record { answer = a; lines = []; waiting = 0 }))
 step (AtHalf p) line = half_at p (number_of (codes "S") 1 1000000 line) line
 step (AtCuts p root cuts left) line = cut_of line >>= λ c. Some (cuts_left p root (cuts ++ c ∷ []) (left - 1))
@@ -170,9 +170,3 @@ open_after (suc count) (Split v ∷ lines) = open_after (suc (suc count)) lines
 pub record IsOpen (p : Proving) : Type 0 where
   pub still : open_after 1 p.lines ≡ Some (p.waiting + 1)
   pub few : p.waiting ≤ length p.lines
-
--- what holds whenever lines were read
-abbrev pub IsSound : Stage → Type 0
-IsSound (AtHalf p) = IsOpen p
-IsSound (AtCuts p root cuts left) = IsOpen p × (1 ≤ left)
-IsSound _ = Unit {0}

@@ -1,5 +1,5 @@
 -- The one text of a log, and what can stand in it.
-use Rattle.std.specs.Prelude.{◌≡◌, ℕ, ◌^◌, ◌≤◌, ◌<◌, List, [], ◌∷◌, ◌++◌, length, map, Option, None, Some, All, IfSome, codes}
+use Rattle.std.specs.Prelude.{◌≡◌, ℕ, ◌^◌, ◌≤◌, ◌<◌, List, [], ◌∷◌, ◌++◌, ◌==◌, if◌then◌else◌, length, map, Option, None, Some, All, IfSome, codes}
 use Rattle.std.specs.List.{flat_map}
 use Rattle.std.specs.Fmt.{decimal}
 use Rattle.st_model.specs.declared.tree.Tree.{Tree}
@@ -93,9 +93,42 @@ pub record IsWritableFound (primal dual : ℕ) (tree : Tree) (proof : List Proof
   pub lines_fit : All IsWritableLine proof
 
 -- vertices from 1 to 1,000,000, other numbers below 2^64
+abbrev pub IsClaimInRange : Claim → Type 0
+IsClaimInRange (Found primal dual tree proof) = IsWritableFound primal dual tree proof
+IsClaimInRange (NoTree wall) = IsWritableSet wall
+
 abbrev pub IsInLogRange : Log → Type 0
-IsInLogRange log = fits log.claim
+IsInLogRange log = IsClaimInRange log.claim
+
+-- the lines of the proof are exactly one proof tree
+abbrev pub IsProved : Claim → Type 0
+IsProved (Found primal dual tree proof) = IsOneProof proof
+IsProved (NoTree wall) = Unit {0}
+
+-- a log: one that can be written, and whose proof is one proof tree
+pub record IsLog (log : Log) : Type 0 where
+  pub in_range : IsInLogRange log
+  pub one_proof : IsProved log.claim
+
+-- these lines are all of some log
+abbrev pub AreWhole : List (List ℕ) → Type 0
+AreWhole lines = (log : Log) × IsLog log × (log_lines log ≡ lines)
+
+-- some log begins with these lines
+abbrev pub Begins : List (List ℕ) → Type 0
+Begins lines = (log : Log) × (rest : List (List ℕ)) × IsLog log × (log_lines log ≡ lines ++ rest)
+
+-- the whole lines of some bytes, without their ends, and what is left behind the last end
+abbrev pub cut_lines : List ℕ → List (List ℕ) × List ℕ
+cut_lines [] = ([], [])
+cut_lines (b ∷ bytes) = if b == 10 then ([] ∷ (cut_lines bytes).0, (cut_lines bytes).1) else in_front b (cut_lines bytes)
   where
-    fits : Claim → Type 0
-    fits (Found primal dual tree proof) = IsWritableFound primal dual tree proof
-    fits (NoTree wall) = IsWritableSet wall
+    in_front : ℕ → List (List ℕ) × List ℕ → List (List ℕ) × List ℕ
+    in_front b ([], rest) = ([], b ∷ rest)
+    in_front b (line ∷ lines, rest) = ((b ∷ line) ∷ lines, rest)
+
+abbrev pub whole_lines : List ℕ → List (List ℕ)
+whole_lines bytes = (cut_lines bytes).0
+
+abbrev pub unfinished : List ℕ → List ℕ
+unfinished bytes = (cut_lines bytes).1

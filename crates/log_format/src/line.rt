@@ -80,6 +80,18 @@ pub fn pair_of(
     Some((first, second))
 }
 
+/// The vertex above another that stands behind a space, and what stands behind it.
+fn vertex_above(bytes: &[u8], last: u32) -> Result<(u32, &[u8]), LineError>
+    requires { last ≤ 1000000 }
+    ensures value { Gives (λ x. (x.0, x.1.now)) result (number_at (last + 1) 1000000 bytes.now) }
+    ensures in_range { IfOk result (λ x. x.0 ≤ 1000000) }
+{
+    let (vertex, rest) = number_at(bytes, u64::from(last) + 1, MAX_VERTEX).ok_or(
+        LineError::BadLine,
+    )?;
+    Ok((vertex as u32, rest))
+}
+
 /// This many ascending vertices, and nothing behind them.
 fn set_at(alloc: Global, bytes: &[u8], count: u64) -> Result<Vec<u32>, LineError>
     ensures { Gives (λ set. set.items) result (set_at count 0 bytes.now) }
@@ -88,11 +100,9 @@ fn set_at(alloc: Global, bytes: &[u8], count: u64) -> Result<Vec<u32>, LineError
     let mut rest = bytes;
     let mut last = 0;
     for _ in 0..count {
-        let (vertex, behind) = number_at(rest, u64::from(last) + 1, MAX_VERTEX).ok_or(
-            LineError::BadLine,
-        )?;
-        last = vertex as u32;
-        set.push(last)?;
+        let (vertex, behind) = vertex_above(rest, last)?;
+        set.push(vertex)?;
+        last = vertex;
         rest = behind;
     }
     if !rest.is_empty() {

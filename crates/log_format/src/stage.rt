@@ -1,5 +1,6 @@
 ghost use Rattle.std.specs.Prelude.{◌≡◌, ◌∷◌, [], ◌++◌, ◌≤◌, IfOk, codes, option_map};
-ghost use Rattle.log_format.specs.Reading.{Gives, IsOpen, IsSound, pair_of, root_of, stage_if, cuts_left, closed, half_at, split_at, step};
+ghost use Rattle.log_format.specs.Reached.{IsReached};
+ghost use Rattle.log_format.specs.Reading.{Gives, IsOpen, pair_of, root_of, stage_if, cuts_left, closed, half_at, split_at, step};
 
 use crate::fault::LineError;
 use crate::line::{MAX_VERTEX, cut_of, number_of, pair_of, wall_of};
@@ -305,7 +306,7 @@ fn at_wall(alloc: Global, line: &[u8]) -> Result<Stage, LineError>
 /// What comes behind a line, if it may stand here.
 #[tactic(auto, unfolding(crate::specs::Reading::step))]
 pub fn step(alloc: Global, stage: Stage, line: &[u8]) -> Result<Stage, LineError>
-    requires { IsSound stage }
+    requires { IsReached stage }
     ensures { Gives (λ s. s) result (step stage line.now) }
 {
     match stage {
