@@ -6,3 +6,5 @@ pub mod Loop
 pub mod LineLaws
 pub mod Sets
 pub mod StageLaws
+pub mod Runs
+pub mod Finishing

@@ -1,5 +1,5 @@
 -- The lines that were read at each stage, and what holds of what they said. Helpers' clauses cite this, and no public one.
-use Rattle.std.specs.Prelude.{◌≡◌, ℕ, ◌+◌, ◌^◌, ◌≤◌, ◌<◌, List, [], ◌∷◌, ◌++◌, length, map, Option, IfSome, codes}
+use Rattle.std.specs.Prelude.{◌≡◌, ℕ, ◌+◌, ◌^◌, ◌≤◌, ◌<◌, List, [], ◌∷◌, ◌++◌, length, map, Option, Some, IfSome, codes}
 use Rattle.std.specs.List.{flat_map, AllByRecursion}
 use Rattle.cut_packing.specs.declared.cut.Cut.{Cut}
 use Rattle.log_format.specs.declared.log.Claim.{Claim}
@@ -8,7 +8,7 @@ use Rattle.log_format.specs.declared.stage.Proving.{Proving}
 use Rattle.log_format.specs.declared.stage.Stage.{Stage}
 use Rattle.log_format.specs.declared.stage.Stage.TheVariants.{AtHeader, AtClaim, AtTree, AtArcs, AtProof, AtHalf, AtCuts, AtWall, AtEnd, AtNothing}
 use Rattle.log_format.specs.Text.{words, root_number, arc_line, cut_line, lines_of, header, claim_lines, IsAnyVertex, IsWritableCut, IsWritableLine, IsWritableTree, IsClaimInRange, IsProved}
-use Rattle.log_format.specs.Reading.{IsOpen}
+use Rattle.log_format.specs.Reading.{IsOpen, run}
 
 -- the lines of a tree so far, of so many arcs
 abbrev pub tree_lines : ℕ → ℕ → ℕ → List (ℕ × ℕ) → ℕ → List (List ℕ)
@@ -76,3 +76,8 @@ IsReached (AtCuts p root cuts left) = AreCutsReached p root cuts left
 IsReached AtWall = Unit {0}
 IsReached (AtEnd claim) = IsClaimReached claim
 IsReached (AtNothing claim) = IsClaimReached claim
+
+-- the lines that were read lead here, and what they said fits
+pub record IsRead (s : Stage) : Type 0 where
+  pub reached : IsReached s
+  pub led : run AtHeader (lines_read s) ≡ Some s

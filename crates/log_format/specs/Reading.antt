@@ -159,6 +159,11 @@ step AtWall line = wall_of line >>= λ wall. Some (AtEnd (NoTree wall))
 step (AtEnd claim) line = stage_if (codes "END") line (AtNothing claim)
 step (AtNothing claim) line = None
 
+-- the stage that some lines lead to
+unfoldable pub run : Stage → List (List ℕ) → Option Stage
+run s [] = Some s
+run s (line ∷ lines) = step s line >>= λ t. run t lines
+
 -- the lines of a proof so far are whole, but for the halves that wait and the one that comes
 abbrev pub open_after : ℕ → List ProofLine → Option ℕ
 open_after count [] = Some count
