@@ -1,7 +1,8 @@
 -- Each stage goes on to some log, and a line that is refused to none.
-use Rattle.std.proofs.Common.{◌≡◌, ℕ, zero, suc, ◌+◌, List, [], ◌∷◌, ◌++◌, length, Option, Some, None, refl, sym, ap, subst, ◌∙◌, append_assoc, arith}
+use Rattle.std.proofs.Common.{◌≡◌, ℕ, zero, suc, ◌+◌, ◌≤◌, ◌<◌, List, [], ◌∷◌, ◌++◌, length, Option, Some, None, refl, sym, ap, subst, ◌∙◌, append_assoc, arith}
 use Rattle.std.specs.Prelude.{codes, ◌≢◌}
 use Rattle.std.proofs.lemmas.List.{append-nil}
+use Rattle.std.proofs.lemmas.List.Elements.{All-from_recursion}
 use Rattle.cut_packing.specs.declared.cut.Cut.{Cut}
 use Rattle.cut_packing.specs.declared.packing.Packing.{Packing}
 use Rattle.log_format.specs.declared.log.Log.{Log}
@@ -13,13 +14,13 @@ use Rattle.log_format.specs.declared.stage.Answer.{Answer}
 use Rattle.log_format.specs.declared.stage.Proving.{Proving}
 use Rattle.log_format.specs.declared.stage.Stage.{Stage}
 use Rattle.log_format.specs.declared.stage.Stage.TheVariants.{AtHeader, AtClaim, AtTree, AtArcs, AtProof, AtHalf, AtCuts, AtWall, AtEnd, AtNothing}
-use Rattle.log_format.specs.Text.{words, root_number, arc_line, cut_line, header, log_lines, IsLog, AreWhole, Begins}
+use Rattle.log_format.specs.Text.{words, root_number, arc_line, cut_line, header, log_lines, IsLog, Begins, IsWritableCut, IsWritablePacking}
 use Rattle.log_format.specs.Reading.{◌>>=◌, pair_of, most, closed, cuts_left, step, run}
 use Rattle.log_format.specs.Reached.{lines_read, IsReached, IsRead}
 use Rattle.log_format.proofs.Steps.{step_some}
-use Rattle.log_format.proofs.LineLaws.{pair_judges, wall_judges, cut_judges}
+use Rattle.log_format.proofs.LineLaws.{pair_judges, wall_judges, IsAscending}
 use Rattle.log_format.proofs.StageLaws.{step_takes}
-use Rattle.log_format.proofs.Sets.{cut_from, set_from}
+use Rattle.log_format.proofs.Sets.{cut_from}
 use Rattle.log_format.proofs.Runs.{run-cons, run-nil, arc_again, cut_again, head_again, log_again}
 
 -- some lines lead from here to the end of a claim
@@ -38,11 +39,14 @@ end_finishes claim = by_line (AtEnd claim) (AtNothing claim) (codes "END") refl 
 abbrev empty : Packing
 empty = record { root = None; cuts = [] }
 
+empty_fits : IsWritablePacking empty
+empty_fits = record { root = tt; few_cuts = omega arith; cuts = All-from_recursion IsWritableCut [] tt }
+
 closed_finishes : (a : Answer) (lines : List ProofLine) (w : ℕ) → Finishes (closed a lines w)
 closed_finishes a lines zero = end_finishes (Found a.primal a.dual a.tree lines)
 closed_finishes a lines (suc w) =
     let p : Proving = record { answer = a; lines = lines; waiting = w } in
-    by_line (AtHalf p) (closed a (lines ++ Close empty ∷ []) w) (words (codes "C") (0 ∷ 0 ∷ [])) (head_again p empty ?) (closed_finishes a (lines ++ Close empty ∷ []) w)
+    by_line (AtHalf p) (closed a (lines ++ Close empty ∷ []) w) (words (codes "C") (0 ∷ 0 ∷ [])) (head_again p empty empty_fits) (closed_finishes a (lines ++ Close empty ∷ []) w)
 
 half_finishes : (p : Proving) → Finishes (AtHalf p)
 half_finishes p = closed_finishes p.answer p.lines (suc p.waiting)
@@ -51,10 +55,17 @@ half_finishes p = closed_finishes p.answer p.lines (suc p.waiting)
 abbrev least_cut : Cut
 least_cut = record { set = 1 ∷ []; q = 1; y = 0 }
 
+-- one vertex is a set
+single : IsAscending (1 ∷ [])
+single = record { some = omega arith; few = omega arith; ascend = ((omega arith, omega arith), tt) }
+
+least_fits : IsWritableCut least_cut
+least_fits = cut_from least_cut (record { q = (omega arith, omega arith); y = (omega arith, omega arith); set = single })
+
 cuts_finish : (p : Proving) (root : Option ℕ) (cuts : List Cut) (left : ℕ) → Finishes (cuts_left p root cuts left)
 cuts_finish p root cuts zero = closed_finishes p.answer (p.lines ++ Close (record { root = root; cuts = cuts }) ∷ []) p.waiting
 cuts_finish p root cuts (suc left) =
-    by_line (AtCuts p root cuts (suc left)) (cuts_left p root (cuts ++ least_cut ∷ []) left) (cut_line least_cut) (cut_again p root cuts least_cut left (cut_from least_cut ?)) (cuts_finish p root (cuts ++ least_cut ∷ []) left)
+    by_line (AtCuts p root cuts (suc left)) (cuts_left p root (cuts ++ least_cut ∷ []) left) (cut_line least_cut) (cut_again p root cuts least_cut left least_fits) (cuts_finish p root (cuts ++ least_cut ∷ []) left)
 
 proof_finishes : (a : Answer) → Finishes (AtProof a)
 unfolding step
@@ -67,18 +78,18 @@ arcs_finish primal dual start arcs zero =
     by_line (AtArcs primal dual start arcs 0) (AtProof a) (codes "STEPS 0") refl (proof_finishes a)
 arcs_finish primal dual start arcs (suc left) =
     let arc : ℕ × ℕ = (1, 1) in
-    by_line (AtArcs primal dual start arcs (suc left)) (AtArcs primal dual start (arcs ++ arc ∷ []) left) (arc_line arc) (arc_again primal dual start arcs arc left ?) (arcs_finish primal dual start (arcs ++ arc ∷ []) left)
+    by_line (AtArcs primal dual start arcs (suc left)) (AtArcs primal dual start (arcs ++ arc ∷ []) left) (arc_line arc) (arc_again primal dual start arcs arc left ((omega arith, omega arith), (omega arith, omega arith))) (arcs_finish primal dual start (arcs ++ arc ∷ []) left)
 
 tree_finishes : (primal dual : ℕ) → Finishes (AtTree primal dual)
 unfolding step
 tree_finishes primal dual =
-    let e : step (AtTree primal dual) (words (codes "TREE") (1 ∷ 0 ∷ [])) ≡ Some (AtArcs primal dual 1 [] 0) = rw ((pair_judges (codes "TREE") 1 1000000 0 most (omega arith) (omega arith)).again (1, 0) ?) refl in
+    let e : step (AtTree primal dual) (words (codes "TREE") (1 ∷ 0 ∷ [])) ≡ Some (AtArcs primal dual 1 [] 0) = rw ((pair_judges (codes "TREE") 1 1000000 0 most (omega arith) (omega arith)).again (1, 0) ((omega arith, omega arith), (omega arith, omega arith))) refl in
     by_line (AtTree primal dual) (AtArcs primal dual 1 [] 0) (words (codes "TREE") (1 ∷ 0 ∷ [])) e (arcs_finish primal dual 1 [] 0)
 
 wall_finishes : Finishes AtWall
 unfolding step
 wall_finishes =
-    let e : step AtWall (words (codes "WALL") (1 ∷ 1 ∷ [])) ≡ Some (AtEnd (NoTree (1 ∷ []))) = rw (wall_judges.again (1 ∷ []) ?) refl in
+    let e : step AtWall (words (codes "WALL") (1 ∷ 1 ∷ [])) ≡ Some (AtEnd (NoTree (1 ∷ []))) = rw (wall_judges.again (1 ∷ []) single) refl in
     by_line AtWall (AtEnd (NoTree (1 ∷ []))) (words (codes "WALL") (1 ∷ 1 ∷ [])) e (end_finishes (NoTree (1 ∷ [])))
 
 claim_finishes : Finishes AtClaim

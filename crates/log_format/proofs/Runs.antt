@@ -41,7 +41,7 @@ pub if_again : (wanted : List ℕ) (s : Stage) → stage_if wanted wanted s ≡ 
 if_again wanted s = rw (same_bytes wanted) refl
 
 -- an arc is taken where one is left
-arc_again : (primal dual start : ℕ) (front : List (ℕ × ℕ)) (arc : ℕ × ℕ) (left : ℕ) → IsAnyVertex arc.0 × IsAnyVertex arc.1 → step (AtArcs primal dual start front (suc left)) (arc_line arc) ≡ Some (AtArcs primal dual start (front ++ arc ∷ []) left)
+pub arc_again : (primal dual start : ℕ) (front : List (ℕ × ℕ)) (arc : ℕ × ℕ) (left : ℕ) → IsAnyVertex arc.0 × IsAnyVertex arc.1 → step (AtArcs primal dual start front (suc left)) (arc_line arc) ≡ Some (AtArcs primal dual start (front ++ arc ∷ []) left)
 unfolding step
 arc_again primal dual start front arc left fits =
     let less : suc left - 1 ≡ left = omega arith in
@@ -59,7 +59,7 @@ arcs_again primal dual start front (arc ∷ arcs) rest fits =
 -- ---- closes
 
 -- a cut is taken where one is left
-cut_again : (p : Proving) (root : Option ℕ) (front : List Cut) (c : Cut) (left : ℕ) → IsWritableCut c → step (AtCuts p root front (suc left)) (cut_line c) ≡ Some (cuts_left p root (front ++ c ∷ []) left)
+pub cut_again : (p : Proving) (root : Option ℕ) (front : List Cut) (c : Cut) (left : ℕ) → IsWritableCut c → step (AtCuts p root front (suc left)) (cut_line c) ≡ Some (cuts_left p root (front ++ c ∷ []) left)
 unfolding step
 cut_again p root front c left fits =
     let less : suc left - 1 ≡ left = omega arith in
@@ -84,7 +84,7 @@ root_in_range None h = omega arith
 root_in_range (Some n) h = h.1
 
 -- the head of a close is taken where a half begins
-head_again : (p : Proving) (P : Packing) → IsWritablePacking P → step (AtHalf p) (words (codes "C") (root_number P.root ∷ length P.cuts ∷ [])) ≡ Some (cuts_left p P.root [] (length P.cuts))
+pub head_again : (p : Proving) (P : Packing) → IsWritablePacking P → step (AtHalf p) (words (codes "C") (root_number P.root ∷ length P.cuts ∷ [])) ≡ Some (cuts_left p P.root [] (length P.cuts))
 unfolding step number_of
 head_again p P fits =
     let few : length P.cuts < 2 ^ 64 = fits.few_cuts in
@@ -122,7 +122,7 @@ proof_again a front (Close P ∷ line ∷ lines) zero rest passes fits = absurd 
 proof_again a front (Close P ∷ lines) (suc w) rest passes fits =
     ap (run (half a front (suc w))) (append_assoc (lines_of (Close P)) (flat_map lines_of lines) rest)
     ∙ (close_again (record { answer = a; lines = front; waiting = suc w }) P (flat_map lines_of lines ++ rest) fits.0
-      ∙ (proof_again a (front ++ Close P ∷ []) lines w rest passes fits.1 ∙ ap (λ (r : List ProofLine). run (AtEnd (Found a.primal a.dual a.tree r)) rest) (append_assoc front (Close P ∷ []) lines)))
+    ∙ (proof_again a (front ++ Close P ∷ []) lines w rest passes fits.1 ∙ ap (λ (r : List ProofLine). run (AtEnd (Found a.primal a.dual a.tree r)) rest) (append_assoc front (Close P ∷ []) lines)))
 
 -- ---- logs
 
@@ -136,11 +136,11 @@ claim_again (Found primal dual tree proof) rest fits one =
     let tree_is : step (AtTree primal dual) (words (codes "TREE") (tree.start ∷ length tree.arcs ∷ [])) ≡ Some (AtArcs primal dual tree.start [] (length tree.arcs)) = rw ((pair_judges (codes "TREE") 1 1000000 0 most (omega arith) (omega arith)).again (tree.start, length tree.arcs) (fits.tree_fits.start, (omega arith, omega (arith, fits.tree_fits.few_arcs)))) refl in
     run-cons AtClaim (AtTree primal dual) _ _ claim_is
     ∙ (run-cons (AtTree primal dual) (AtArcs primal dual tree.start [] (length tree.arcs)) _ _ tree_is
-      ∙ (ap (run (AtArcs primal dual tree.start [] (length tree.arcs))) (append_assoc (map arc_line tree.arcs) behind rest)
-        ∙ (arcs_again primal dual tree.start [] tree.arcs (behind ++ rest) (recursion_from_All _ tree.arcs fits.tree_fits.arcs)
-          ∙ (run-cons (AtArcs primal dual tree.start tree.arcs 0) (AtProof a) (codes "STEPS 0") (codes "PROOF" ∷ (flat_map lines_of proof ++ rest)) refl
-            ∙ (run-cons (AtProof a) (half a [] 0) (codes "PROOF") (flat_map lines_of proof ++ rest) refl
-              ∙ proof_again a [] proof 0 rest (one_passes proof one) (recursion_from_All IsWritableLine proof fits.lines_fit))))))
+    ∙ (ap (run (AtArcs primal dual tree.start [] (length tree.arcs))) (append_assoc (map arc_line tree.arcs) behind rest)
+    ∙ (arcs_again primal dual tree.start [] tree.arcs (behind ++ rest) (recursion_from_All _ tree.arcs fits.tree_fits.arcs)
+    ∙ (run-cons (AtArcs primal dual tree.start tree.arcs 0) (AtProof a) (codes "STEPS 0") (codes "PROOF" ∷ (flat_map lines_of proof ++ rest)) refl
+    ∙ (run-cons (AtProof a) (half a [] 0) (codes "PROOF") (flat_map lines_of proof ++ rest) refl
+    ∙ proof_again a [] proof 0 rest (one_passes proof one) (recursion_from_All IsWritableLine proof fits.lines_fit))))))
 claim_again (NoTree wall) rest fits one =
     let wall_is : step AtWall (words (codes "WALL") (length wall ∷ wall)) ≡ Some (AtEnd (NoTree wall)) = rw (wall_judges.again wall (set_to wall fits)) refl in
     run-cons AtClaim AtWall (codes "CLAIM NONE") _ refl ∙ run-cons AtWall (AtEnd (NoTree wall)) _ rest wall_is
@@ -151,4 +151,4 @@ unfolding step
 log_again log fits =
     run-cons AtHeader AtClaim header (claim_lines log.claim ++ codes "END" ∷ []) refl
     ∙ (claim_again log.claim (codes "END" ∷ []) fits.in_range fits.one_proof
-      ∙ (run-cons (AtEnd log.claim) (AtNothing log.claim) (codes "END") [] refl ∙ run-nil (AtNothing log.claim)))
+    ∙ (run-cons (AtEnd log.claim) (AtNothing log.claim) (codes "END") [] refl ∙ run-nil (AtNothing log.claim)))

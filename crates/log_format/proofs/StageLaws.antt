@@ -74,7 +74,7 @@ at_tree_takes primal dual line t fits e =
     let count : 0 + b.0.1 ≡ b.0.1 = omega arith in
     subst (λ (u : Stage). Takes (lines_read (AtTree primal dual)) line u) same (
       record { primal_fits = fits.0; dual_fits = fits.1; start_fits = j.0.0; few_arcs = omega (arith, j.0.1); arcs_fit = tt },
-      ap (λ (k : ℕ). tree_lines primal dual b.0.0 [] k) count ∙ ap (λ (l : List ℕ). lines_read (AtTree primal dual) ++ l ∷ []) (sym j.1)
+      ap (λ (k : ℕ). tree_lines primal dual b.0.0 [] k) count ∙ ap (λ (l : List ℕ). lines_read (AtTree primal dual) ++ l ∷ []) (sym j.1),
     )
 
 -- the lines of a tree with one more arc
@@ -91,7 +91,7 @@ at_arcs_takes primal dual start arcs left line t fits e =
           let count : length arcs ≡ length arcs + left = omega arith in
           if_takes (codes "STEPS 0") line (AtProof a) t (lines_read (AtArcs primal dual start arcs left)) h.1 (
             record { primal_fits = fits.primal_fits; dual_fits = fits.dual_fits; tree_fits = record { start = fits.start_fits; few_arcs = omega (arith, fits.few_arcs); arcs = All-from_recursion _ arcs fits.arcs_fit } },
-            ap (λ (k : ℕ). tree_lines primal dual start arcs k ++ codes "STEPS 0" ∷ []) count
+            ap (λ (k : ℕ). tree_lines primal dual start arcs k ++ codes "STEPS 0" ∷ []) count,
           )
       | inr h ↦
           let b = step_some (pair_of (codes "A") 1 1000000 1 1000000 line) _ t h.1 in
@@ -101,7 +101,7 @@ at_arcs_takes primal dual start arcs left line t fits e =
           let count : length (arcs ++ b.0 ∷ []) + (left - 1) ≡ length arcs + left = omega (arith, length-append arcs (b.0 ∷ [])) in
           subst (λ (u : Stage). Takes (lines_read (AtArcs primal dual start arcs left)) line u) same (
             record { primal_fits = fits.primal_fits; dual_fits = fits.dual_fits; start_fits = fits.start_fits; few_arcs = omega (arith, fits.few_arcs, count); arcs_fit = AllByRecursion-push _ arcs b.0 fits.arcs_fit j.0 },
-            ap (λ (k : ℕ). tree_lines primal dual start (arcs ++ b.0 ∷ []) k) count ∙ (tree_lines-push primal dual start arcs b.0 (length arcs + left) ∙ ap (λ (l : List ℕ). lines_read (AtArcs primal dual start arcs left) ++ l ∷ []) (sym j.1))
+            ap (λ (k : ℕ). tree_lines primal dual start (arcs ++ b.0 ∷ []) k) count ∙ (tree_lines-push primal dual start arcs b.0 (length arcs + left) ∙ ap (λ (l : List ℕ). lines_read (AtArcs primal dual start arcs left) ++ l ∷ []) (sym j.1)),
           )
     ]
 
@@ -129,17 +129,15 @@ closed_takes p P fits close_fits = by_waiting p.waiting fits.halves.still fits.h
 
     by_waiting : (w : ℕ) → open_after 1 p.lines ≡ Some (w + 1) → w ≤ length p.lines → IsReached (closed p.answer (p.lines ++ Close P ∷ []) w) × (lines_read (closed p.answer (p.lines ++ Close P ∷ []) w) ≡ proof_lines p ++ lines_of (Close P))
     by_waiting zero e few =
-        let whole = are_proofs-append 1 p.lines (Close P ∷ []) 1 e in
-        (
+        let whole = are_proofs-append 1 p.lines (Close P ∷ []) 1 e in (
           (record { primal_fits = fits.answer_fits.primal_fits; dual_fits = fits.answer_fits.dual_fits; tree_fits = fits.answer_fits.tree_fits; lines_fit = All-from_recursion IsWritableLine (p.lines ++ Close P ∷ []) all_fit }, one_from (p.lines ++ Close P ∷ []) whole),
-          claim_lines-read p.answer (p.lines ++ Close P ∷ []) 0 ∙ proof_lines-push p.answer p.lines (Close P) 0 p.waiting
+          claim_lines-read p.answer (p.lines ++ Close P ∷ []) 0 ∙ proof_lines-push p.answer p.lines (Close P) 0 p.waiting,
         )
     by_waiting (suc w) e few =
         let more : suc w + 1 ≡ suc (w + 1) = omega arith in
-        let still = open-push p.lines (Close P) (suc (w + 1)) (e ∙ ap (λ (k : ℕ). Some k) more) in
-        (
+        let still = open-push p.lines (Close P) (suc (w + 1)) (e ∙ ap (λ (k : ℕ). Some k) more) in (
           record { answer_fits = fits.answer_fits; lines_fit = all_fit; halves = record { still = still; few = omega (arith, few, length-append p.lines (Close P ∷ [])) } },
-          proof_lines-push p.answer p.lines (Close P) w p.waiting
+          proof_lines-push p.answer p.lines (Close P) w p.waiting,
         )
 
 -- the number that stands for a root, or for none
@@ -176,7 +174,7 @@ half_takes p line t (Some v) fits found e =
     let still = open-push p.lines (Split v) (suc p.waiting) (fits.halves.still ∙ ap (λ (k : ℕ). Some k) more) ∙ ap (λ (k : ℕ). Some k) more' in
     subst (λ (u : Stage). Takes (proof_lines p) line u) same (
       record { answer_fits = fits.answer_fits; lines_fit = AllByRecursion-push IsWritableLine p.lines (Split v) fits.lines_fit j.0; halves = record { still = still; few = omega (arith, fits.halves.few, length-append p.lines (Split v ∷ [])) } },
-      proof_lines-push p.answer p.lines (Split v) (p.waiting + 1) p.waiting ∙ ap (λ (l : List ℕ). proof_lines p ++ l ∷ []) (sym j.1)
+      proof_lines-push p.answer p.lines (Split v) (p.waiting + 1) p.waiting ∙ ap (λ (l : List ℕ). proof_lines p ++ l ∷ []) (sym j.1),
     )
 half_takes p line t None fits found e =
     let head = step_some (pair_of (codes "C") 0 1000000 0 most line) _ t e in

@@ -12,8 +12,11 @@ mod log;
 mod numbers;
 mod proof;
 mod proof_line;
+mod reader;
 mod stage;
 
+pub use fault::LineError;
 pub use log::{Claim, Log};
 pub use proof::Proof;
 pub use proof_line::ProofLine;
+pub use reader::LogReader;
