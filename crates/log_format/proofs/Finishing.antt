@@ -14,7 +14,7 @@ use Rattle.log_format.specs.declared.stage.Answer.{Answer}
 use Rattle.log_format.specs.declared.stage.Proving.{Proving}
 use Rattle.log_format.specs.declared.stage.Stage.{Stage}
 use Rattle.log_format.specs.declared.stage.Stage.TheVariants.{AtHeader, AtClaim, AtTree, AtArcs, AtProof, AtHalf, AtCuts, AtWall, AtEnd, AtNothing}
-use Rattle.log_format.specs.Text.{words, root_number, arc_line, cut_line, header, log_lines, IsLog, Begins, IsWritableCut, IsWritablePacking}
+use Rattle.log_format.specs.Text.{words, root_number, arc_line, cut_line, header, log_lines, IsLog, AreWhole, Begins, IsWritableCut, IsWritablePacking}
 use Rattle.log_format.specs.Reading.{◌>>=◌, pair_of, most, closed, cuts_left, step, run}
 use Rattle.log_format.specs.Reached.{lines_read, IsReached, IsRead}
 use Rattle.log_format.proofs.Steps.{step_some}
@@ -172,3 +172,10 @@ pub whole_is_read : (s : Stage) (log : Log) → IsRead s → IsLog log → log_l
 whole_is_read s log read fits lines =
     let whole = sym (log_again log fits) ∙ (ap (run AtHeader) lines ∙ read.led) in
     cc
+
+-- at the end of a claim the lines are whole
+pub is_whole : (s : Stage) (claim : Claim) → s ≡ AtNothing claim → IsRead s → AreWhole (lines_read s)
+is_whole s claim e read =
+    let at_end = subst (λ (t : Stage). IsRead t) e read in
+    let t = read_whole claim at_end in
+    (record { claim = claim }, t.0, t.1 ∙ ap lines_read (sym e))

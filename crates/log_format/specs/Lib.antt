@@ -2,3 +2,5 @@ pub mod Preorder
 pub mod Text
 pub mod Reading
 pub mod Reached
+pub mod Kind
+pub mod Refused

@@ -7,6 +7,7 @@
 #![tactic(auto)]
 
 mod fault;
+mod kind;
 mod line;
 mod log;
 mod numbers;
@@ -16,6 +17,7 @@ mod reader;
 mod stage;
 
 pub use fault::LineError;
+pub use kind::Kind;
 pub use log::{Claim, Log};
 pub use proof::Proof;
 pub use proof_line::ProofLine;
