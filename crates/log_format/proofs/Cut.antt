@@ -73,7 +73,7 @@ word_again (w ∷ word) rest h k =
 -- ---- by the position of the space
 
 -- the first that passes is the head, or one behind it
-position-cons : {X : Type 0} (p : X → Bool) (x : X) (xs : List X) → position p (x ∷ xs) ≡ cond (p x) (Some 0) (option_map suc (position p xs))
+pub position-cons : {X : Type 0} (p : X → Bool) (x : X) (xs : List X) → position p (x ∷ xs) ≡ cond (p x) (Some 0) (option_map suc (position p xs))
 position-cons p x xs = grind (arith, nat_tests)
 
 -- the bytes on either side of an index, or all of them

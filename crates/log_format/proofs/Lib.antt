@@ -8,3 +8,4 @@ pub mod Sets
 pub mod StageLaws
 pub mod Runs
 pub mod Finishing
+pub mod Lines

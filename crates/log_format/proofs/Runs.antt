@@ -79,7 +79,7 @@ root_again None h = refl
 root_again (Some zero) h = absurd (let low : 1 ≤ 0 = h.0 in omega arith)
 root_again (Some (suc n)) h = refl
 
-root_in_range : (root : Option ℕ) → IfSome root IsAnyVertex → root_number root ≤ 1000000
+pub root_in_range : (root : Option ℕ) → IfSome root IsAnyVertex → root_number root ≤ 1000000
 root_in_range None h = omega arith
 root_in_range (Some n) h = h.1
 

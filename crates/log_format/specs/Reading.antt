@@ -30,6 +30,11 @@ abbrev pub Gives : {X Y : Type 0} → (X → Y) → Result X LineError → Optio
 Gives view (Ok x) read = read ≡ Some (view x)
 Gives view (Err e) read = Fails e read
 
+-- what stands before the first byte d, and what stands behind it
+abbrev pub cut : ℕ → List ℕ → Option (List ℕ × List ℕ)
+cut d [] = None
+cut d (b ∷ bs) = if b == d then Some ([], bs) else option_map (λ x. (b ∷ x.0, x.1)) (cut d bs)
+
 -- what stands behind a keyword
 abbrev pub after : List ℕ → List ℕ → Option (List ℕ)
 after [] bytes = Some bytes

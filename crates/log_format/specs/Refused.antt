@@ -2,6 +2,8 @@
 use Rattle.std.specs.Prelude.{◌≡◌, ◌≢◌, ℕ, ◌+◌, ◌⊎◌, List, [], ◌∷◌, ◌++◌, length}
 use Rattle.log_format.specs.declared.kind.Kind.{Kind}
 use Rattle.log_format.specs.declared.kind.Kind.TheVariants.{BadLine, EndsEarly}
+use Rattle.log_format.specs.declared.fault.ReadError.{ReadError}
+use Rattle.log_format.specs.declared.fault.ReadError.TheVariants.{Fault, NoMemory}
 use Rattle.log_format.specs.Text.{AreWhole, Begins, whole_lines, unfinished}
 
 -- some log begins with the whole lines before this one, and none with this one too
@@ -31,3 +33,8 @@ abbrev pub LogRefused : List ℕ → ℕ → Kind → Type 0
 LogRefused bytes line BadLine = IsBadLine bytes line ⊎ HasBytesBehind bytes line
 LogRefused bytes line EndsEarly = IsCutShort bytes line
 LogRefused bytes line _ = ⊥
+
+-- what is wrong stands there, where it isn't memory
+abbrev pub IsRefusedBy : List ℕ → ReadError → Type 0
+IsRefusedBy bytes (Fault f) = LogRefused bytes f.line f.kind
+IsRefusedBy bytes NoMemory = Unit {0}

@@ -118,14 +118,15 @@ AreWhole lines = (log : Log) × IsLog log × (log_lines log ≡ lines)
 abbrev pub Begins : List (List ℕ) → Type 0
 Begins lines = (log : Log) × (rest : List (List ℕ)) × IsLog log × (log_lines log ≡ lines ++ rest)
 
+-- one more byte in front: it begins the first line, or what is left
+abbrev pub with_byte : ℕ → List (List ℕ) × List ℕ → List (List ℕ) × List ℕ
+with_byte b ([], rest) = ([], b ∷ rest)
+with_byte b (line ∷ lines, rest) = ((b ∷ line) ∷ lines, rest)
+
 -- the whole lines of some bytes, without their ends, and what is left behind the last end
 abbrev pub cut_lines : List ℕ → List (List ℕ) × List ℕ
 cut_lines [] = ([], [])
-cut_lines (b ∷ bytes) = if b == 10 then ([] ∷ (cut_lines bytes).0, (cut_lines bytes).1) else in_front b (cut_lines bytes)
-  where
-    in_front : ℕ → List (List ℕ) × List ℕ → List (List ℕ) × List ℕ
-    in_front b ([], rest) = ([], b ∷ rest)
-    in_front b (line ∷ lines, rest) = ((b ∷ line) ∷ lines, rest)
+cut_lines (b ∷ bytes) = if b == 10 then ([] ∷ (cut_lines bytes).0, (cut_lines bytes).1) else with_byte b (cut_lines bytes)
 
 abbrev pub whole_lines : List ℕ → List (List ℕ)
 whole_lines bytes = (cut_lines bytes).0

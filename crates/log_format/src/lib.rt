@@ -13,12 +13,14 @@ mod log;
 mod numbers;
 mod proof;
 mod proof_line;
+mod read;
 mod reader;
 mod stage;
 
-pub use fault::LineError;
+pub use fault::{LineError, LogFault, ReadError};
 pub use kind::Kind;
 pub use log::{Claim, Log};
 pub use proof::Proof;
 pub use proof_line::ProofLine;
+pub use read::read_log;
 pub use reader::LogReader;
