@@ -179,3 +179,10 @@ is_whole s claim e read =
     let at_end = subst (λ (t : Stage). IsRead t) e read in
     let t = read_whole claim at_end in
     (record { claim = claim }, t.0, t.1 ∙ ap lines_read (sym e))
+
+-- lines are those of one log
+pub same_lines : (a b : Log) → IsLog a → IsLog b → log_lines a ≡ log_lines b → a ≡ b
+same_lines a b fits_a fits_b lines =
+    let ends = sym (log_again a fits_a) ∙ (ap (run AtHeader) lines ∙ log_again b fits_b) in
+    let claims : a.claim ≡ b.claim = cc in
+    ap (λ (c : Claim). let log : Log = record { claim = c } in log) claims

@@ -9,3 +9,4 @@ pub mod StageLaws
 pub mod Runs
 pub mod Finishing
 pub mod Lines
+pub mod WholeLines

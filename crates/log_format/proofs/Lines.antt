@@ -154,3 +154,16 @@ claim_lacks (NoTree wall) fits =
 -- the lines of the text of a log are the lines of the log, and nothing is left
 pub text_lines : (log : Log) → IsInLogRange log → cut_lines (log_text log) ≡ (log_lines log, [])
 text_lines log fits = lines_again (log_lines log) (refl, lines-append (claim_lines log.claim) (codes "END" ∷ []) (claim_lacks log.claim fits) (refl, tt))
+
+-- where a first line is cut off, it comes before the other lines
+pub cut_some : (bytes line rest : List ℕ) → cut 10 bytes ≡ Some (line, rest) → (whole_lines bytes ≡ line ∷ whole_lines rest) × (unfinished bytes ≡ unfinished rest)
+cut_some bytes line rest e =
+    let x : List ℕ × List ℕ = (line, rest) in
+    let lines : cut_lines bytes ≡ first_line x = cut_lines-cut bytes ∙ ap (lines_by bytes) e in
+    (ap (λ (p : List (List ℕ) × List ℕ). p.0) lines, ap (λ (p : List (List ℕ) × List ℕ). p.1) lines)
+
+-- where none is, there are no lines, and all is left
+pub cut_none : (bytes : List ℕ) → cut 10 bytes ≡ None → (whole_lines bytes ≡ []) × (unfinished bytes ≡ bytes)
+cut_none bytes e =
+    let lines : cut_lines bytes ≡ ([], bytes) = cut_lines-cut bytes ∙ ap (lines_by bytes) e in
+    (ap (λ (p : List (List ℕ) × List ℕ). p.0) lines, ap (λ (p : List (List ℕ) × List ℕ). p.1) lines)
