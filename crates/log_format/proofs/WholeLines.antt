@@ -1,14 +1,17 @@
 -- What reading whole lines tells of all the bytes.
-use Rattle.std.proofs.Common.{◌≡◌, ◌≢◌, ℕ, ◌+◌, inl, inr, List, [], ◌∷◌, ◌++◌, length, None, Some, refl, sym, ap, ◌∙◌, append_assoc, arith, length-append}
+use Rattle.std.proofs.Common.{◌≡◌, ◌≢◌, ℕ, ◌+◌, inl, inr, List, [], ◌∷◌, ◌++◌, length, None, Some, Result, Ok, Err, refl, sym, ap, ◌∙◌, append_assoc, arith, length-append}
+use Rattle.std.specs.Prelude.{IfOk, IfErr, MatchResult}
 use Rattle.std.specs.List.{flat_map}
 use Rattle.std.proofs.lemmas.List.{append-nil}
 use Rattle.log_format.specs.declared.kind.Kind.{Kind}
 use Rattle.log_format.specs.declared.kind.Kind.TheVariants.{BadLine, EndsEarly}
+use Rattle.log_format.specs.declared.fault.ReadError.{ReadError}
+use Rattle.log_format.specs.declared.fault.ReadError.TheVariants.{Fault, NoMemory}
 use Rattle.log_format.specs.declared.log.Log.{Log}
 use Rattle.log_format.specs.declared.stage.Stage.TheVariants.{AtHeader}
 use Rattle.log_format.specs.Text.{ended, log_lines, log_text, whole_lines, unfinished, Begins, IsLog}
 use Rattle.log_format.specs.Reading.{cut}
-use Rattle.log_format.specs.Refused.{IsBadLine, HasBytesBehind, IsCutShort, LogRefused}
+use Rattle.log_format.specs.Refused.{IsBadLine, HasBytesBehind, IsCutShort, LogRefused, IsRefusedBy}
 use Rattle.log_format.proofs.Finishing.{read_none, read_begins, same_lines}
 use Rattle.log_format.proofs.Lines.{cut_some, cut_none, text_lines, lines_make}
 
@@ -60,3 +63,10 @@ pub one_log : (a b : Log) → IsLog a → IsLog b → log_text a ≡ log_text b 
 one_log a b fits_a fits_b text =
     let lines = sym (ap (λ (p : List (List ℕ) × List ℕ). p.0) (text_lines a fits_a.in_range)) ∙ (ap whole_lines text ∙ ap (λ (p : List (List ℕ) × List ℕ). p.0) (text_lines b fits_b.in_range)) in
     same_lines a b fits_a fits_b lines
+
+-- where the bytes are the text of a log, it is what was read, or memory ran out
+pub only_one : (bytes : List ℕ) (r : Result Log ReadError) → IfOk r (λ log. IsLog log × (bytes ≡ log_text log)) → IfErr r (IsRefusedBy bytes) → (log : Log) → IsLog log → bytes ≡ log_text log
+    → MatchResult r (λ read. read ≡ log) (λ e. e ≡ NoMemory)
+only_one bytes (Ok read) found refused log fits text = one_log read log found.0 fits (sym found.1 ∙ text)
+only_one bytes (Err NoMemory) found refused log fits text = refl
+only_one bytes (Err (Fault f)) found refused log fits text = absurd (text_stands bytes f.line f.kind log refused fits text)

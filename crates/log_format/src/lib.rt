@@ -16,6 +16,7 @@ mod proof_line;
 mod read;
 mod reader;
 mod stage;
+mod write;
 
 pub use fault::{LineError, LogFault, ReadError};
 pub use kind::Kind;
@@ -24,3 +25,4 @@ pub use proof::Proof;
 pub use proof_line::ProofLine;
 pub use read::read_log;
 pub use reader::LogReader;
+pub use write::write_log;

@@ -53,14 +53,9 @@ fn read_lines<'a>(reader: &mut LogReader, bytes: &'a [u8]) -> Result<(u64, &'a [
     Ok((lines, rest))
 }
 
-/// Reads the text of a log, all of the bytes. Memory grows with the lines that were read.
-pub fn read_log(alloc: Global, bytes: &[u8]) -> Result<Log, ReadError>
-    // What is read is a log that has this text.
+// Reads the text of a log, all of the bytes.
+fn read(alloc: Global, bytes: &[u8]) -> Result<Log, ReadError>
     ensures found { IfOk result (λ log. IsLog log × (bytes.now ≡ log_text log)) }
-    // Each log that has this text is what is read, unless memory runs out.
-    ensures only { (log : Log) → IsLog log → bytes.now ≡ log_text log
-        → MatchResult result (λ read. read ≡ log) (λ e. e ≡ ReadError.NoMemory) }
-    // A fault is at the first line that is wrong, or behind the last.
     ensures fault { IfErr result (IsRefusedBy bytes.now) }
 {
     let mut reader = LogReader::new(alloc);
@@ -72,4 +67,17 @@ pub fn read_log(alloc: Global, bytes: &[u8]) -> Result<Log, ReadError>
         return Err(fault(lines + 1, Kind::BadLine));
     }
     Ok(log)
+}
+
+/// Reads the text of a log, all of the bytes. Memory grows with the lines that were read.
+pub fn read_log(alloc: Global, bytes: &[u8]) -> Result<Log, ReadError>
+    // What is read is a log that has this text.
+    ensures found { IfOk result (λ log. IsLog log × (bytes.now ≡ log_text log)) }
+    // A log that has this text is what is read, unless memory runs out.
+    ensures only { (log : Log) → IsLog log → bytes.now ≡ log_text log
+        → MatchResult result (λ read. read ≡ log) (λ e. e ≡ ReadError.NoMemory) }
+    // A fault is at the first line that is wrong, or behind the last.
+    ensures fault { IfErr result (IsRefusedBy bytes.now) }
+{
+    read(alloc, bytes)
 }
