@@ -10,3 +10,5 @@ pub mod Runs
 pub mod Finishing
 pub mod Lines
 pub mod WholeLines
+pub mod Texts
+pub mod Accepting

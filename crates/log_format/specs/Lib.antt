@@ -4,3 +4,5 @@ pub mod Reading
 pub mod Reached
 pub mod Kind
 pub mod Refused
+pub mod Accepts
+pub mod Laws

@@ -8,6 +8,7 @@
 
 mod fault;
 mod kind;
+mod law;
 mod line;
 mod log;
 mod numbers;
@@ -20,6 +21,7 @@ mod write;
 
 pub use fault::{LineError, LogFault, ReadError};
 pub use kind::Kind;
+pub use law::{accepted_holds, one_spelling, refused_exactly};
 pub use log::{Claim, Log};
 pub use proof::Proof;
 pub use proof_line::ProofLine;

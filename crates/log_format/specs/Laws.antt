@@ -1,0 +1,20 @@
+-- The laws of logs and their texts.
+use Rattle.std.specs.Prelude.{◌≡◌, ◌≢◌, ℕ, List}
+use Rattle.log_format.specs.declared.kind.Kind.{Kind}
+use Rattle.log_format.specs.declared.log.Log.{Log}
+use Rattle.log_format.specs.Text.{IsLog, log_text}
+use Rattle.log_format.specs.Refused.{LogRefused}
+
+-- no two logs have one text
+abbrev pub OneSpelling : Type 0
+OneSpelling = (a b : Log) → IsLog a → IsLog b → log_text a ≡ log_text b → a ≡ b
+
+-- the bytes are the text of no log
+abbrev pub IsNoText : List ℕ → Type 0
+IsNoText bytes = (log : Log) → IsLog log → bytes ≢ log_text log
+
+-- what is the text of a log is not refused, and what is not, is refused at one line and as one kind
+pub record RefusedExactly (bytes : List ℕ) : Type 0 where
+  pub no_text : (line : ℕ) (kind : Kind) → LogRefused bytes line kind → IsNoText bytes
+  pub some_fault : IsNoText bytes → (line : ℕ) × (kind : Kind) × LogRefused bytes line kind
+  pub one_fault : (line line' : ℕ) (kind kind' : Kind) → LogRefused bytes line kind → LogRefused bytes line' kind' → (line ≡ line') × (kind ≡ kind')
