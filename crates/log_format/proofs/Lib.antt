@@ -12,3 +12,4 @@ pub mod Lines
 pub mod WholeLines
 pub mod Texts
 pub mod Accepting
+pub mod Refusing

@@ -4,6 +4,7 @@ use Rattle.std.specs.Prelude.{codes, OnOk}
 use Rattle.std.specs.declared.alloc.AllocError.{AllocError}
 use Rattle.std.specs.List.{flat_map}
 use Rattle.std.proofs.lemmas.Grind.{flat_map-append}
+use Rattle.std.proofs.lemmas.List.{append-nil}
 use Rattle.std.proofs.lemmas.Result.{on_ok_weaker}
 use Rattle.st_model.specs.declared.tree.Tree.{Tree}
 use Rattle.log_format.specs.declared.log.Claim.{Claim}
@@ -35,4 +36,7 @@ found_written r claim primal dual tree proof lines old t1 t2 t3 new is same h1 h
 
 -- a claim of no tree was written
 pub wall_written : (r : Result (Unit {0}) AllocError) (claim : Claim) (wall set old t1 new : List ℕ) → claim ≡ NoTree wall → set ≡ wall → t1 ≡ old ++ codes "CLAIM NONE\nWALL" → OnOk r (new ≡ t1 ++ ended (flat_map spaced (length set ∷ set))) → OnOk r (new ≡ old ++ flat_map ended (claim_lines claim))
-wall_written r claim wall set old t1 new is same h1 h2 = ?
+wall_written r claim wall set old t1 new is same h1 h2 =
+    let numbers : List ℕ = flat_map spaced (length wall ∷ wall) in
+    on_ok_weaker r (λ e. e ∙ (ap (λ (s : List ℕ). t1 ++ ended (flat_map spaced (length s ∷ s))) same ∙ (ap (λ (t : List ℕ). t ++ ended numbers) h1 ∙ (append_assoc old (codes "CLAIM NONE\nWALL") (ended numbers)
+    ∙ (ap (λ (n : List ℕ). old ++ (codes "CLAIM NONE\nWALL" ++ n)) (sym (append-nil (ended numbers))) ∙ ap (λ (c : Claim). old ++ flat_map ended (claim_lines c)) (sym is)))))) h2

@@ -17,6 +17,8 @@ mod proof_line;
 mod read;
 mod reader;
 mod stage;
+#[cfg(test)]
+mod tests;
 mod write;
 
 pub use fault::{LineError, LogFault, ReadError};
