@@ -13,3 +13,4 @@ pub mod WholeLines
 pub mod Texts
 pub mod Accepting
 pub mod Refusing
+pub mod Rejecting

@@ -1,5 +1,5 @@
 -- When a log is right of an instance, and what is wrong with it first where it isn't.
-use Rattle.std.specs.Prelude.{◌≡◌, ◌≢◌, ℕ, ◌+◌, ◌≤◌, ◌⊎◌, IsTrue, IsFalse, IsSome, List, [], ◌∷◌, length, All}
+use Rattle.std.specs.Prelude.{◌≡◌, ℕ, ◌+◌, ◌≤◌, ◌⊎◌, IsTrue, IsFalse, IsSome, List, [], ◌∷◌, length, All}
 use Rattle.st_model.specs.declared.branch.Branch.{Branch}
 use Rattle.st_model.specs.declared.tree.Tree.{Tree}
 use Rattle.st_model.specs.Lists.{has}
@@ -57,12 +57,16 @@ Holds I (NoTree wall) = (t : Tree) → IsTree I t → ⊥
 abbrev pub AcceptedHolds : Type 0
 AcceptedHolds = (I : Network) (log : Log) → Accepts I log → Holds I log.claim
 
--- the first of the lines that fails, where these branches wait and x is to be proved; at is the number of the first line
+-- a check is the first to fail, at this line and as this kind; or it passes, and the others fail
+abbrev pub FailsFirst : Type 0 → ℕ → Kind → ℕ → Kind → Type 0 → Type 0
+FailsFirst Check at is line kind Others = ((¬ Check) × (line ≡ at) × (kind ≡ is)) ⊎ (Check × Others)
+
+-- the first of the lines that is wrong, where these branches wait and x is to be proved; at is the number of the first line
 abbrev pub IsFirstWrong : Network → ℕ → List Branch → ℕ → List ProofLine → ℕ → Kind → Type 0
-IsFirstWrong I x (B ∷ Bs) at (Split v ∷ lines) line kind = ((¬ (IsSplit I B v)) × (line ≡ at) × (kind ≡ BadSplit)) ⊎ (IsSplit I B v × IsFirstWrong I x (with_inside B v ∷ with_outside B v ∷ Bs) (at + 1) lines line kind)
-IsFirstWrong I x (B ∷ Bs) at (Close P ∷ lines) line kind = ((¬ (Fits I B P)) × (line ≡ at) × (kind ≡ BadPacking))
-    ⊎ ((Fits I B P × (¬ (x ≤ weight I B P)) × (line ≡ at) × (kind ≡ TooLight)) ⊎ (Fits I B P × (x ≤ weight I B P) × IsFirstWrong I x Bs (at + 1 + length P.cuts) lines line kind))
-IsFirstWrong I x branches at lines line kind = ⊥
+IsFirstWrong I x [] at lines line kind = ⊥
+IsFirstWrong I x (B ∷ Bs) at [] line kind = ⊥
+IsFirstWrong I x (B ∷ Bs) at (Split v ∷ lines) line kind = FailsFirst (IsSplit I B v) at BadSplit line kind (IsFirstWrong I x (with_inside B v ∷ with_outside B v ∷ Bs) (at + 1) lines line kind)
+IsFirstWrong I x (B ∷ Bs) at (Close P ∷ lines) line kind = FailsFirst (Fits I B P) at BadPacking line kind (FailsFirst (x ≤ weight I B P) at TooLight line kind (IsFirstWrong I x Bs (at + 1 + length P.cuts) lines line kind))
 
 -- the line on which a proof begins
 abbrev pub proof_line : Tree → ℕ
@@ -70,11 +74,11 @@ proof_line tree = 6 + length tree.arcs
 
 -- the first check that a claim fails, and its line
 abbrev pub RejectsClaim : Network → Claim → ℕ → Kind → Type 0
-RejectsClaim I (Found primal dual tree proof) line kind = ((¬ (IsTree I tree)) × (line ≡ 3) × (kind ≡ NotTree))
-    ⊎ (IsTree I tree × (((primal ≢ cost I tree) × (line ≡ 2) × (kind ≡ WrongCost))
-    ⊎ ((primal ≡ cost I tree) × (((¬ (dual ≤ primal)) × (line ≡ 2) × (kind ≡ DualAbovePrimal))
-    ⊎ ((dual ≤ primal) × IsFirstWrong I dual (all_trees ∷ []) (proof_line tree) proof line kind)))))
-RejectsClaim I (NoTree wall) line kind = (¬ (IsWall I wall)) × (line ≡ 3) × (kind ≡ BadWall)
+RejectsClaim I (Found primal dual tree proof) line kind = FailsFirst (IsTree I tree) 3 NotTree line kind
+  (FailsFirst (primal ≡ cost I tree) 2 WrongCost line kind
+  (FailsFirst (dual ≤ primal) 2 DualAbovePrimal line kind
+  (IsFirstWrong I dual (all_trees ∷ []) (proof_line tree) proof line kind)))
+RejectsClaim I (NoTree wall) line kind = FailsFirst (IsWall I wall) 3 BadWall line kind ⊥
 
 abbrev pub Rejects : Network → Log → ℕ → Kind → Type 0
 Rejects I log line kind = RejectsClaim I log.claim line kind

@@ -2,6 +2,8 @@
 use Rattle.std.specs.Prelude.{◌≡◌, ◌≢◌, ℕ, List}
 use Rattle.log_format.specs.declared.kind.Kind.{Kind}
 use Rattle.log_format.specs.declared.log.Log.{Log}
+use Rattle.st_model.specs.Network.{Network}
+use Rattle.log_format.specs.Accepts.{Accepts, Rejects}
 use Rattle.log_format.specs.Text.{IsLog, log_text}
 use Rattle.log_format.specs.Refused.{LogRefused}
 
@@ -18,3 +20,9 @@ pub record RefusedExactly (bytes : List ℕ) : Type 0 where
   pub no_text : (line : ℕ) (kind : Kind) → LogRefused bytes line kind → IsNoText bytes
   pub some_fault : IsNoText bytes → (line : ℕ) × (kind : Kind) × LogRefused bytes line kind
   pub one_fault : (line line' : ℕ) (kind kind' : Kind) → LogRefused bytes line kind → LogRefused bytes line' kind' → (line ≡ line') × (kind ≡ kind')
+
+-- what is accepted is not rejected; what is rejected is so at one line and as one kind; and what is not accepted can't go without it
+pub record RejectedExactly (I : Network) (log : Log) : Type 0 where
+  pub not_accepted : (line : ℕ) (kind : Kind) → Rejects I log line kind → Accepts I log → ⊥
+  pub one_fault : (line line' : ℕ) (kind kind' : Kind) → Rejects I log line kind → Rejects I log line' kind' → (line ≡ line') × (kind ≡ kind')
+  pub no_escape : IsLog log → (Accepts I log → ⊥) → ((line : ℕ) (kind : Kind) → Rejects I log line kind → ⊥) → ⊥

@@ -1,6 +1,8 @@
 ghost use Rattle.std.specs.Prelude.{ℕ, List};
+ghost use Rattle.st_model.specs.Network.{Network};
+ghost use Rattle.log_format.specs.declared.log.Log.{Log};
 ghost use Rattle.log_format.specs.Accepts.{AcceptedHolds};
-ghost use Rattle.log_format.specs.Laws.{OneSpelling, RefusedExactly};
+ghost use Rattle.log_format.specs.Laws.{OneSpelling, RefusedExactly, RejectedExactly};
 
 /// No two logs have one text.
 pub fn one_spelling()
@@ -15,4 +17,9 @@ pub fn refused_exactly()
 /// What an accepted log claims holds of the instance.
 pub fn accepted_holds()
     ensures { AcceptedHolds }
+{}
+
+/// A log is rejected, at one line and as one kind, exactly where it isn't accepted.
+pub fn rejected_exactly()
+    ensures { (I : Network) (log : Log) → RejectedExactly I log }
 {}

@@ -23,7 +23,7 @@ mod write;
 
 pub use fault::{LineError, LogFault, ReadError};
 pub use kind::Kind;
-pub use law::{accepted_holds, one_spelling, refused_exactly};
+pub use law::{accepted_holds, one_spelling, refused_exactly, rejected_exactly};
 pub use log::{Claim, Log};
 pub use proof::Proof;
 pub use proof_line::ProofLine;

@@ -245,4 +245,5 @@ fn states_its_laws() {
     one_spelling();
     refused_exactly();
     accepted_holds();
+    rejected_exactly();
 }
