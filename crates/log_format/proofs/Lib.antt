@@ -1,0 +1,16 @@
+pub mod Steps
+pub mod Cut
+pub mod Numerals
+pub mod Preorders
+pub mod Loop
+pub mod LineLaws
+pub mod Sets
+pub mod StageLaws
+pub mod Runs
+pub mod Finishing
+pub mod Lines
+pub mod WholeLines
+pub mod Texts
+pub mod Accepting
+pub mod Refusing
+pub mod Rejecting

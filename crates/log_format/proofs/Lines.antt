@@ -1,0 +1,169 @@
+-- The lines of some bytes: each up to its end, and what is left.
+use Rattle.std.proofs.Common.{◌≡◌, ℕ, suc, ◌+◌, ◌<◌, ◌≤◌, ◌^◌, Bool, true, false, cond, not, eqb, ◌&&◌, inl, inr, List, [], ◌∷◌, ◌++◌, length, map, take, drop, Option, Some, None, option_map, refl, sym, ap, subst, ◌∙◌, append_assoc, arith}
+use Rattle.std.specs.Prelude.{◌==◌, position, codes}
+use Rattle.std.specs.List.{flat_map, AllByRecursion}
+use Rattle.std.proofs.lemmas.Bool.{eqb-true, and_parts, and_from, not-true, cases_Bool}
+use Rattle.std.proofs.lemmas.Bool.Decides.{nat_tests}
+use Rattle.std.proofs.lemmas.List.Elements.{recursion_from_All}
+use Rattle.log_format.specs.declared.log.Log.{Log}
+use Rattle.log_format.specs.declared.log.Claim.{Claim}
+use Rattle.log_format.specs.declared.log.Claim.TheVariants.{Found, NoTree}
+use Rattle.log_format.specs.declared.proof_line.ProofLine.{ProofLine}
+use Rattle.log_format.specs.declared.proof_line.ProofLine.TheVariants.{Split, Close}
+use Rattle.cut_packing.specs.declared.cut.Cut.{Cut}
+use Rattle.log_format.specs.Text.{ended, spaced, words, root_number, arc_line, cut_line, lines_of, header, claim_lines, log_lines, log_text, with_byte, cut_lines, whole_lines, unfinished, IsAnyVertex, IsWritableSet, IsWritableCut, IsWritableLine, IsClaimInRange, IsInLogRange}
+use Rattle.log_format.specs.Reading.{cut, most}
+use Rattle.log_format.proofs.Cut.{lacks, lacks-append, position-cons}
+use Rattle.log_format.proofs.Numerals.{decimal_lacks}
+use Rattle.log_format.proofs.Sets.{set_to}
+use Rattle.log_format.proofs.Runs.{root_in_range}
+use Rattle.st_model.specs.Network.{IsVertex}
+
+-- ---- by the position of the end
+
+-- the bytes on either side of an index, where there is one
+abbrev sides : List ℕ → Option ℕ → Option (List ℕ × List ℕ)
+sides bytes o = option_map (λ i. (take i bytes, drop (suc i) bytes)) o
+
+-- the sides with one more byte in front
+sides-cons : (b : ℕ) (bs : List ℕ) (o : Option ℕ) (test : Bool) → cond test (Some ([], bs)) (option_map (λ x. (b ∷ x.0, x.1)) (sides bs o)) ≡ sides (b ∷ bs) (cond test (Some 0) (option_map suc o))
+sides-cons b bs o true = refl
+sides-cons b bs None false = refl
+sides-cons b bs (Some i) false = refl
+
+-- a cut is made at the first position of the byte
+pub cut-position : (d : ℕ) (bytes : List ℕ) → cut d bytes ≡ sides bytes (position (λ b. b == d) bytes)
+cut-position d [] = refl
+cut-position d (b ∷ bs) = rw (position-cons, cut-position d bs) (sides-cons b bs (position (λ b. b == d) bs) (b == d))
+
+-- ---- lines
+
+-- the first line goes in front of the others
+abbrev first_line : List ℕ × List ℕ → List (List ℕ) × List ℕ
+first_line x = (x.0 ∷ whole_lines x.1, unfinished x.1)
+
+-- a first line, or none
+abbrev lines_by : List ℕ → Option (List ℕ × List ℕ) → List (List ℕ) × List ℕ
+lines_by bytes None = ([], bytes)
+lines_by bytes (Some x) = first_line x
+
+-- one more byte in front of a line that is cut, or of what is left
+with_byte-lines_by : (b : ℕ) (bs : List ℕ) (o : Option (List ℕ × List ℕ)) → with_byte b (lines_by bs o) ≡ lines_by (b ∷ bs) (option_map (λ x. (b ∷ x.0, x.1)) o)
+with_byte-lines_by b bs None = refl
+with_byte-lines_by b bs (Some x) = refl
+
+-- the end of a line, or one more byte in front of it
+either : (b : ℕ) (bs : List ℕ) (test : Bool) → cut_lines bs ≡ lines_by bs (cut 10 bs)
+    → cond {A = List (List ℕ) × List ℕ} test ([] ∷ whole_lines bs, unfinished bs) (with_byte b (cut_lines bs)) ≡ lines_by (b ∷ bs) (cond test (Some ([], bs)) (option_map (λ x. (b ∷ x.0, x.1)) (cut 10 bs)))
+either b bs true e = refl
+either b bs false e = ap (with_byte b) e ∙ with_byte-lines_by b bs (cut 10 bs)
+
+-- the lines are the first one, and then the others
+pub cut_lines-cut : (bytes : List ℕ) → cut_lines bytes ≡ lines_by bytes (cut 10 bytes)
+cut_lines-cut [] = refl
+cut_lines-cut (b ∷ bs) = either b bs (b == 10) (cut_lines-cut bs)
+
+-- the bytes of some lines with their ends, and what is left
+abbrev pub bytes_of : List (List ℕ) × List ℕ → List ℕ
+bytes_of x = flat_map ended x.0 ++ x.1
+
+bytes_of-with_byte : (b : ℕ) (x : List (List ℕ) × List ℕ) → bytes_of (with_byte b x) ≡ b ∷ bytes_of x
+bytes_of-with_byte b ([], rest) = refl
+bytes_of-with_byte b (line ∷ lines, rest) = refl
+
+-- the end of a line, or one more byte
+made : (b : ℕ) (bs : List ℕ) (test : Bool) → (b == 10) ≡ test → bs ≡ bytes_of (cut_lines bs) → b ∷ bs ≡ bytes_of (cond {A = List (List ℕ) × List ℕ} test ([] ∷ whole_lines bs, unfinished bs) (with_byte b (cut_lines bs)))
+made b bs true is e = rw (eqb-true b 10 is) (ap (λ (r : List ℕ). 10 ∷ r) e)
+made b bs false is e = ap (λ (r : List ℕ). b ∷ r) e ∙ sym (bytes_of-with_byte b (cut_lines bs))
+
+-- the bytes are their lines with their ends, and what is left
+pub lines_make : (bytes : List ℕ) → bytes ≡ bytes_of (cut_lines bytes)
+lines_make [] = refl
+lines_make (b ∷ bs) = made b bs (b == 10) refl (lines_make bs)
+
+-- a line that ends is cut off
+line_again : (line bytes : List ℕ) → lacks 10 line ≡ true → cut_lines (line ++ 10 ∷ bytes) ≡ (line ∷ whole_lines bytes, unfinished bytes)
+line_again [] bytes h = refl
+line_again (b ∷ line) bytes h =
+    let p = and_parts (not (eqb b 10)) (lacks 10 line) h in
+    rw (not-true (eqb b 10) p.0) (ap (with_byte b) (line_again line bytes p.1))
+
+-- lines with their ends are these lines
+pub lines_again : (lines : List (List ℕ)) → AllByRecursion (λ line. lacks 10 line ≡ true) lines → cut_lines (flat_map ended lines) ≡ (lines, [])
+lines_again [] h = refl
+lines_again (line ∷ lines) h =
+    ap cut_lines (append_assoc line (10 ∷ []) (flat_map ended lines)) ∙ (line_again line (flat_map ended lines) h.0 ∙ ap (λ (x : List (List ℕ) × List ℕ). let r : List (List ℕ) × List ℕ = (line ∷ x.0, x.1) in r) (lines_again lines h.1))
+
+-- ---- the lines of a log
+
+-- numbers that can be written
+abbrev AreWritable : List ℕ → Type 0
+AreWritable ns = AllByRecursion (λ n. n < 2 ^ 64) ns
+
+numbers_lack : (ns : List ℕ) → AreWritable ns → lacks 10 (flat_map spaced ns) ≡ true
+numbers_lack [] fits = refl
+numbers_lack (n ∷ ns) fits = lacks-append 10 (spaced n) (flat_map spaced ns) (decimal_lacks 10 n (omega arith) fits.0) (numbers_lack ns fits.1)
+
+-- a keyword and numbers end no line
+words_lack : (keyword ns : List ℕ) → lacks 10 keyword ≡ true → AreWritable ns → lacks 10 (words keyword ns) ≡ true
+words_lack keyword ns h fits = lacks-append 10 keyword (flat_map spaced ns) h (numbers_lack ns fits)
+
+-- some lines that are whole each
+abbrev AreLines : List (List ℕ) → Type 0
+AreLines lines = AllByRecursion (λ line. lacks 10 line ≡ true) lines
+
+lines-append : (xs ys : List (List ℕ)) → AreLines xs → AreLines ys → AreLines (xs ++ ys)
+lines-append [] ys h k = k
+lines-append (x ∷ xs) ys h k = (h.0, lines-append xs ys h.1 k)
+
+vertices_are : (set : List ℕ) → AllByRecursion (IsVertex 1000000) set → AreWritable set
+vertices_are [] h = tt
+vertices_are (v ∷ vs) h = (let high : v ≤ 1000000 = h.0.1 in omega arith, vertices_are vs h.1)
+
+arcs_lack : (arcs : List (ℕ × ℕ)) → AllByRecursion (λ arc. IsAnyVertex arc.0 × IsAnyVertex arc.1) arcs → AreLines (map arc_line arcs)
+arcs_lack [] fits = tt
+arcs_lack (arc ∷ arcs) fits =
+    let tail : arc.0 ≤ 1000000 = fits.0.0.1 in
+    let head : arc.1 ≤ 1000000 = fits.0.1.1 in
+    (words_lack (codes "A") (arc.0 ∷ arc.1 ∷ []) refl (omega arith, (omega arith, tt)), arcs_lack arcs fits.1)
+
+cuts_lack : (cuts : List Cut) → AllByRecursion IsWritableCut cuts → AreLines (map cut_line cuts)
+cuts_lack [] fits = tt
+cuts_lack (c ∷ cuts) fits =
+    let q : c.q ≤ 1000000 = fits.0.q.1 in
+    let few : length c.set ≤ most = (set_to c.set fits.0.set).few in
+    (words_lack (codes "U") (c.q ∷ c.y ∷ length c.set ∷ c.set) refl (omega arith, (fits.0.y, (omega arith, vertices_are c.set (recursion_from_All _ c.set fits.0.set.vertices.in_range)))), cuts_lack cuts fits.1)
+
+proof_lacks : (lines : List ProofLine) → AllByRecursion IsWritableLine lines → AreLines (flat_map lines_of lines)
+proof_lacks [] fits = tt
+proof_lacks (Split v ∷ lines) fits =
+    let high : v ≤ 1000000 = fits.0.1 in
+    (words_lack (codes "S") (v ∷ []) refl (omega arith, tt), proof_lacks lines fits.1)
+proof_lacks (Close P ∷ lines) fits =
+    let root = root_in_range P.root fits.0.root in
+    lines-append (lines_of (Close P)) (flat_map lines_of lines) (words_lack (codes "C") (root_number P.root ∷ length P.cuts ∷ []) refl (omega (arith, root), (fits.0.few_cuts, tt)), cuts_lack P.cuts (recursion_from_All _ P.cuts fits.0.cuts)) (proof_lacks lines fits.1)
+
+claim_lacks : (claim : Claim) → IsClaimInRange claim → AreLines (claim_lines claim)
+claim_lacks (Found primal dual tree proof) fits =
+    let start : tree.start ≤ 1000000 = fits.tree_fits.start.1 in
+    (words_lack (codes "CLAIM TREE") (primal ∷ dual ∷ []) refl (fits.primal_fits, (fits.dual_fits, tt)), (words_lack (codes "TREE") (tree.start ∷ length tree.arcs ∷ []) refl (omega arith, (fits.tree_fits.few_arcs, tt)), lines-append (map arc_line tree.arcs) (codes "STEPS 0" ∷ codes "PROOF" ∷ flat_map lines_of proof) (arcs_lack tree.arcs (recursion_from_All _ tree.arcs fits.tree_fits.arcs)) (refl, (refl, proof_lacks proof (recursion_from_All _ proof fits.lines_fit)))))
+claim_lacks (NoTree wall) fits =
+    let few : length wall ≤ most = (set_to wall fits).few in
+    (refl, (words_lack (codes "WALL") (length wall ∷ wall) refl (omega arith, vertices_are wall (recursion_from_All _ wall fits.vertices.in_range)), tt))
+
+-- the lines of the text of a log are the lines of the log, and nothing is left
+pub text_lines : (log : Log) → IsInLogRange log → cut_lines (log_text log) ≡ (log_lines log, [])
+text_lines log fits = lines_again (log_lines log) (refl, lines-append (claim_lines log.claim) (codes "END" ∷ []) (claim_lacks log.claim fits) (refl, tt))
+
+-- where a first line is cut off, it comes before the other lines
+pub cut_some : (bytes line rest : List ℕ) → cut 10 bytes ≡ Some (line, rest) → (whole_lines bytes ≡ line ∷ whole_lines rest) × (unfinished bytes ≡ unfinished rest)
+cut_some bytes line rest e =
+    let x : List ℕ × List ℕ = (line, rest) in
+    let lines : cut_lines bytes ≡ first_line x = cut_lines-cut bytes ∙ ap (lines_by bytes) e in
+    (ap (λ (p : List (List ℕ) × List ℕ). p.0) lines, ap (λ (p : List (List ℕ) × List ℕ). p.1) lines)
+
+-- where none is, there are no lines, and all is left
+pub cut_none : (bytes : List ℕ) → cut 10 bytes ≡ None → (whole_lines bytes ≡ []) × (unfinished bytes ≡ bytes)
+cut_none bytes e =
+    let lines : cut_lines bytes ≡ ([], bytes) = cut_lines-cut bytes ∙ ap (lines_by bytes) e in
+    (ap (λ (p : List (List ℕ) × List ℕ). p.0) lines, ap (λ (p : List (List ℕ) × List ℕ). p.1) lines)

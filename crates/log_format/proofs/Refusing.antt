@@ -1,0 +1,170 @@
+-- Bytes that are the text of no log are refused, at one line and as one kind.
+use Rattle.std.proofs.Common.{◌≡◌, ◌≢◌, ℕ, ◌+◌, ◌<◌, ◌≤◌, ◌⊎◌, inl, inr, List, [], ◌∷◌, ◌++◌, length, Option, Some, None, refl, sym, ap, subst, ◌∙◌, append_assoc, arith}
+use Rattle.std.proofs.lemmas.List.{append-nil}
+use Rattle.log_format.specs.declared.kind.Kind.{Kind}
+use Rattle.log_format.specs.declared.kind.Kind.TheVariants.{BadLine, EndsEarly}
+use Rattle.log_format.specs.declared.log.Log.{Log}
+use Rattle.log_format.specs.declared.log.Claim.{Claim}
+use Rattle.log_format.specs.declared.stage.Stage.{Stage}
+use Rattle.log_format.specs.declared.stage.Stage.TheVariants.{AtHeader, AtClaim, AtTree, AtArcs, AtProof, AtHalf, AtCuts, AtWall, AtEnd, AtNothing}
+use Rattle.log_format.specs.Text.{log_lines, log_text, whole_lines, unfinished, AreWhole, Begins, IsLog}
+use Rattle.log_format.specs.Reading.{step}
+use Rattle.log_format.specs.Reached.{lines_read, IsRead}
+use Rattle.log_format.specs.Refused.{IsBadLine, HasBytesBehind, IsCutShort, LogRefused}
+use Rattle.log_format.specs.Laws.{IsNoText, RefusedExactly}
+use Rattle.log_format.proofs.Finishing.{read_none, read_more, read_begins, refused_stops, read_whole, whole_is_read}
+use Rattle.log_format.proofs.WholeLines.{is_text, text_stands}
+
+-- the lines lead to a stage
+abbrev AllRead : List (List ℕ) → Type 0
+AllRead lines = (t : Stage) × IsRead t × (lines_read t ≡ lines)
+
+-- some log begins with the lines before one of them, and none with this one too
+pub record Stops (lines : List (List ℕ)) : Type 0 where
+  pub before : List (List ℕ)
+  pub bad : List ℕ
+  pub behind : List (List ℕ)
+  pub parts : lines ≡ before ++ bad ∷ behind
+  pub begun : Begins before
+  pub stops : ¬ (Begins (before ++ bad ∷ []))
+
+-- the lines are read, or one of them is the first that is refused
+scan : (s : Stage) (lines : List (List ℕ)) → IsRead s → AllRead (lines_read s ++ lines) ⊎ Stops (lines_read s ++ lines)
+scan s [] read = inl (s, read, sym (append-nil (lines_read s)))
+scan s (line ∷ lines) read = by_step (step s line) refl (λ t more. scan t lines more)
+  where
+    by_step : (o : Option Stage) → step s line ≡ o → ((t : Stage) → IsRead t → AllRead (lines_read t ++ lines) ⊎ Stops (lines_read t ++ lines)) → AllRead (lines_read s ++ line ∷ lines) ⊎ Stops (lines_read s ++ line ∷ lines)
+    by_step None e others = inr (record { before = lines_read s; bad = line; behind = lines; parts = refl; begun = read_begins s read; stops = refused_stops s line read e })
+    by_step (Some t) e others =
+        let more = read_more s t line read e in
+        let same : lines_read t ++ lines ≡ lines_read s ++ line ∷ lines = ap (λ (r : List (List ℕ)). r ++ lines) more.1 ∙ append_assoc (lines_read s) (line ∷ []) lines in
+        subst (λ (ls : List (List ℕ)). AllRead ls ⊎ Stops ls) same (others t more.0)
+
+-- a stage is at the end of a claim, or at the end of none
+at_end : (s : Stage) → ((claim : Claim) × (s ≡ AtNothing claim)) ⊎ ((claim : Claim) → s ≡ AtNothing claim → ⊥)
+at_end AtHeader = inr (λ claim e. cc)
+at_end AtClaim = inr (λ claim e. cc)
+at_end (AtTree primal dual) = inr (λ claim e. cc)
+at_end (AtArcs primal dual start arcs left) = inr (λ claim e. cc)
+at_end (AtProof a) = inr (λ claim e. cc)
+at_end (AtHalf p) = inr (λ claim e. cc)
+at_end (AtCuts p root cuts left) = inr (λ claim e. cc)
+at_end AtWall = inr (λ claim e. cc)
+at_end (AtEnd claim') = inr (λ claim e. cc)
+at_end (AtNothing claim) = inl (claim, refl)
+
+-- bytes are left, or none
+nothing_left : (bytes : List ℕ) → (bytes ≡ []) ⊎ (bytes ≢ [])
+nothing_left [] = inl refl
+nothing_left (b ∷ bs) = inr (λ e. cc)
+
+-- bytes whose lines are read are the text of a log, or refused
+read_faults : (bytes : List ℕ) → AllRead (whole_lines bytes) → IsNoText bytes → (line : ℕ) × (kind : Kind) × LogRefused bytes line kind
+read_faults bytes (t, read, lines) no_text =
+    elim (at_end t) [
+      | inl end ↦
+          let done = subst (λ (s : Stage). IsRead s) end.1 read in
+          let log : Log = record { claim = end.0 } in
+          let whole = read_whole end.0 done in
+          let same : log_lines log ≡ whole_lines bytes = whole.1 ∙ (ap lines_read (sym end.1) ∙ lines) in
+          elim (nothing_left (unfinished bytes)) [
+            | inl none ↦ absurd (no_text log whole.0 (is_text bytes log same none))
+            | inr some ↦ (length (whole_lines bytes) + 1, BadLine, inr (record { whole = (log, whole.0, same); behind = some; place = refl }))
+          ]
+      | inr none ↦ (
+        length (whole_lines bytes) + 1,
+        EndsEarly,
+        record {
+          begun = subst Begins lines (read_begins t read);
+          part = λ (log, fits, same). none log.claim (whole_is_read t log read fits (same ∙ sym lines));
+          place = refl;
+        },
+      )
+    ]
+
+-- bytes that are the text of no log are refused
+some_fault_lem : (bytes : List ℕ) → IsNoText bytes → (line : ℕ) × (kind : Kind) × LogRefused bytes line kind
+some_fault_lem bytes no_text =
+    elim (scan AtHeader (whole_lines bytes) read_none) [
+      | inl read ↦ read_faults bytes read no_text
+      | inr stop ↦ (length stop.before + 1, BadLine, inl (record { before = stop.before; bad = stop.bad; behind = stop.behind; lines = stop.parts; place = refl; begun = stop.begun; stops = stop.stops }))
+    ]
+
+-- ---- one fault
+
+-- a log that begins with some lines begins with the first of them
+begins_first : (lines more : List (List ℕ)) → Begins (lines ++ more) → Begins lines
+begins_first lines more (log, rest, fits, e) = (log, more ++ rest, fits, e ∙ append_assoc lines more rest)
+
+-- two places in one list: the same, or one before the other
+pub record IsBefore (a b : List (List ℕ)) (x : List ℕ) : Type 0 where
+  pub between : List (List ℕ)
+  pub parts : b ≡ (a ++ x ∷ []) ++ between
+
+compare : (a b : List (List ℕ)) (x y : List ℕ) (xs ys : List (List ℕ)) → a ++ x ∷ xs ≡ b ++ y ∷ ys → (a ≡ b) ⊎ (IsBefore a b x ⊎ IsBefore b a y)
+compare [] [] x y xs ys e = inl refl
+compare [] (v ∷ b) x y xs ys e = let same : x ≡ v = cc in inr (inl (record { between = b; parts = ap (λ (l : List ℕ). l ∷ b) (sym same) }))
+compare (u ∷ a) [] x y xs ys e = let same : u ≡ y = cc in inr (inr (record { between = a; parts = ap (λ (l : List ℕ). l ∷ a) same }))
+compare (u ∷ a) (v ∷ b) x y xs ys e =
+    let same : u ≡ v = cc in
+    let tails : a ++ x ∷ xs ≡ b ++ y ∷ ys = cc in
+    elim (compare a b x y xs ys tails) [
+      | inl eq ↦ inl (let f : List (List ℕ) = u ∷ a in let g : f ≡ v ∷ b = cc in g)
+      | inr (inl before) ↦ inr (inl (record { between = before.between; parts = let p = before.parts in cc }))
+      | inr (inr before) ↦ inr (inr (record { between = before.between; parts = let p = before.parts in cc }))
+    ]
+
+-- a line that stops each log doesn't stand in what one begins with
+not_within : (a b : List (List ℕ)) (x : List ℕ) → IsBefore a b x → Begins b → ¬ (Begins (a ++ x ∷ [])) → ⊥
+not_within a b x before begun stops = stops (begins_first (a ++ x ∷ []) before.between (subst Begins before.parts begun))
+
+-- lines that some log begins with hold no line that stops each
+all_begun : (bytes : List ℕ) (line : ℕ) → IsBadLine bytes line → Begins (whole_lines bytes) → ⊥
+all_begun bytes line bad begun = bad.stops (begins_first (bad.before ++ bad.bad ∷ []) bad.behind (subst Begins (bad.lines ∙ sym (append_assoc bad.before (bad.bad ∷ []) bad.behind)) begun))
+
+-- the lines of a whole log begin one
+whole_begins : (lines : List (List ℕ)) → AreWhole lines → Begins lines
+whole_begins lines (log, fits, e) = (log, [], fits, e ∙ sym (append-nil lines))
+
+-- one bad line only
+one_bad : (bytes : List ℕ) (line line' : ℕ) → IsBadLine bytes line → IsBadLine bytes line' → line ≡ line'
+one_bad bytes line line' bad bad' =
+    elim (compare bad.before bad'.before bad.bad bad'.bad bad.behind bad'.behind (sym bad.lines ∙ bad'.lines)) [
+      | inl same ↦ bad.place ∙ (ap (λ (r : List (List ℕ)). length r + 1) same ∙ sym bad'.place)
+      | inr (inl before) ↦ absurd (not_within bad.before bad'.before bad.bad before bad'.begun bad.stops)
+      | inr (inr before) ↦ absurd (not_within bad'.before bad.before bad'.bad before bad.begun bad'.stops)
+    ]
+
+-- bytes are refused for one of three reasons
+by_reason : (bytes : List ℕ) (line : ℕ) (kind : Kind) → LogRefused bytes line kind → ((IsBadLine bytes line ⊎ HasBytesBehind bytes line) × (kind ≡ BadLine)) ⊎ (IsCutShort bytes line × (kind ≡ EndsEarly))
+by_reason bytes line BadLine refused = inl (refused, refl)
+by_reason bytes line EndsEarly refused = inr (refused, refl)
+by_reason bytes line _ none = absurd none
+
+-- one line and no cut
+bad_once : (bytes : List ℕ) (line line' : ℕ) → IsBadLine bytes line ⊎ HasBytesBehind bytes line → IsBadLine bytes line' ⊎ HasBytesBehind bytes line' → line ≡ line'
+bad_once bytes line line' (inl bad) (inl bad') = one_bad bytes line line' bad bad'
+bad_once bytes line line' (inl bad) (inr behind) = absurd (all_begun bytes line bad (whole_begins (whole_lines bytes) behind.whole))
+bad_once bytes line line' (inr behind) (inl bad) = absurd (all_begun bytes line' bad (whole_begins (whole_lines bytes) behind.whole))
+bad_once bytes line line' (inr behind) (inr behind') = behind.place ∙ sym behind'.place
+
+not_both : (bytes : List ℕ) (line line' : ℕ) → IsBadLine bytes line ⊎ HasBytesBehind bytes line → IsCutShort bytes line' → ⊥
+not_both bytes line line' (inl bad) short = all_begun bytes line bad short.begun
+not_both bytes line line' (inr behind) short = short.part behind.whole
+
+-- one fault only
+one_fault_lem : (bytes : List ℕ) (line line' : ℕ) (kind kind' : Kind) → LogRefused bytes line kind → LogRefused bytes line' kind' → (line ≡ line') × (kind ≡ kind')
+one_fault_lem bytes line line' kind kind' a b = both (by_reason bytes line kind a) (by_reason bytes line' kind' b)
+  where
+    both : ((IsBadLine bytes line ⊎ HasBytesBehind bytes line) × (kind ≡ BadLine)) ⊎ (IsCutShort bytes line × (kind ≡ EndsEarly)) → ((IsBadLine bytes line' ⊎ HasBytesBehind bytes line') × (kind' ≡ BadLine)) ⊎ (IsCutShort bytes line' × (kind' ≡ EndsEarly)) → (line ≡ line') × (kind ≡ kind')
+    both (inl bad) (inl bad') = (bad_once bytes line line' bad.0 bad'.0, bad.1 ∙ sym bad'.1)
+    both (inl bad) (inr short) = absurd (not_both bytes line line' bad.0 short.0)
+    both (inr short) (inl bad) = absurd (not_both bytes line' line bad.0 short.0)
+    both (inr short) (inr short') = (short.0.place ∙ sym short'.0.place, short.1 ∙ sym short'.1)
+
+pub refused_exactly_lem : (bytes : List ℕ) → RefusedExactly bytes
+refused_exactly_lem bytes = record {
+  no_text = λ line kind refused log fits text. text_stands bytes line kind log refused fits text;
+  some_fault = some_fault_lem bytes;
+  one_fault = one_fault_lem bytes;
+}

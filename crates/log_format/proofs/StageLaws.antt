@@ -1,0 +1,221 @@
+-- What was read at a stage was spelled so.
+use Rattle.std.proofs.Common.{◌≡◌, ℕ, zero, suc, ◌+◌, ◌-◌, ◌^◌, ◌<◌, ◌≤◌, Bool, true, false, cond, eqb, inl, inr, List, [], ◌∷◌, ◌++◌, length, map, Option, Some, None, refl, sym, ap, subst, ◌∙◌, append_assoc, arith}
+use Rattle.std.specs.Prelude.{codes, IfSome}
+use Rattle.std.specs.List.{flat_map, AllByRecursion}
+use Rattle.std.specs.Str.{bytes_eq}
+use Rattle.std.proofs.lemmas.Bool.{eqb-true}
+use Rattle.std.proofs.lemmas.Bool.Decides.{nat_tests}
+use Rattle.std.proofs.lemmas.Grind.{flat_map-append}
+use Rattle.std.proofs.lemmas.List.{append-nil, map-append, length-append}
+use Rattle.std.proofs.lemmas.List.Elements.{recursion_from_All, All-from_recursion}
+use Rattle.std.proofs.lemmas.Option.{cond_some}
+use Rattle.cut_packing.specs.declared.cut.Cut.{Cut}
+use Rattle.cut_packing.specs.declared.packing.Packing.{Packing}
+use Rattle.log_format.specs.declared.log.Claim.{Claim}
+use Rattle.log_format.specs.declared.log.Claim.TheVariants.{Found, NoTree}
+use Rattle.log_format.specs.declared.proof_line.ProofLine.{ProofLine}
+use Rattle.log_format.specs.declared.proof_line.ProofLine.TheVariants.{Split, Close}
+use Rattle.log_format.specs.declared.stage.Answer.{Answer}
+use Rattle.log_format.specs.declared.stage.Proving.{Proving}
+use Rattle.log_format.specs.declared.stage.Stage.{Stage}
+use Rattle.log_format.specs.declared.stage.Stage.TheVariants.{AtHeader, AtClaim, AtTree, AtArcs, AtProof, AtHalf, AtCuts, AtWall, AtEnd, AtNothing}
+use Rattle.log_format.specs.Text.{words, root_number, arc_line, cut_line, lines_of, header, IsAnyVertex, IsWritableCut, IsWritableLine}
+use Rattle.log_format.specs.Reading.{◌>>=◌, number_of, pair_of, cut_of, wall_of, most, stage_if, root_of, closed, cuts_left, split_at, half_at, step, open_after, IsOpen}
+use Rattle.log_format.specs.Reached.{tree_lines, answer_lines, proof_lines, close_lines, lines_read, IsAnswer, IsProving, AreArcsReached, AreCutsReached, IsReached}
+use Rattle.log_format.proofs.Steps.{step_some, chosen}
+use Rattle.log_format.proofs.LineLaws.{bytes_are, number_of_judges, pair_line, pair_judges, cut_judges, wall_judges}
+use Rattle.log_format.proofs.Sets.{set_from, cut_from}
+use Rattle.log_format.proofs.Preorders.{are_proofs-append, open_after-append, one_from}
+
+-- a stage that was reached by one more line
+abbrev pub Takes : List (List ℕ) → List ℕ → Stage → Type 0
+Takes before line s = IsReached s × (lines_read s ≡ before ++ line ∷ [])
+
+-- the line was the one that is wanted
+if_takes : (wanted line : List ℕ) (s t : Stage) (before : List (List ℕ)) → stage_if wanted line s ≡ Some t → Takes before wanted s → Takes before line t
+if_takes wanted line s t before e takes =
+    let g = cond_some (bytes_eq line wanted) s t e in
+    subst (λ (l : List ℕ). Takes before l t) (sym (bytes_are line wanted g.0)) (subst (λ (u : Stage). Takes before wanted u) g.1 takes)
+
+-- one more at the end fits too
+pub AllByRecursion-push : {X : Type 0} (P : X → Type 0) (xs : List X) (x : X) → AllByRecursion P xs → P x → AllByRecursion P (xs ++ x ∷ [])
+AllByRecursion-push P [] x h p = (p, tt)
+AllByRecursion-push P (y ∷ ys) x h p = (h.0, AllByRecursion-push P ys x h.1 p)
+
+-- lines of one more at the end
+map-push : {X : Type 0} (f : X → List ℕ) (xs : List X) (x : X) → map f (xs ++ x ∷ []) ≡ map f xs ++ f x ∷ []
+map-push f xs x = map-append f xs (x ∷ [])
+
+flat-push : (xs : List ProofLine) (x : ProofLine) → flat_map lines_of (xs ++ x ∷ []) ≡ flat_map lines_of xs ++ lines_of x
+flat-push xs x = flat_map-append lines_of xs (x ∷ []) ∙ ap (λ (r : List (List ℕ)). flat_map lines_of xs ++ r) (append-nil (lines_of x))
+
+-- ---- the claim and the tree
+
+at_claim_takes : (line : List ℕ) (t : Stage) → step AtClaim line ≡ Some t → Takes (header ∷ []) line t
+unfolding step
+at_claim_takes line t e =
+    elim (chosen (bytes_eq line (codes "CLAIM NONE")) (Some AtWall) (pair_of (codes "CLAIM TREE") 0 most 0 most line >>= λ b. Some (AtTree b.0 b.1)) (Some t) e) [
+      | inl h ↦
+          let same : AtWall ≡ t = cc in
+          subst (λ (u : Stage). Takes (header ∷ []) line u) same (tt, ap (λ (l : List ℕ). header ∷ l ∷ []) (sym (bytes_are line (codes "CLAIM NONE") h.0)))
+      | inr h ↦
+          let b = step_some (pair_of (codes "CLAIM TREE") 0 most 0 most line) _ t h.1 in
+          let same : AtTree b.0.0 b.0.1 ≡ t = cc in
+          let j = (pair_judges (codes "CLAIM TREE") 0 most 0 most (omega arith) (omega arith)).takes line b.0 b.1 in
+          subst (λ (u : Stage). Takes (header ∷ []) line u) same ((omega (arith, j.0.0), omega (arith, j.0.1)), ap (λ (l : List ℕ). header ∷ l ∷ []) (sym j.1))
+    ]
+
+at_tree_takes : (primal dual : ℕ) (line : List ℕ) (t : Stage) → IsReached (AtTree primal dual) → step (AtTree primal dual) line ≡ Some t → Takes (lines_read (AtTree primal dual)) line t
+unfolding step
+at_tree_takes primal dual line t fits e =
+    let b = step_some (pair_of (codes "TREE") 1 1000000 0 most line) _ t e in
+    let same : AtArcs primal dual b.0.0 [] b.0.1 ≡ t = cc in
+    let j = (pair_judges (codes "TREE") 1 1000000 0 most (omega arith) (omega arith)).takes line b.0 b.1 in
+    let count : 0 + b.0.1 ≡ b.0.1 = omega arith in
+    subst (λ (u : Stage). Takes (lines_read (AtTree primal dual)) line u) same (
+      record { primal_fits = fits.0; dual_fits = fits.1; start_fits = j.0.0; few_arcs = omega (arith, j.0.1); arcs_fit = tt },
+      ap (λ (k : ℕ). tree_lines primal dual b.0.0 [] k) count ∙ ap (λ (l : List ℕ). lines_read (AtTree primal dual) ++ l ∷ []) (sym j.1),
+    )
+
+-- the lines of a tree with one more arc
+tree_lines-push : (primal dual start : ℕ) (arcs : List (ℕ × ℕ)) (arc : ℕ × ℕ) (count : ℕ) → tree_lines primal dual start (arcs ++ arc ∷ []) count ≡ tree_lines primal dual start arcs count ++ arc_line arc ∷ []
+tree_lines-push primal dual start arcs arc count = ap (λ (r : List (List ℕ)). tree_lines primal dual start [] count ++ r) (map-push arc_line arcs arc)
+
+at_arcs_takes : (primal dual start : ℕ) (arcs : List (ℕ × ℕ)) (left : ℕ) (line : List ℕ) (t : Stage) → IsReached (AtArcs primal dual start arcs left) → step (AtArcs primal dual start arcs left) line ≡ Some t → Takes (lines_read (AtArcs primal dual start arcs left)) line t
+unfolding step
+at_arcs_takes primal dual start arcs left line t fits e =
+    let a : Answer = record { primal = primal; dual = dual; tree = record { start = start; arcs = arcs } } in
+    elim (chosen (eqb left 0) (stage_if (codes "STEPS 0") line (AtProof a)) (pair_of (codes "A") 1 1000000 1 1000000 line >>= λ arc. Some (AtArcs primal dual start (arcs ++ arc ∷ []) (left - 1))) (Some t) e) [
+      | inl h ↦
+          let none : left ≡ 0 = eqb-true left 0 h.0 in
+          let count : length arcs ≡ length arcs + left = omega arith in
+          if_takes (codes "STEPS 0") line (AtProof a) t (lines_read (AtArcs primal dual start arcs left)) h.1 (
+            record { primal_fits = fits.primal_fits; dual_fits = fits.dual_fits; tree_fits = record { start = fits.start_fits; few_arcs = omega (arith, fits.few_arcs); arcs = All-from_recursion _ arcs fits.arcs_fit } },
+            ap (λ (k : ℕ). tree_lines primal dual start arcs k ++ codes "STEPS 0" ∷ []) count,
+          )
+      | inr h ↦
+          let b = step_some (pair_of (codes "A") 1 1000000 1 1000000 line) _ t h.1 in
+          let same : AtArcs primal dual start (arcs ++ b.0 ∷ []) (left - 1) ≡ t = cc in
+          let j = (pair_judges (codes "A") 1 1000000 1 1000000 (omega arith) (omega arith)).takes line b.0 b.1 in
+          let some : 0 < left = grind (arith, nat_tests, h.0) in
+          let count : length (arcs ++ b.0 ∷ []) + (left - 1) ≡ length arcs + left = omega (arith, length-append arcs (b.0 ∷ [])) in
+          subst (λ (u : Stage). Takes (lines_read (AtArcs primal dual start arcs left)) line u) same (
+            record { primal_fits = fits.primal_fits; dual_fits = fits.dual_fits; start_fits = fits.start_fits; few_arcs = omega (arith, fits.few_arcs, count); arcs_fit = AllByRecursion-push _ arcs b.0 fits.arcs_fit j.0 },
+            ap (λ (k : ℕ). tree_lines primal dual start (arcs ++ b.0 ∷ []) k) count ∙ (tree_lines-push primal dual start arcs b.0 (length arcs + left) ∙ ap (λ (l : List ℕ). lines_read (AtArcs primal dual start arcs left) ++ l ∷ []) (sym j.1)),
+          )
+    ]
+
+-- ---- the proof
+
+-- the lines of a proof with one more line of it
+proof_lines-push : (a : Answer) (lines : List ProofLine) (x : ProofLine) (w w' : ℕ) → proof_lines (record { answer = a; lines = lines ++ x ∷ []; waiting = w }) ≡ proof_lines (record { answer = a; lines = lines; waiting = w' }) ++ lines_of x
+proof_lines-push a lines x w w' =
+    ap (λ (r : List (List ℕ)). answer_lines a ++ codes "PROOF" ∷ r) (flat-push lines x) ∙ sym (append_assoc (answer_lines a) (codes "PROOF" ∷ flat_map lines_of lines) (lines_of x))
+
+-- one more line leaves open what it leaves of the halves that were
+open-push : (lines : List ProofLine) (x : ProofLine) (left : ℕ) → open_after 1 lines ≡ Some left → open_after 1 (lines ++ x ∷ []) ≡ open_after left (x ∷ [])
+open-push lines x left e = open_after-append 1 lines (x ∷ []) left e
+
+-- the lines of a claim whose proof is read to its end
+claim_lines-read : (a : Answer) (lines : List ProofLine) (w : ℕ) → lines_read (AtEnd (Found a.primal a.dual a.tree lines)) ≡ proof_lines (record { answer = a; lines = lines; waiting = w })
+claim_lines-read a lines w = ap (λ (r : List (List ℕ)). tree_lines a.primal a.dual a.tree.start [] (length a.tree.arcs) ++ r) (sym (append_assoc (map arc_line a.tree.arcs) (codes "STEPS 0" ∷ []) (codes "PROOF" ∷ flat_map lines_of lines)))
+
+-- a close that is read to its end
+closed_takes : (p : Proving) (P : Packing) → IsProving p → IsWritableLine (Close P) → IsReached (closed p.answer (p.lines ++ Close P ∷ []) p.waiting) × (lines_read (closed p.answer (p.lines ++ Close P ∷ []) p.waiting) ≡ proof_lines p ++ lines_of (Close P))
+closed_takes p P fits close_fits = by_waiting p.waiting fits.halves.still fits.halves.few
+  where
+    all_fit : AllByRecursion IsWritableLine (p.lines ++ Close P ∷ [])
+    all_fit = AllByRecursion-push IsWritableLine p.lines (Close P) fits.lines_fit close_fits
+
+    by_waiting : (w : ℕ) → open_after 1 p.lines ≡ Some (w + 1) → w ≤ length p.lines → IsReached (closed p.answer (p.lines ++ Close P ∷ []) w) × (lines_read (closed p.answer (p.lines ++ Close P ∷ []) w) ≡ proof_lines p ++ lines_of (Close P))
+    by_waiting zero e few =
+        let whole = are_proofs-append 1 p.lines (Close P ∷ []) 1 e in (
+          (record { primal_fits = fits.answer_fits.primal_fits; dual_fits = fits.answer_fits.dual_fits; tree_fits = fits.answer_fits.tree_fits; lines_fit = All-from_recursion IsWritableLine (p.lines ++ Close P ∷ []) all_fit }, one_from (p.lines ++ Close P ∷ []) whole),
+          claim_lines-read p.answer (p.lines ++ Close P ∷ []) 0 ∙ proof_lines-push p.answer p.lines (Close P) 0 p.waiting,
+        )
+    by_waiting (suc w) e few =
+        let more : suc w + 1 ≡ suc (w + 1) = omega arith in
+        let still = open-push p.lines (Close P) (suc (w + 1)) (e ∙ ap (λ (k : ℕ). Some k) more) in (
+          record { answer_fits = fits.answer_fits; lines_fit = all_fit; halves = record { still = still; few = omega (arith, few, length-append p.lines (Close P ∷ [])) } },
+          proof_lines-push p.answer p.lines (Close P) w p.waiting,
+        )
+
+-- the number that stands for a root, or for none
+root_number-of : (n : ℕ) → root_number (root_of n) ≡ n
+root_number-of zero = refl
+root_number-of (suc n) = refl
+
+root_fits : (n : ℕ) → n ≤ 1000000 → IfSome (root_of n) IsAnyVertex
+root_fits zero h = tt
+root_fits (suc n) h = (omega arith, h)
+
+-- the cuts of a close so far, and how many are left
+cuts_left_takes : (p : Proving) (root : Option ℕ) (cuts : List Cut) (left : ℕ) → IsProving p → IfSome root IsAnyVertex → length cuts + left < 2 ^ 64 → AllByRecursion IsWritableCut cuts
+    → IsReached (cuts_left p root cuts left) × (lines_read (cuts_left p root cuts left) ≡ proof_lines p ++ close_lines root cuts (length cuts + left))
+cuts_left_takes p root cuts zero fits root_in few cuts_fit =
+    let P : Packing = record { root = root; cuts = cuts } in
+    let t = closed_takes p P fits (record { root = root_in; few_cuts = omega arith; cuts = All-from_recursion IsWritableCut cuts cuts_fit }) in
+    let count : length cuts ≡ length cuts + 0 = omega arith in
+    (t.0, t.1 ∙ ap (λ (k : ℕ). proof_lines p ++ close_lines root cuts k) count)
+cuts_left_takes p root cuts (suc left) fits root_in few cuts_fit =
+    (record { proving = fits; root_fits = root_in; few_cuts = few; some_left = omega arith; cuts_fit = cuts_fit }, refl)
+
+-- the lines of a close with one more cut
+close_lines-push : (root : Option ℕ) (cuts : List Cut) (c : Cut) (count : ℕ) → close_lines root (cuts ++ c ∷ []) count ≡ close_lines root cuts count ++ cut_line c ∷ []
+close_lines-push root cuts c count = ap (λ (r : List (List ℕ)). close_lines root [] count ++ r) (map-push cut_line cuts c)
+
+-- a split, or the head of a close
+half_takes : (p : Proving) (line : List ℕ) (t : Stage) (v : Option ℕ) → IsProving p → number_of (codes "S") 1 1000000 line ≡ v → half_at p v line ≡ Some t → Takes (proof_lines p) line t
+half_takes p line t (Some v) fits found e =
+    let same : split_at p v ≡ t = cc in
+    let j = (number_of_judges (codes "S") 1 1000000 (omega arith)).takes line v found in
+    let more : p.waiting + 1 ≡ suc p.waiting = omega arith in
+    let more' : suc (suc p.waiting) ≡ p.waiting + 1 + 1 = omega arith in
+    let still = open-push p.lines (Split v) (suc p.waiting) (fits.halves.still ∙ ap (λ (k : ℕ). Some k) more) ∙ ap (λ (k : ℕ). Some k) more' in
+    subst (λ (u : Stage). Takes (proof_lines p) line u) same (
+      record { answer_fits = fits.answer_fits; lines_fit = AllByRecursion-push IsWritableLine p.lines (Split v) fits.lines_fit j.0; halves = record { still = still; few = omega (arith, fits.halves.few, length-append p.lines (Split v ∷ [])) } },
+      proof_lines-push p.answer p.lines (Split v) (p.waiting + 1) p.waiting ∙ ap (λ (l : List ℕ). proof_lines p ++ l ∷ []) (sym j.1),
+    )
+half_takes p line t None fits found e =
+    let head = step_some (pair_of (codes "C") 0 1000000 0 most line) _ t e in
+    let same : cuts_left p (root_of head.0.0) [] head.0.1 ≡ t = cc in
+    let j = (pair_judges (codes "C") 0 1000000 0 most (omega arith) (omega arith)).takes line head.0 head.1 in
+    let c = cuts_left_takes p (root_of head.0.0) [] head.0.1 fits (root_fits head.0.0 j.0.0.1) (omega (arith, j.0.1)) tt in
+    let count : 0 + head.0.1 ≡ head.0.1 = omega arith in
+    let spelled : close_lines (root_of head.0.0) [] (0 + head.0.1) ≡ line ∷ [] = ap (λ (k : ℕ). close_lines (root_of head.0.0) [] k) count ∙ (ap (λ (k : ℕ). words (codes "C") (k ∷ head.0.1 ∷ []) ∷ []) (root_number-of head.0.0) ∙ ap (λ (l : List ℕ). l ∷ []) (sym j.1)) in
+    subst (λ (u : Stage). Takes (proof_lines p) line u) same (c.0, c.1 ∙ ap (λ (r : List (List ℕ)). proof_lines p ++ r) spelled)
+
+at_cuts_takes : (p : Proving) (root : Option ℕ) (cuts : List Cut) (left : ℕ) (line : List ℕ) (t : Stage) → IsReached (AtCuts p root cuts left) → step (AtCuts p root cuts left) line ≡ Some t → Takes (lines_read (AtCuts p root cuts left)) line t
+unfolding step
+at_cuts_takes p root cuts left line t fits e =
+    let c = step_some (cut_of line) _ t e in
+    let same : cuts_left p root (cuts ++ c.0 ∷ []) (left - 1) ≡ t = cc in
+    let j = cut_judges.takes line c.0 c.1 in
+    let some : 1 ≤ left = fits.some_left in
+    let count : length (cuts ++ c.0 ∷ []) + (left - 1) ≡ length cuts + left = omega (arith, length-append cuts (c.0 ∷ [])) in
+    let u = cuts_left_takes p root (cuts ++ c.0 ∷ []) (left - 1) fits.proving fits.root_fits (omega (arith, fits.few_cuts, count)) (AllByRecursion-push IsWritableCut cuts c.0 fits.cuts_fit (cut_from c.0 j.0)) in
+    let spelled : close_lines root (cuts ++ c.0 ∷ []) (length (cuts ++ c.0 ∷ []) + (left - 1)) ≡ close_lines root cuts (length cuts + left) ++ line ∷ [] = ap (λ (k : ℕ). close_lines root (cuts ++ c.0 ∷ []) k) count ∙ (close_lines-push root cuts c.0 (length cuts + left) ∙ ap (λ (l : List ℕ). close_lines root cuts (length cuts + left) ++ l ∷ []) (sym j.1)) in
+    subst (λ (x : Stage). Takes (lines_read (AtCuts p root cuts left)) line x) same (u.0, u.1 ∙ (ap (λ (r : List (List ℕ)). proof_lines p ++ r) spelled ∙ sym (append_assoc (proof_lines p) (close_lines root cuts (length cuts + left)) (line ∷ []))))
+
+at_wall_takes : (line : List ℕ) (t : Stage) → step AtWall line ≡ Some t → Takes (lines_read AtWall) line t
+unfolding step
+at_wall_takes line t e =
+    let w = step_some (wall_of line) _ t e in
+    let same : AtEnd (NoTree w.0) ≡ t = cc in
+    let j = wall_judges.takes line w.0 w.1 in
+    subst (λ (u : Stage). Takes (lines_read AtWall) line u) same ((set_from w.0 j.0, tt), ap (λ (l : List ℕ). lines_read AtWall ++ l ∷ []) (sym j.1))
+
+-- a line that was taken was read, and what it said fits
+pub step_takes : (s : Stage) (line : List ℕ) (t : Stage) → IsReached s → step s line ≡ Some t → Takes (lines_read s) line t
+unfolding step
+step_takes AtHeader line t fits e = if_takes header line AtClaim t [] e (tt, refl)
+step_takes AtClaim line t fits e = at_claim_takes line t e
+step_takes (AtTree primal dual) line t fits e = at_tree_takes primal dual line t fits e
+step_takes (AtArcs primal dual start arcs left) line t fits e = at_arcs_takes primal dual start arcs left line t fits e
+step_takes (AtProof a) line t fits e =
+    if_takes (codes "PROOF") line (AtHalf (record { answer = a; lines = []; waiting = 0 })) t (answer_lines a) e (record { answer_fits = fits; lines_fit = tt; halves = record { still = refl; few = omega arith } }, refl)
+step_takes (AtHalf p) line t fits e = half_takes p line t (number_of (codes "S") 1 1000000 line) fits refl e
+step_takes (AtCuts p root cuts left) line t fits e = at_cuts_takes p root cuts left line t fits e
+step_takes AtWall line t fits e = at_wall_takes line t e
+step_takes (AtEnd claim) line t fits e = if_takes (codes "END") line (AtNothing claim) t (lines_read (AtEnd claim)) e (fits, refl)
+step_takes (AtNothing claim) line t fits e = absurd cc

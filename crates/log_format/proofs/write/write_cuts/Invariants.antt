@@ -1,0 +1,7 @@
+use Rattle.std.proofs.Common.{◌≡◌, ◌++◌, map, take}
+use Rattle.std.specs.List.{flat_map}
+use Rattle.log_format.specs.Text.{ended, spaced, arc_line, cut_line, lines_of}
+use Rattle.log_format.proofs.write.write_cuts.Given as goal
+
+abbrev pub invariant-loop-cut : goal.invariant-loop-cut
+invariant-loop-cut l = l.text.items ≡ l.initial.text.items ++ flat_map ended (map cut_line (take l.cut-index l.cuts))

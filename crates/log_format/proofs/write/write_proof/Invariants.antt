@@ -1,0 +1,7 @@
+use Rattle.std.proofs.Common.{◌≡◌, ◌++◌, map, take}
+use Rattle.std.specs.List.{flat_map}
+use Rattle.log_format.specs.Text.{ended, spaced, arc_line, cut_line, lines_of}
+use Rattle.log_format.proofs.write.write_proof.Given as goal
+
+abbrev pub invariant-loop-line : goal.invariant-loop-line
+invariant-loop-line l = l.text.items ≡ l.initial.text.items ++ flat_map ended (flat_map lines_of (take l.line-index l.lines))

@@ -1,0 +1,182 @@
+-- Reading a log line by line. Helpers' clauses cite this, and no public one.
+use Rattle.std.specs.Prelude.{◌≡◌, ℕ, zero, suc, ◌+◌, ◌-◌, ◌*◌, ◌≤◌, ◌&&◌, ◌||◌, ◌==◌, Bool, false, List, [], ◌∷◌, ◌++◌, length, Option, Some, None, Result, Ok, Err, option_map, option_and_then, nat_lt, nat_le, if◌then◌else◌, codes}
+use Rattle.std.specs.Char.{is_ascii_digit}
+use Rattle.std.specs.Str.{bytes_eq}
+use Rattle.st_model.specs.declared.tree.Tree.{Tree}
+use Rattle.cut_packing.specs.declared.cut.Cut.{Cut}
+use Rattle.cut_packing.specs.declared.packing.Packing.{Packing}
+use Rattle.log_format.specs.declared.fault.LineError.{LineError}
+use Rattle.log_format.specs.declared.fault.LineError.TheVariants.{BadLine, NoMemory}
+use Rattle.log_format.specs.declared.log.Claim.{Claim}
+use Rattle.log_format.specs.declared.log.Claim.TheVariants.{Found, NoTree}
+use Rattle.log_format.specs.declared.proof_line.ProofLine.{ProofLine}
+use Rattle.log_format.specs.declared.proof_line.ProofLine.TheVariants.{Split, Close}
+use Rattle.log_format.specs.declared.stage.Answer.{Answer}
+use Rattle.log_format.specs.declared.stage.Proving.{Proving}
+use Rattle.log_format.specs.declared.stage.Stage.{Stage}
+use Rattle.log_format.specs.declared.stage.Stage.TheVariants.{AtHeader, AtClaim, AtTree, AtArcs, AtProof, AtHalf, AtCuts, AtWall, AtEnd, AtNothing}
+use Rattle.log_format.specs.Text.{header}
+
+infixl 10 ◌>>=◌
+abbrev pub ◌>>=◌ : {A B : Type 0} → Option A → (A → Option B) → Option B
+o >>= f = option_and_then f o
+
+-- What a function returned, seen by view, is what reading gives, unless memory ran out.
+abbrev pub Fails : {Y : Type 0} → LineError → Option Y → Type 0
+Fails NoMemory read = Unit {0}
+Fails BadLine read = read ≡ None
+
+abbrev pub Gives : {X Y : Type 0} → (X → Y) → Result X LineError → Option Y → Type 0
+Gives view (Ok x) read = read ≡ Some (view x)
+Gives view (Err e) read = Fails e read
+
+-- what stands before the first byte d, and what stands behind it
+abbrev pub cut : ℕ → List ℕ → Option (List ℕ × List ℕ)
+cut d [] = None
+cut d (b ∷ bs) = if b == d then Some ([], bs) else option_map (λ x. (b ∷ x.0, x.1)) (cut d bs)
+
+-- what stands behind a keyword
+abbrev pub after : List ℕ → List ℕ → Option (List ℕ)
+after [] bytes = Some bytes
+after (k ∷ keyword) [] = None
+after (k ∷ keyword) (b ∷ bytes) = if b == k then after keyword bytes else None
+
+-- what stands before the first space, and what stands from there on
+abbrev pub word_at : List ℕ → List ℕ × List ℕ
+word_at [] = ([], [])
+word_at (b ∷ bs) = if b == 32 then ([], b ∷ bs) else (b ∷ (word_at bs).0, (word_at bs).1)
+
+-- the number that has the digits of n and then these, if it is at most limit
+abbrev pub value_after : ℕ → ℕ → List ℕ → Option ℕ
+value_after limit n [] = Some n
+value_after limit n (c ∷ cs) = if is_ascii_digit c && nat_le (10 * n + (c - 48)) limit then value_after limit (10 * n + (c - 48)) cs else None
+
+-- whether digits stand behind a first 0
+abbrev pub has_leading_zero : List ℕ → Bool
+has_leading_zero [] = false
+has_leading_zero (c ∷ []) = false
+has_leading_zero (c ∷ d ∷ cs) = c == 48
+
+-- the number from low to high that is written as this word
+unfoldable pub number : ℕ → ℕ → List ℕ → Option ℕ
+number low high word = if (length word == 0) || has_leading_zero word then None else (value_after high 0 word >>= λ n. if nat_lt n low then None else Some n)
+
+-- a number from low to high behind a space, and what stands behind it
+unfoldable pub number_at : ℕ → ℕ → List ℕ → Option (ℕ × List ℕ)
+number_at low high bytes = do
+  rest ← after (32 ∷ []) bytes
+  n ← number low high (word_at rest).0
+  Some (n, (word_at rest).1)
+
+-- x, if nothing is left
+abbrev pub only : {X : Type 0} → X → List ℕ → Option X
+only x rest = if length rest == 0 then Some x else None
+
+-- a keyword and a number
+unfoldable pub number_of : List ℕ → ℕ → ℕ → List ℕ → Option ℕ
+number_of keyword low high line = do
+  rest ← after keyword line
+  n ← number_at low high rest
+  only n.0 n.1
+
+-- a keyword and two numbers
+unfoldable pub pair_of : List ℕ → ℕ → ℕ → ℕ → ℕ → List ℕ → Option (ℕ × ℕ)
+pair_of keyword low high low' high' line = do
+  rest ← after keyword line
+  m ← number_at low high rest
+  n ← number_at low' high' m.1
+  only (m.0, n.0) n.1
+
+-- this many ascending vertices above the last one, and nothing else
+unfoldable pub set_at : ℕ → ℕ → List ℕ → Option (List ℕ)
+set_at zero last bytes = only [] bytes
+set_at (suc count) last bytes = do
+  v ← number_at (last + 1) 1000000 bytes
+  others ← set_at count v.0 v.1
+  Some (v.0 ∷ others)
+
+abbrev pub most : ℕ
+most = 18446744073709551615
+
+-- how many vertices, and these
+unfoldable pub counted_set_at : List ℕ → Option (List ℕ)
+counted_set_at bytes = do
+  count ← number_at 1 most bytes
+  set_at count.0 0 count.1
+
+-- the vertex and the value of a cut, and what stands behind them
+unfoldable pub cut_head_of : List ℕ → Option (ℕ × ℕ × List ℕ)
+cut_head_of line = do
+  rest ← after (codes "U") line
+  q ← number_at 1 1000000 rest
+  y ← number_at 0 most q.1
+  Some (q.0, y.0, y.1)
+
+unfoldable pub cut_of : List ℕ → Option Cut
+cut_of line = do
+  head ← cut_head_of line
+  set ← counted_set_at head.2
+  Some (record { set = set; q = head.0; y = head.1 })
+
+unfoldable pub wall_of : List ℕ → Option (List ℕ)
+wall_of line = do
+  rest ← after (codes "WALL") line
+  counted_set_at rest
+
+-- this stage, if the line is this one
+abbrev pub stage_if : List ℕ → List ℕ → Stage → Option Stage
+stage_if wanted line stage = if bytes_eq line wanted then Some stage else None
+
+-- 0 stands for no root
+abbrev pub root_of : ℕ → Option ℕ
+root_of zero = None
+root_of (suc n) = Some (suc n)
+
+-- a half is closed: the next one comes, or the end
+abbrev pub closed : Answer → List ProofLine → ℕ → Stage
+closed a lines zero = AtEnd (Found a.primal a.dual a.tree lines)
+closed a lines (suc waiting) = AtHalf (record { answer = a; lines = lines; waiting = waiting })
+
+-- the cuts of a close come, or there are none left
+abbrev pub cuts_left : Proving → Option ℕ → List Cut → ℕ → Stage
+cuts_left p root cuts zero = closed p.answer (p.lines ++ Close (record { root = root; cuts = cuts }) ∷ []) p.waiting
+cuts_left p root cuts (suc left) = AtCuts p root cuts (suc left)
+
+abbrev pub split_at : Proving → ℕ → Stage
+split_at p v = AtHalf (record { answer = p.answer; lines = p.lines ++ Split v ∷ []; waiting = p.waiting + 1 })
+
+-- a split, or else the head of a close
+abbrev pub half_at : Proving → Option ℕ → List ℕ → Option Stage
+half_at p (Some v) line = Some (split_at p v)
+half_at p None line = pair_of (codes "C") 0 1000000 0 most line >>= λ head. Some (cuts_left p (root_of head.0) [] head.1)
+
+-- what is to come behind a line, if it may stand here
+unfoldable pub step : Stage → List ℕ → Option Stage
+step AtHeader line = stage_if header line AtClaim
+step AtClaim line = if bytes_eq line (codes "CLAIM NONE") then Some AtWall else (pair_of (codes "CLAIM TREE") 0 most 0 most line >>= λ b. Some (AtTree b.0 b.1))
+step (AtTree primal dual) line = pair_of (codes "TREE") 1 1000000 0 most line >>= λ t. Some (AtArcs primal dual t.0 [] t.1)
+step (AtArcs primal dual start arcs left) line = if left == 0 then stage_if (codes "STEPS 0") line (AtProof (record { primal = primal; dual = dual; tree = record { start = start; arcs = arcs } }))
+    else (pair_of (codes "A") 1 1000000 1 1000000 line >>= λ arc. Some (AtArcs primal dual start (arcs ++ arc ∷ []) (left - 1)))
+step (AtProof a) line = stage_if (codes "PROOF") line (AtHalf (record { answer = a; lines = []; waiting = 0 }))
+step (AtHalf p) line = half_at p (number_of (codes "S") 1 1000000 line) line
+step (AtCuts p root cuts left) line = cut_of line >>= λ c. Some (cuts_left p root (cuts ++ c ∷ []) (left - 1))
+step AtWall line = wall_of line >>= λ wall. Some (AtEnd (NoTree wall))
+step (AtEnd claim) line = stage_if (codes "END") line (AtNothing claim)
+step (AtNothing claim) line = None
+
+-- the stage that some lines lead to
+unfoldable pub run : Stage → List (List ℕ) → Option Stage
+run s [] = Some s
+run s (line ∷ lines) = step s line >>= λ t. run t lines
+
+-- the lines of a proof so far are whole, but for the halves that wait and the one that comes
+abbrev pub open_after : ℕ → List ProofLine → Option ℕ
+open_after count [] = Some count
+open_after zero (line ∷ lines) = None
+open_after (suc count) (Close P ∷ lines) = open_after count lines
+open_after (suc count) (Split v ∷ lines) = open_after (suc (suc count)) lines
+
+-- as many halves wait as the lines have left open, but for the one that comes
+pub record IsOpen (p : Proving) : Type 0 where
+  pub still : open_after 1 p.lines ≡ Some (p.waiting + 1)
+  pub few : p.waiting ≤ length p.lines

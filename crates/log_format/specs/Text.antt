@@ -1,0 +1,135 @@
+-- The one text of a log, and what can stand in it.
+use Rattle.std.specs.Prelude.{◌≡◌, ℕ, ◌^◌, ◌≤◌, ◌<◌, List, [], ◌∷◌, ◌++◌, ◌==◌, if◌then◌else◌, length, map, Option, None, Some, All, IfSome, codes}
+use Rattle.std.specs.List.{flat_map}
+use Rattle.std.specs.Fmt.{decimal}
+use Rattle.st_model.specs.declared.tree.Tree.{Tree}
+use Rattle.st_model.specs.Network.{IsVertex}
+use Rattle.st_model.specs.Branch.{IsVertexSet}
+use Rattle.cut_packing.specs.declared.cut.Cut.{Cut}
+use Rattle.cut_packing.specs.declared.packing.Packing.{Packing}
+use Rattle.log_format.specs.declared.log.Log.{Log}
+use Rattle.log_format.specs.declared.log.Claim.{Claim}
+use Rattle.log_format.specs.declared.log.Claim.TheVariants.{Found, NoTree}
+use Rattle.log_format.specs.declared.proof_line.ProofLine.{ProofLine}
+use Rattle.log_format.specs.declared.proof_line.ProofLine.TheVariants.{Split, Close}
+use Rattle.log_format.specs.Preorder.{IsOneProof}
+
+-- a line with its end
+abbrev pub ended : List ℕ → List ℕ
+ended line = line ++ 10 ∷ []
+
+-- a space and a number
+abbrev pub spaced : ℕ → List ℕ
+spaced n = 32 ∷ decimal n
+
+-- a keyword and numbers, with one space before each of them
+abbrev pub words : List ℕ → List ℕ → List ℕ
+words keyword numbers = keyword ++ flat_map spaced numbers
+
+-- how a root is written: 0 where there is none
+abbrev pub root_number : Option ℕ → ℕ
+root_number None = 0
+root_number (Some root) = root
+
+abbrev pub arc_line : ℕ × ℕ → List ℕ
+arc_line arc = words (codes "A") (arc.0 ∷ arc.1 ∷ [])
+
+abbrev pub cut_line : Cut → List ℕ
+cut_line c = words (codes "U") (c.q ∷ c.y ∷ length c.set ∷ c.set)
+
+-- the lines of a split, and of a close
+abbrev pub lines_of : ProofLine → List (List ℕ)
+lines_of (Split v) = words (codes "S") (v ∷ []) ∷ []
+lines_of (Close P) = words (codes "C") (root_number P.root ∷ length P.cuts ∷ []) ∷ map cut_line P.cuts
+
+abbrev pub header : List ℕ
+header = codes "STEINERLOG 1"
+
+-- the lines of a claim; no step is taken
+abbrev pub claim_lines : Claim → List (List ℕ)
+claim_lines (Found primal dual tree proof) = words (codes "CLAIM TREE") (primal ∷ dual ∷ []) ∷ words (codes "TREE") (tree.start ∷ length tree.arcs ∷ []) ∷ (map arc_line tree.arcs ++ (codes "STEPS 0" ∷ codes "PROOF" ∷ flat_map lines_of proof))
+claim_lines (NoTree wall) = codes "CLAIM NONE" ∷ words (codes "WALL") (length wall ∷ wall) ∷ []
+
+-- the lines of a log, without their ends
+abbrev pub log_lines : Log → List (List ℕ)
+log_lines log = header ∷ (claim_lines log.claim ++ codes "END" ∷ [])
+
+-- the text of a log
+abbrev pub log_text : Log → List ℕ
+log_text log = flat_map ended (log_lines log)
+
+-- a vertex of some instance
+abbrev pub IsAnyVertex : ℕ → Type 0
+IsAnyVertex v = IsVertex 1000000 v
+
+-- a set that can be written: some vertex, ascending
+pub record IsWritableSet (set : List ℕ) : Type 0 where
+  pub some : 1 ≤ length set
+  pub vertices : IsVertexSet 1000000 set
+
+pub record IsWritableCut (c : Cut) : Type 0 where
+  pub q : IsAnyVertex c.q
+  pub y : c.y < 2 ^ 64
+  pub set : IsWritableSet c.set
+
+pub record IsWritablePacking (P : Packing) : Type 0 where
+  pub root : IfSome P.root IsAnyVertex
+  pub few_cuts : length P.cuts < 2 ^ 64
+  pub cuts : All IsWritableCut P.cuts
+
+abbrev pub IsWritableLine : ProofLine → Type 0
+IsWritableLine (Split v) = IsAnyVertex v
+IsWritableLine (Close P) = IsWritablePacking P
+
+pub record IsWritableTree (tree : Tree) : Type 0 where
+  pub start : IsAnyVertex tree.start
+  pub few_arcs : length tree.arcs < 2 ^ 64
+  pub arcs : All (λ arc. IsAnyVertex arc.0 × IsAnyVertex arc.1) tree.arcs
+
+pub record IsWritableFound (primal dual : ℕ) (tree : Tree) (proof : List ProofLine) : Type 0 where
+  pub primal_fits : primal < 2 ^ 64
+  pub dual_fits : dual < 2 ^ 64
+  pub tree_fits : IsWritableTree tree
+  pub lines_fit : All IsWritableLine proof
+
+-- vertices from 1 to 1,000,000, other numbers below 2^64
+abbrev pub IsClaimInRange : Claim → Type 0
+IsClaimInRange (Found primal dual tree proof) = IsWritableFound primal dual tree proof
+IsClaimInRange (NoTree wall) = IsWritableSet wall
+
+abbrev pub IsInLogRange : Log → Type 0
+IsInLogRange log = IsClaimInRange log.claim
+
+-- the lines of the proof are exactly one proof tree
+abbrev pub IsProved : Claim → Type 0
+IsProved (Found primal dual tree proof) = IsOneProof proof
+IsProved (NoTree wall) = Unit {0}
+
+-- a log: one that can be written, and whose proof is one proof tree
+pub record IsLog (log : Log) : Type 0 where
+  pub in_range : IsInLogRange log
+  pub one_proof : IsProved log.claim
+
+-- these lines are all of some log
+abbrev pub AreWhole : List (List ℕ) → Type 0
+AreWhole lines = (log : Log) × IsLog log × (log_lines log ≡ lines)
+
+-- some log begins with these lines
+abbrev pub Begins : List (List ℕ) → Type 0
+Begins lines = (log : Log) × (rest : List (List ℕ)) × IsLog log × (log_lines log ≡ lines ++ rest)
+
+-- one more byte in front: it begins the first line, or what is left
+abbrev pub with_byte : ℕ → List (List ℕ) × List ℕ → List (List ℕ) × List ℕ
+with_byte b ([], rest) = ([], b ∷ rest)
+with_byte b (line ∷ lines, rest) = ((b ∷ line) ∷ lines, rest)
+
+-- the whole lines of some bytes, without their ends, and what is left behind the last end
+abbrev pub cut_lines : List ℕ → List (List ℕ) × List ℕ
+cut_lines [] = ([], [])
+cut_lines (b ∷ bytes) = if b == 10 then ([] ∷ (cut_lines bytes).0, (cut_lines bytes).1) else with_byte b (cut_lines bytes)
+
+abbrev pub whole_lines : List ℕ → List (List ℕ)
+whole_lines bytes = (cut_lines bytes).0
+
+abbrev pub unfinished : List ℕ → List ℕ
+unfinished bytes = (cut_lines bytes).1

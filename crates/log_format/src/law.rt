@@ -1,0 +1,25 @@
+ghost use Rattle.std.specs.Prelude.{ℕ, List};
+ghost use Rattle.st_model.specs.Network.{Network};
+ghost use Rattle.log_format.specs.declared.log.Log.{Log};
+ghost use Rattle.log_format.specs.Accepts.{AcceptedHolds};
+ghost use Rattle.log_format.specs.Laws.{OneSpelling, RefusedExactly, RejectedExactly};
+
+/// No two logs have one text.
+pub fn one_spelling()
+    ensures { OneSpelling }
+{}
+
+/// Bytes are refused, at one line and as one kind, exactly where they are the text of no log.
+pub fn refused_exactly()
+    ensures { (bytes : List ℕ) → RefusedExactly bytes }
+{}
+
+/// What an accepted log claims holds of the instance.
+pub fn accepted_holds()
+    ensures { AcceptedHolds }
+{}
+
+/// A log is rejected, at one line and as one kind, exactly where it isn't accepted.
+pub fn rejected_exactly()
+    ensures { (I : Network) (log : Log) → RejectedExactly I log }
+{}

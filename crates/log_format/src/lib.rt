@@ -1,0 +1,32 @@
+//! Certificate logs of the Steiner tree problem, and the one text of each.
+//!
+//! A `Log` claims a tree and a bound with a proof tree of splits and packings, or that there is no
+//! tree. `read_log` and `write_log` compute the definition *log text*: a caller may rely on both
+//! directions, and on the line and kind of each fault. What a log must meet to be right of an
+//! instance are the definitions *accepts* and *rejects*, with the laws that a caller rests on.
+#![tactic(auto)]
+
+mod fault;
+mod kind;
+mod law;
+mod line;
+mod log;
+mod numbers;
+mod proof;
+mod proof_line;
+mod read;
+mod reader;
+mod stage;
+#[cfg(test)]
+mod tests;
+mod write;
+
+pub use fault::{LineError, LogFault, ReadError};
+pub use kind::Kind;
+pub use law::{accepted_holds, one_spelling, refused_exactly, rejected_exactly};
+pub use log::{Claim, Log};
+pub use proof::Proof;
+pub use proof_line::ProofLine;
+pub use read::read_log;
+pub use reader::LogReader;
+pub use write::write_log;

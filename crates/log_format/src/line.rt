@@ -1,0 +1,155 @@
+ghost use Rattle.std.specs.Prelude.{◌≡◌, ◌+◌, ◌^◌, ◌≤◌, ◌<◌, ◌==◌, List, IfSome, IfOk, length, take, drop, option_map, position};
+ghost use Rattle.log_format.specs.Reading.{Gives, after, word_at, number_at, only, number_of, pair_of, set_at, counted_set_at, cut_head_of, cut_of, wall_of};
+
+use crate::fault::LineError;
+use crate::numbers::number;
+use cut_packing::Cut;
+use st_model::Listed;
+use std::alloc::Global;
+
+/// The greatest number of a vertex.
+pub const MAX_VERTEX: u64 = 1_000_000;
+
+/// What stands behind a keyword.
+fn after<'a>(keyword: &[u8], bytes: &'a [u8]) -> Option<&'a [u8]>
+    ensures { option_map (λ rest. rest.now) result ≡ after keyword.now bytes.now }
+{
+    bytes.strip_prefix(keyword)
+}
+
+/// The index of the first space.
+fn space_index(bytes: &[u8]) -> Option<usize>
+    ensures value { result ≡ position (λ b. b == 32) bytes.now }
+    ensures in_range { IfSome result (λ i. i < length bytes.now) }
+{
+    bytes.iter().position(|byte| *byte == b' ')
+}
+
+/// The number of bytes before the first space.
+fn word_length(bytes: &[u8]) -> usize
+    ensures word { (take result bytes.now, drop result bytes.now) ≡ word_at bytes.now }
+    ensures in_range { result ≤ length bytes.now }
+{
+    space_index(bytes).unwrap_or(bytes.len())
+}
+
+/// The number on a line from low to high that stands behind a space, and what stands behind it.
+#[tactic(auto, unfolding(crate::specs::Reading::number_at))]
+fn number_at(bytes: &[u8], low: u64, high: u64) -> Option<(u64, &[u8])>
+    ensures value { option_map (λ x. (x.0, x.1.now)) result ≡ number_at low high bytes.now }
+    ensures in_range { IfSome result (λ x. (low ≤ x.0) × (x.0 ≤ high)) }
+{
+    let rest = after(b" ", bytes)?;
+    let (word, rest) = rest.split_at(word_length(rest));
+    let value = number(word, low, high)?;
+    Some((value, rest))
+}
+
+/// The number on a line of a keyword and a number.
+#[tactic(auto, unfolding(crate::specs::Reading::number_of))]
+pub fn number_of(line: &[u8], keyword: &[u8], low: u64, high: u64) -> Option<u64>
+    ensures value { result ≡ number_of keyword.now low high line.now }
+    ensures in_range { IfSome result (λ n. (low ≤ n) × (n ≤ high)) }
+{
+    let (value, rest) = number_at(after(keyword, line)?, low, high)?;
+    if !rest.is_empty() {
+        return None;
+    }
+    Some(value)
+}
+
+/// The numbers on a line of a keyword and two numbers, each with its limits.
+#[tactic(auto, unfolding(crate::specs::Reading::pair_of))]
+pub fn pair_of(
+    line: &[u8],
+    keyword: &[u8],
+    low: u64,
+    high: u64,
+    next_low: u64,
+    next_high: u64,
+) -> Option<(u64, u64)>
+    ensures value { result ≡ pair_of keyword.now low high next_low next_high line.now }
+    ensures in_range { IfSome result
+        (λ p. (low ≤ p.0) × (p.0 ≤ high) × (next_low ≤ p.1) × (p.1 ≤ next_high)) }
+{
+    let (first, rest) = number_at(after(keyword, line)?, low, high)?;
+    let (second, rest) = number_at(rest, next_low, next_high)?;
+    if !rest.is_empty() {
+        return None;
+    }
+    Some((first, second))
+}
+
+/// The vertex above another that stands behind a space, and what stands behind it.
+fn vertex_above(bytes: &[u8], last: u32) -> Result<(u32, &[u8]), LineError>
+    requires { last ≤ 1000000 }
+    ensures value { Gives (λ x. (x.0, x.1.now)) result (number_at (last + 1) 1000000 bytes.now) }
+    ensures in_range { IfOk result (λ x. x.0 ≤ 1000000) }
+{
+    let (vertex, rest) = number_at(bytes, u64::from(last) + 1, MAX_VERTEX).ok_or(
+        LineError::BadLine,
+    )?;
+    Ok((vertex as u32, rest))
+}
+
+/// This many ascending vertices, and nothing behind them.
+fn set_at(alloc: Global, bytes: &[u8], count: u64) -> Result<Vec<u32>, LineError>
+    ensures { Gives (λ set. set.items) result (set_at count 0 bytes.now) }
+{
+    let mut set = Vec::new(alloc);
+    let mut rest = bytes;
+    let mut last = 0;
+    for _ in 0..count {
+        let (vertex, behind) = vertex_above(rest, last)?;
+        set.push(vertex)?;
+        last = vertex;
+        rest = behind;
+    }
+    if !rest.is_empty() {
+        return Err(LineError::BadLine);
+    }
+    Ok(set)
+}
+
+/// How many vertices there are, and these.
+#[tactic(auto, unfolding(crate::specs::Reading::counted_set_at))]
+fn counted_set_at(alloc: Global, bytes: &[u8]) -> Result<Vec<u32>, LineError>
+    ensures { Gives (λ set. set.items) result (counted_set_at bytes.now) }
+{
+    let (count, rest) = number_at(bytes, 1, u64::MAX).ok_or(LineError::BadLine)?;
+    set_at(alloc, rest, count)
+}
+
+/// The vertex and the value of a cut, and what stands behind them.
+#[tactic(auto, unfolding(crate::specs::Reading::cut_head_of))]
+fn cut_head_of(line: &[u8]) -> Option<(u32, u64, &[u8])>
+    ensures { option_map (λ x. (x.0, x.1, x.2.now)) result ≡ cut_head_of line.now }
+{
+    let (q, rest) = number_at(after(b"U", line)?, 1, MAX_VERTEX)?;
+    let (y, rest) = number_at(rest, 0, u64::MAX)?;
+    Some((q as u32, y, rest))
+}
+
+/// The cut that a line says.
+#[tactic(auto, unfolding(crate::specs::Reading::cut_of))]
+pub fn cut_of(alloc: Global, line: &[u8]) -> Result<Cut, LineError>
+    ensures { Gives (λ c. c) result (cut_of line.now) }
+{
+    let (q, y, rest) = cut_head_of(line).ok_or(LineError::BadLine)?;
+    let set = counted_set_at(alloc, rest)?;
+    Ok(Cut {
+        set: Listed::of(set),
+        q,
+        y,
+    })
+}
+
+/// The wall that a line says.
+#[tactic(auto, unfolding(crate::specs::Reading::wall_of))]
+pub fn wall_of(alloc: Global, line: &[u8]) -> Result<Listed<u32>, LineError>
+    ensures { Gives (λ set. set) result (wall_of line.now) }
+{
+    let rest = after(b"WALL", line).ok_or(LineError::BadLine)?;
+    let set = counted_set_at(alloc, rest)?;
+    Ok(Listed::of(set))
+}

@@ -1,0 +1,83 @@
+ghost use Rattle.std.specs.Prelude.{◌≡◌, [], ◌+◌, ◌<◌, ◌≤◌, ◌==◌, length, option_map, position, IfSome, IfOk, IfErr, MatchResult};
+ghost use Rattle.log_format.specs.Reading.{cut};
+ghost use Rattle.log_format.specs.Text.{IsLog, Begins, log_text, whole_lines, unfinished};
+ghost use Rattle.log_format.specs.Refused.{IsRefusedBy};
+
+use crate::{Kind, LineError, Log, LogFault, LogReader, ReadError};
+use std::alloc::Global;
+
+// The index of the first end of a line.
+fn end_index(bytes: &[u8]) -> Option<usize>
+    ensures { result ≡ position (λ b. b == 10) bytes.now }
+{
+    bytes.iter().position(|byte| *byte == b'\n')
+}
+
+// The first line, without its end, and what stands behind it.
+fn cut(bytes: &[u8]) -> Option<(&[u8], &[u8])>
+    ensures cut { option_map (λ x. (x.0.now, x.1.now)) result ≡ cut 10 bytes.now }
+    ensures shorter { IfSome result (λ x. length x.1.now < length bytes.now) }
+{
+    let index = end_index(bytes)?;
+    Some((&bytes[..index], &bytes[index + 1..]))
+}
+
+// What is wrong at a line.
+fn fault(line: u64, kind: Kind) -> ReadError
+    ensures { result ≡ ReadError.Fault (record { line = line; kind = kind }) }
+{
+    ReadError::Fault(LogFault { line, kind })
+}
+
+// Reads all the whole lines. Answers how many there are, and what stands behind them.
+fn read_lines<'a>(reader: &mut LogReader, bytes: &'a [u8]) -> Result<(u64, &'a [u8]), ReadError>
+    requires { reader.old ≡ [] }
+    ensures lines { IfOk result (λ x. reader.new ≡ whole_lines bytes.now) }
+    ensures count { IfOk result (λ x. x.0 ≡ length (whole_lines bytes.now)) }
+    ensures few { IfOk result (λ x. x.0 + length x.1.now ≤ length bytes.now) }
+    ensures behind { IfOk result (λ x. x.1.now ≡ unfinished bytes.now) }
+    ensures begins { IfOk result (λ x. Begins (whole_lines bytes.now)) }
+    ensures refused { IfErr result (IsRefusedBy bytes.now) }
+{
+    let mut rest = bytes;
+    let mut lines: u64 = 0;
+    while let Some((line, behind)) = cut(rest) {
+        lines += 1;
+        match reader.line(line) {
+            Ok(()) => {}
+            Err(LineError::BadLine) => return Err(fault(lines, Kind::BadLine)),
+            Err(LineError::NoMemory) => return Err(ReadError::NoMemory),
+        }
+        rest = behind;
+    }
+    Ok((lines, rest))
+}
+
+// Reads the text of a log, all of the bytes.
+fn read(alloc: Global, bytes: &[u8]) -> Result<Log, ReadError>
+    ensures found { IfOk result (λ log. IsLog log × (bytes.now ≡ log_text log)) }
+    ensures fault { IfErr result (IsRefusedBy bytes.now) }
+{
+    let mut reader = LogReader::new(alloc);
+    let (lines, behind) = read_lines(&mut reader, bytes)?;
+    let Some(log) = reader.finish() else {
+        return Err(fault(lines + 1, Kind::EndsEarly));
+    };
+    if !behind.is_empty() {
+        return Err(fault(lines + 1, Kind::BadLine));
+    }
+    Ok(log)
+}
+
+/// Reads the text of a log, all of the bytes. Memory grows with the lines that were read.
+pub fn read_log(alloc: Global, bytes: &[u8]) -> Result<Log, ReadError>
+    // What is read is a log that has this text.
+    ensures found { IfOk result (λ log. IsLog log × (bytes.now ≡ log_text log)) }
+    // A log that has this text is what is read, unless memory runs out.
+    ensures only { (log : Log) → IsLog log → bytes.now ≡ log_text log
+        → MatchResult result (λ read. read ≡ log) (λ e. e ≡ ReadError.NoMemory) }
+    // A fault is at the first line that is wrong, or behind the last.
+    ensures fault { IfErr result (IsRefusedBy bytes.now) }
+{
+    read(alloc, bytes)
+}

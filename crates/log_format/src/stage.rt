@@ -1,0 +1,335 @@
+ghost use Rattle.std.specs.Prelude.{◌≡◌, ◌∷◌, [], ◌++◌, ◌≤◌, IfOk, codes, option_map};
+ghost use Rattle.log_format.specs.Reached.{IsReached};
+ghost use Rattle.log_format.specs.Reading.{Gives, IsOpen, pair_of, root_of, stage_if, cuts_left, closed, half_at, split_at, step};
+
+use crate::fault::LineError;
+use crate::line::{MAX_VERTEX, cut_of, number_of, pair_of, wall_of};
+use crate::{Claim, Proof, ProofLine};
+use cut_packing::{Cut, Packing};
+use st_model::{Listed, Tree};
+use std::alloc::{AllocError, Global};
+
+/// What a log with a tree says before its proof.
+#[derive(Debug, Drop)]
+pub struct Answer {
+    pub primal: u64,
+    pub dual: u64,
+    pub tree: Tree,
+}
+
+/// A proof of which a half is expected, and more halves that wait.
+#[derive(Debug, Drop)]
+pub struct Proving {
+    pub answer: Answer,
+    pub lines: Listed<ProofLine>,
+    pub waiting: u64,
+}
+
+/// What has been read of a log, and so what may stand on the next line.
+#[derive(Debug, Drop)]
+pub enum Stage {
+    AtHeader,
+    AtClaim,
+    AtTree {
+        primal: u64,
+        dual: u64,
+    },
+    AtArcs {
+        primal: u64,
+        dual: u64,
+        start: u32,
+        arcs: Listed<(u32, u32)>,
+        left: u64,
+    },
+    AtProof(Answer),
+    AtHalf(Proving),
+    AtCuts {
+        proving: Proving,
+        root: Option<u32>,
+        cuts: Listed<Cut>,
+        left: u64,
+    },
+    AtWall,
+    AtEnd(Claim),
+    AtNothing(Claim),
+}
+
+const HEADER: &[u8] = b"STEINERLOG 1";
+
+// This stage, if the line is this one.
+fn stage_if(wanted: &[u8], line: &[u8], stage: Stage) -> Result<Stage, LineError>
+    ensures { Gives (λ s. s) result (stage_if wanted.now line.now stage) }
+{
+    if line != wanted {
+        return Err(LineError::BadLine);
+    }
+    Ok(stage)
+}
+
+// What comes behind the line of a claim.
+#[tactic(auto, unfolding(crate::specs::Reading::step))]
+fn at_claim(line: &[u8]) -> Result<Stage, LineError>
+    ensures { Gives (λ s. s) result (step Stage.AtClaim line.now) }
+{
+    if line == b"CLAIM NONE".as_slice() {
+        return Ok(Stage::AtWall);
+    }
+    let (primal, dual) = pair_of(line, b"CLAIM TREE", 0, u64::MAX, 0, u64::MAX).ok_or(
+        LineError::BadLine,
+    )?;
+    Ok(Stage::AtTree { primal, dual })
+}
+
+// What comes behind the line of a tree.
+#[tactic(auto, unfolding(crate::specs::Reading::step))]
+fn at_tree(alloc: Global, primal: u64, dual: u64, line: &[u8]) -> Result<Stage, LineError>
+    ensures { Gives (λ s. s) result (step (Stage.AtTree primal dual) line.now) }
+{
+    let (start, left) = pair_of(line, b"TREE", 1, MAX_VERTEX, 0, u64::MAX).ok_or(
+        LineError::BadLine,
+    )?;
+    Ok(Stage::AtArcs {
+        primal,
+        dual,
+        start: start as u32,
+        arcs: Listed::of(Vec::new(alloc)),
+        left,
+    })
+}
+
+// The arc that a line says.
+fn arc_of(line: &[u8]) -> Result<(u32, u32), LineError>
+    ensures { Gives (λ arc. arc) result (pair_of (codes "A") 1 1000000 1 1000000 line.now) }
+{
+    let (tail, head) = pair_of(line, b"A", 1, MAX_VERTEX, 1, MAX_VERTEX).ok_or(LineError::BadLine)?;
+    Ok((tail as u32, head as u32))
+}
+
+// The arcs with that of one more line.
+fn with_arc(arcs: Listed<(u32, u32)>, line: &[u8]) -> Result<Listed<(u32, u32)>, LineError>
+    ensures { Gives (λ more. more) result
+        (option_map (λ arc. arcs ++ arc ∷ []) (pair_of (codes "A") 1 1000000 1 1000000 line.now)) }
+{
+    let arc = arc_of(line)?;
+    let mut arcs = arcs.into_vec();
+    arcs.push(arc)?;
+    Ok(Listed::of(arcs))
+}
+
+// What comes behind a line where arcs may stand.
+#[tactic(auto, unfolding(crate::specs::Reading::step))]
+fn at_arcs(
+    primal: u64,
+    dual: u64,
+    start: u32,
+    arcs: Listed<(u32, u32)>,
+    left: u64,
+    line: &[u8],
+) -> Result<Stage, LineError>
+    ensures { Gives (λ s. s) result (step (Stage.AtArcs primal dual start arcs left) line.now) }
+{
+    if left == 0 {
+        let tree = Tree { start, arcs };
+        return stage_if(
+            b"STEPS 0",
+            line,
+            Stage::AtProof(Answer { primal, dual, tree }),
+        );
+    }
+    let arcs = with_arc(arcs, line)?;
+    Ok(Stage::AtArcs {
+        primal,
+        dual,
+        start,
+        arcs,
+        left: left - 1,
+    })
+}
+
+// The lines with one more.
+fn with_line(lines: Listed<ProofLine>, line: ProofLine) -> Result<Listed<ProofLine>, AllocError>
+    ensures { IfOk result (λ more. more ≡ lines ++ line ∷ []) }
+{
+    let mut lines = lines.into_vec();
+    lines.push(line)?;
+    Ok(Listed::of(lines))
+}
+
+// What comes behind a close: the next of the halves that wait, or the end.
+fn closed(proving: Proving, packing: Packing) -> Result<Stage, AllocError>
+    requires { IsOpen proving }
+    ensures { IfOk result (λ stage. stage
+        ≡ closed proving.answer (proving.lines ++ ProofLine.Close packing ∷ []) proving.waiting) }
+{
+    let Proving {
+        answer,
+        lines,
+        waiting,
+    } = proving;
+    let lines = with_line(lines, ProofLine::Close(packing))?;
+    if waiting == 0 {
+        let Answer { primal, dual, tree } = answer;
+        let proof = Proof::whole(lines.into_vec());
+        return Ok(Stage::AtEnd(Claim::Found {
+            primal,
+            dual,
+            tree,
+            proof,
+        }));
+    }
+    Ok(Stage::AtHalf(Proving {
+        answer,
+        lines,
+        waiting: waiting - 1,
+    }))
+}
+
+// What comes behind a split: its two halves, one of which waits.
+fn split(proving: Proving, vertex: u32) -> Result<Stage, AllocError>
+    requires { IsOpen proving }
+    ensures { IfOk result (λ stage. stage ≡ split_at proving vertex) }
+{
+    let Proving {
+        answer,
+        lines,
+        waiting,
+    } = proving;
+    let lines = with_line(lines, ProofLine::Split(vertex))?;
+    Ok(Stage::AtHalf(Proving {
+        answer,
+        lines,
+        waiting: waiting + 1,
+    }))
+}
+
+// What comes behind some cuts of a close.
+fn cuts_left(
+    proving: Proving,
+    root: Option<u32>,
+    cuts: Listed<Cut>,
+    left: u64,
+) -> Result<Stage, AllocError>
+    requires { IsOpen proving }
+    ensures { IfOk result (λ stage. stage ≡ cuts_left proving root cuts left) }
+{
+    if left == 0 {
+        return closed(proving, Packing { root, cuts });
+    }
+    Ok(Stage::AtCuts {
+        proving,
+        root,
+        cuts,
+        left,
+    })
+}
+
+// The root that is written so: 0 stands for none.
+fn root_of(number: u32) -> Option<u32>
+    ensures { result ≡ root_of number }
+{
+    if number == 0 { None } else { Some(number) }
+}
+
+// What comes behind the head of a close.
+fn at_close(alloc: Global, proving: Proving, line: &[u8]) -> Result<Stage, LineError>
+    requires { IsOpen proving }
+    ensures { Gives (λ s. s) result (half_at proving None line.now) }
+{
+    let (root, left) = pair_of(line, b"C", 0, MAX_VERTEX, 0, u64::MAX).ok_or(LineError::BadLine)?;
+    let stage = cuts_left(
+        proving,
+        root_of(root as u32),
+        Listed::of(Vec::new(alloc)),
+        left,
+    )?;
+    Ok(stage)
+}
+
+// What comes behind the word that begins a proof.
+#[tactic(auto, unfolding(crate::specs::Reading::step))]
+fn at_proof(alloc: Global, answer: Answer, line: &[u8]) -> Result<Stage, LineError>
+    ensures { Gives (λ s. s) result (step (Stage.AtProof answer) line.now) }
+{
+    let proving = Proving {
+        answer,
+        lines: Listed::of(Vec::new(alloc)),
+        waiting: 0,
+    };
+    stage_if(b"PROOF", line, Stage::AtHalf(proving))
+}
+
+// What comes behind a line where a half of a proof begins.
+#[tactic(auto, unfolding(crate::specs::Reading::step))]
+fn at_half(alloc: Global, proving: Proving, line: &[u8]) -> Result<Stage, LineError>
+    requires { IsOpen proving }
+    ensures { Gives (λ s. s) result (step (Stage.AtHalf proving) line.now) }
+{
+    match number_of(line, b"S", 1, MAX_VERTEX) {
+        None => at_close(alloc, proving, line),
+        Some(vertex) => {
+            let stage = split(proving, vertex as u32)?;
+            Ok(stage)
+        }
+    }
+}
+
+// What comes behind a line where cuts of a close stand.
+#[tactic(auto, unfolding(crate::specs::Reading::step))]
+fn at_cuts(
+    alloc: Global,
+    proving: Proving,
+    root: Option<u32>,
+    cuts: Listed<Cut>,
+    left: u64,
+    line: &[u8],
+) -> Result<Stage, LineError>
+    requires open { IsOpen proving }
+    requires some { 1 ≤ left }
+    ensures { Gives (λ s. s) result (step (Stage.AtCuts proving root cuts left) line.now) }
+{
+    let cut = cut_of(alloc, line)?;
+    let mut cuts = cuts.into_vec();
+    cuts.push(cut)?;
+    let stage = cuts_left(proving, root, Listed::of(cuts), left - 1)?;
+    Ok(stage)
+}
+
+// What comes behind a line where a wall stands.
+#[tactic(auto, unfolding(crate::specs::Reading::step))]
+fn at_wall(alloc: Global, line: &[u8]) -> Result<Stage, LineError>
+    ensures { Gives (λ s. s) result (step Stage.AtWall line.now) }
+{
+    let wall = wall_of(alloc, line)?;
+    Ok(Stage::AtEnd(Claim::NoTree { wall }))
+}
+
+/// What comes behind a line, if it may stand here.
+#[tactic(auto, unfolding(crate::specs::Reading::step))]
+pub fn step(alloc: Global, stage: Stage, line: &[u8]) -> Result<Stage, LineError>
+    requires { IsReached stage }
+    ensures { Gives (λ s. s) result (step stage line.now) }
+{
+    match stage {
+        Stage::AtHeader => stage_if(HEADER, line, Stage::AtClaim),
+        Stage::AtClaim => at_claim(line),
+        Stage::AtTree { primal, dual } => at_tree(alloc, primal, dual, line),
+        Stage::AtArcs {
+            primal,
+            dual,
+            start,
+            arcs,
+            left,
+        } => at_arcs(primal, dual, start, arcs, left, line),
+        Stage::AtProof(answer) => at_proof(alloc, answer, line),
+        Stage::AtHalf(proving) => at_half(alloc, proving, line),
+        Stage::AtCuts {
+            proving,
+            root,
+            cuts,
+            left,
+        } => at_cuts(alloc, proving, root, cuts, left, line),
+        Stage::AtWall => at_wall(alloc, line),
+        Stage::AtEnd(claim) => stage_if(b"END", line, Stage::AtNothing(claim)),
+        Stage::AtNothing(_) => Err(LineError::BadLine),
+    }
+}

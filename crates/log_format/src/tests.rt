@@ -1,0 +1,249 @@
+use super::*;
+use cut_packing::Packing;
+use st_model::Listed;
+use std::test::Fail;
+
+/// A log of a star of three vertices around a fourth, whose links cost 2 each.
+const STAR: &str = "STEINERLOG 1\nCLAIM TREE 6 6\nTREE 1 3\nA 1 4\nA 4 2\nA 4 3\nSTEPS 0\nPROOF\n\
+    C 1 3\nU 2 2 1 2\nU 3 2 1 3\nU 2 2 3 2 3 4\nEND\n";
+
+/// The least and the greatest numbers that can stand in a log, and each kind of line.
+const RIGHT: [&str; 8] = [
+    STAR,
+    "STEINERLOG 1\nCLAIM TREE 3 3\nTREE 2 0\nSTEPS 0\nPROOF\nS 2\nC 2 1\nU 1 3 1 1\nC 0 0\nEND\n",
+    "STEINERLOG 1\nCLAIM NONE\nWALL 2 1 2\nEND\n",
+    "STEINERLOG 1\nCLAIM NONE\nWALL 1 1000000\nEND\n",
+    "STEINERLOG 1\nCLAIM TREE 0 0\nTREE 1 0\nSTEPS 0\nPROOF\nC 0 0\nEND\n",
+    "STEINERLOG 1\nCLAIM TREE 18446744073709551615 18446744073709551615\nTREE 1000000 1\n\
+        A 1000000 1\nSTEPS 0\nPROOF\nC 1000000 1\nU 1 18446744073709551615 1 1000000\nEND\n",
+    "STEINERLOG 1\nCLAIM TREE 6 7\nTREE 1 0\nSTEPS 0\nPROOF\nS 4\nS 4\nC 0 0\nC 0 0\nC 0 0\nEND\n",
+    "STEINERLOG 1\nCLAIM TREE 1 0\nTREE 1 0\nSTEPS 0\nPROOF\nC 0 1\nU 9 0 2 7 8\nEND\n",
+];
+
+/// Whether a text is that of a log, and is written again as it was read.
+fn is_read_and_written(rt: &impl AllocGlobal, text: &str) -> Result<bool, Fail> {
+    let log = read_log(rt.alloc(), text.as_bytes())?;
+    let written = write_log(rt.alloc(), &log)?;
+    Ok(written.as_slice() == text.as_bytes())
+}
+
+#[test]
+fn reads_and_writes_back(rt: HostRuntime) -> Result<(), Fail> {
+    for text in RIGHT {
+        assert!(rt; is_read_and_written(&rt, text)?, "{text}");
+    }
+    Ok(())
+}
+
+#[test]
+fn reads_what_the_star_says(rt: HostRuntime) -> Result<(), Fail> {
+    let log = read_log(rt.alloc(), STAR.as_bytes())?;
+    let Claim::Found {
+        primal,
+        dual,
+        tree,
+        proof,
+    } = &log.claim
+    else {
+        return Err("a tree is claimed".into());
+    };
+    assert_eq!(rt; (*primal, *dual, tree.start), (6, 6, 1));
+    assert_eq!(rt; tree.arcs.as_slice(), [(1, 4), (4, 2), (4, 3)].as_slice());
+    let [ProofLine::Close(packing)] = proof.lines() else {
+        return Err("the proof is one close".into());
+    };
+    assert_eq!(rt; packing.root, Some(1));
+    let cuts = packing.cuts.as_slice();
+    assert_eq!(rt; cuts.len(), 3);
+    assert_eq!(rt; (cuts[2].q, cuts[2].y), (2, 2));
+    assert_eq!(rt; cuts[2].set.as_slice(), [2, 3, 4].as_slice());
+    Ok(())
+}
+
+/// What is refused of a text, or line 0 where it is read.
+fn fault_of(rt: &impl AllocGlobal, text: &[u8]) -> Result<LogFault, Fail> {
+    match read_log(rt.alloc(), text) {
+        Ok(_) => Ok(LogFault {
+            line: 0,
+            kind: Kind::BadLine,
+        }),
+        Err(ReadError::Fault(fault)) => Ok(fault),
+        Err(ReadError::NoMemory) => Err("no memory".into()),
+    }
+}
+
+/// What stands in the star's log, what is written in its place, and the fault.
+const CHANGES: [(&str, &str, u64, Kind); 44] = [
+    ("STEINERLOG 1", "STEINERLOG 9", 1, Kind::BadLine),
+    ("STEINERLOG 1", "STEINERLOG 1 ", 1, Kind::BadLine),
+    ("STEINERLOG 1", "STEINERLOG 1\r", 1, Kind::BadLine),
+    ("STEINERLOG 1\n", "", 1, Kind::BadLine),
+    ("STEINERLOG 1\n", "\nSTEINERLOG 1\n", 1, Kind::BadLine),
+    ("TREE 6 6", "TREE 06 6", 2, Kind::BadLine),
+    ("TREE 6 6", "TREE 6  6", 2, Kind::BadLine),
+    ("TREE 6 6", "TREE 6", 2, Kind::BadLine),
+    ("TREE 6 6", "TREE 6 6 6", 2, Kind::BadLine),
+    ("TREE 6 6", "TREE 6 18446744073709551616", 2, Kind::BadLine),
+    ("TREE 6 6", "TREE 6 28446744073709551615", 2, Kind::BadLine),
+    ("TREE 6 6", "TREE 6 -6", 2, Kind::BadLine),
+    ("TREE 6 6", "TREE 6 +6", 2, Kind::BadLine),
+    ("CLAIM TREE 6 6", "CLAIM NONE", 3, Kind::BadLine),
+    ("TREE 1 3", "TREE 1 18446744073709551615", 7, Kind::BadLine),
+    ("TREE 1 3", "TREE 1 18446744073709551616", 3, Kind::BadLine),
+    ("TREE 1 3", "TREE 0 3", 3, Kind::BadLine),
+    ("TREE 1 3", "TREE 1000001 3", 3, Kind::BadLine),
+    ("TREE 1 3", "TREE 1 2", 6, Kind::BadLine),
+    ("TREE 1 3", "TREE 1 4", 7, Kind::BadLine),
+    ("A 4 2", "A 0 2", 5, Kind::BadLine),
+    ("A 4 2", "A 4 1000001", 5, Kind::BadLine),
+    ("A 4 2", "A 4 2 ", 5, Kind::BadLine),
+    ("STEPS 0", "STEPS 1", 7, Kind::BadLine),
+    ("STEPS 0\n", "", 7, Kind::BadLine),
+    ("PROOF\n", "", 8, Kind::BadLine),
+    ("PROOF", "S 1\nPROOF", 8, Kind::BadLine),
+    ("C 1 3", "C 1 4", 13, Kind::BadLine),
+    ("C 1 3", "C 1 2", 12, Kind::BadLine),
+    ("C 1 3", "C 1 3\nC 1 3", 10, Kind::BadLine),
+    ("C 1 3", "C 1000001 3", 9, Kind::BadLine),
+    ("C 1 3", "S 0", 9, Kind::BadLine),
+    ("C 1 3", "S 2\nC 1 3", 14, Kind::BadLine),
+    ("U 2 2 1 2", "U 2 2 0", 10, Kind::BadLine),
+    ("U 2 2 1 2", "U 2 2 2 2", 10, Kind::BadLine),
+    ("U 2 2 1 2", "U 2 2 1 2 3", 10, Kind::BadLine),
+    ("U 2 2 1 2", "U 0 2 1 2", 10, Kind::BadLine),
+    ("U 2 2 1 2", "U 2 2 1 0", 10, Kind::BadLine),
+    ("U 2 2 3 2 3 4", "U 2 2 3 2 4 3", 12, Kind::BadLine),
+    ("U 2 2 3 2 3 4", "U 2 2 3 2 3 3", 12, Kind::BadLine),
+    ("END\n", "C 0 0\nEND\n", 13, Kind::BadLine),
+    ("END\n", "END\n\n", 14, Kind::BadLine),
+    ("END\n", "END\n ", 14, Kind::BadLine),
+    ("END\n", "END", 13, Kind::EndsEarly),
+];
+
+#[test]
+fn refuses_each_change(rt: HostRuntime) -> Result<(), Fail> {
+    for (right, wrong, line, kind) in CHANGES {
+        let (before, after) = STAR.split_once(right).ok_or("the log has no such part")?;
+        let text = format!(in rt.alloc(); "{before}{wrong}{after}")?;
+        let fault = fault_of(&rt, text.as_bytes())?;
+        assert_eq!(rt; fault, LogFault { line, kind }, "in {text}");
+    }
+    Ok(())
+}
+
+#[test]
+fn refuses_what_is_cut_short(rt: HostRuntime) -> Result<(), Fail> {
+    let text = STAR.as_bytes();
+    for end in 0..text.len() {
+        let fault = fault_of(&rt, &text[..end])?;
+        let lines = text[..end].iter().filter(|byte| **byte == b'\n').count();
+        assert_eq!(rt; fault.kind, Kind::EndsEarly, "after {end} bytes");
+        assert_eq!(rt; fault.line, lines as u64 + 1, "after {end} bytes");
+    }
+    Ok(())
+}
+
+#[test]
+fn refuses_sets_without_a_vertex(rt: HostRuntime) -> Result<(), Fail> {
+    for wall in [
+        "0",
+        "1 0",
+        "2 1",
+        "1 1 2",
+        "2 2 1",
+        "2 1 1",
+        "1 1000001",
+        "",
+    ] {
+        let text = format!(in rt.alloc(); "STEINERLOG 1\nCLAIM NONE\nWALL {wall}\nEND\n")?;
+        let fault = fault_of(&rt, text.as_bytes())?;
+        let wanted = LogFault {
+            line: 3,
+            kind: Kind::BadLine,
+        };
+        assert_eq!(rt; fault, wanted, "at {wall}");
+    }
+    Ok(())
+}
+
+#[test]
+fn numbers_and_names_the_kinds(rt: HostRuntime) {
+    let kinds = [
+        (Kind::BadLine, 1, "BadLine"),
+        (Kind::EndsEarly, 2, "EndsEarly"),
+        (Kind::NotTree, 3, "NotTree"),
+        (Kind::WrongCost, 4, "WrongCost"),
+        (Kind::DualAbovePrimal, 5, "DualAbovePrimal"),
+        (Kind::BadStep, 6, "BadStep"),
+        (Kind::BadSplit, 7, "BadSplit"),
+        (Kind::BadPacking, 8, "BadPacking"),
+        (Kind::TooLight, 9, "TooLight"),
+        (Kind::BadWall, 10, "BadWall"),
+    ];
+    for (kind, code, name) in kinds {
+        assert_eq!(rt; kind.code(), code);
+        assert_eq!(rt; kind.name(), name);
+    }
+}
+
+/// A close without cuts.
+fn empty_close(rt: &impl AllocGlobal) -> ProofLine {
+    ProofLine::Close(Packing {
+        root: None,
+        cuts: Listed::of(Vec::new(rt.alloc())),
+    })
+}
+
+/// Lines of splits and closes, as a word of the letters S and C.
+fn lines_of(rt: &impl AllocGlobal, letters: &[u8]) -> Result<Vec<ProofLine>, Fail> {
+    let mut lines = Vec::new(rt.alloc());
+    for letter in letters {
+        let line = if *letter == b'S' {
+            ProofLine::Split(1)
+        } else {
+            empty_close(rt)
+        };
+        lines.push(line)?;
+    }
+    Ok(lines)
+}
+
+#[test]
+fn takes_one_proof_tree(rt: HostRuntime) -> Result<(), Fail> {
+    for (letters, is_one) in [
+        ("C", true),
+        ("SCC", true),
+        ("SSCCC", true),
+        ("SCSCC", true),
+        ("", false),
+        ("S", false),
+        ("SC", false),
+        ("CC", false),
+        ("SCCC", false),
+        ("CSC", false),
+    ] {
+        let proof = Proof::of(lines_of(&rt, letters.as_bytes())?);
+        assert_eq!(rt; proof.is_some(), is_one, "{letters}");
+    }
+    Ok(())
+}
+
+#[test]
+fn reads_line_by_line(rt: HostRuntime) -> Result<(), Fail> {
+    let mut reader = LogReader::new(rt.alloc());
+    for line in ["STEINERLOG 1", "CLAIM NONE", "WALL 2 1 2", "END"] {
+        assert!(rt; !reader.is_done());
+        reader.line(line.as_bytes())?;
+    }
+    assert!(rt; reader.is_done());
+    assert!(rt; reader.finish().is_some());
+    Ok(())
+}
+
+#[test]
+fn states_its_laws() {
+    one_spelling();
+    refused_exactly();
+    accepted_holds();
+    rejected_exactly();
+}
