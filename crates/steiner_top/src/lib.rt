@@ -8,9 +8,10 @@
 mod answering;
 mod running;
 mod status;
+#[cfg(test)]
+mod tests;
 mod words;
 
 pub use running::{Ended, run};
 pub use split_search::{Gate, OpenGate};
 pub use status::Status;
-
