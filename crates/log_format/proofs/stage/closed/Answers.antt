@@ -1,4 +1,3 @@
-use Rattle.std.proofs.Common.{refl}
 use Rattle.log_format.proofs.Preorders.{last_close}
 use Rattle.log_format.proofs.stage.closed.Goals as goal
 
