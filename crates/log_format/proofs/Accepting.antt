@@ -1,11 +1,11 @@
 -- What is accepted holds: a proved bound bounds every tree, and no tree gets past a wall.
-use Rattle.std.proofs.Common.{◌≡◌, ℕ, ◌≤◌, Bool, true, false, List, [], ◌∷◌, inl, inr, refl, sym, ap, subst, ◌∙◌, arith}
-use Rattle.std.specs.Prelude.{◌==◌, IsTrue, IsFalse, IsSome}
+use Rattle.std.proofs.Common.{◌≡◌, ℕ, Bool, false, List, [], ◌∷◌, inl, inr, sym, ap, subst, ◌∙◌}
+use Rattle.std.specs.Prelude.{◌==◌, IsTrue, IsSome}
 use Rattle.std.proofs.lemmas.Bool.{or_cases, eqb-true, both_ways}
 use Rattle.st_model.specs.declared.tree.Tree.{Tree}
 use Rattle.st_model.specs.Lists.{has}
 use Rattle.st_model.specs.Network.{Network, link}
-use Rattle.st_model.specs.Arborescence.{reached_from, reached, Grows, IsTree, IsBound, IsBest, cost}
+use Rattle.st_model.specs.Arborescence.{reached_from, Grows, IsTree, IsBound}
 use Rattle.st_model.specs.Branch.{Belongs}
 use Rattle.cut_packing.proofs.Duality.{proof_tree_bounds_lem}
 use Rattle.log_format.specs.declared.log.Claim.{Claim}

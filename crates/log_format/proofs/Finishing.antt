@@ -1,6 +1,6 @@
 -- Each stage goes on to some log, and a line that is refused to none.
-use Rattle.std.proofs.Common.{◌≡◌, ℕ, zero, suc, ◌+◌, ◌≤◌, ◌<◌, List, [], ◌∷◌, ◌++◌, length, Option, Some, None, refl, sym, ap, subst, ◌∙◌, append_assoc, arith}
-use Rattle.std.specs.Prelude.{codes, ◌≢◌}
+use Rattle.std.proofs.Common.{◌≡◌, ℕ, zero, suc, ◌≤◌, List, [], ◌∷◌, ◌++◌, Option, Some, None, refl, sym, ap, subst, ◌∙◌, append_assoc, arith}
+use Rattle.std.specs.Prelude.{codes}
 use Rattle.std.proofs.lemmas.List.{append-nil}
 use Rattle.std.proofs.lemmas.List.Elements.{All-from_recursion}
 use Rattle.cut_packing.specs.declared.cut.Cut.{Cut}
@@ -9,13 +9,13 @@ use Rattle.log_format.specs.declared.log.Log.{Log}
 use Rattle.log_format.specs.declared.log.Claim.{Claim}
 use Rattle.log_format.specs.declared.log.Claim.TheVariants.{Found, NoTree}
 use Rattle.log_format.specs.declared.proof_line.ProofLine.{ProofLine}
-use Rattle.log_format.specs.declared.proof_line.ProofLine.TheVariants.{Split, Close}
+use Rattle.log_format.specs.declared.proof_line.ProofLine.TheVariants.{Close}
 use Rattle.log_format.specs.declared.stage.Answer.{Answer}
 use Rattle.log_format.specs.declared.stage.Proving.{Proving}
 use Rattle.log_format.specs.declared.stage.Stage.{Stage}
 use Rattle.log_format.specs.declared.stage.Stage.TheVariants.{AtHeader, AtClaim, AtTree, AtArcs, AtProof, AtHalf, AtCuts, AtWall, AtEnd, AtNothing}
-use Rattle.log_format.specs.Text.{words, root_number, arc_line, cut_line, header, log_lines, IsLog, AreWhole, Begins, IsWritableCut, IsWritablePacking}
-use Rattle.log_format.specs.Reading.{◌>>=◌, pair_of, most, closed, cuts_left, step, run}
+use Rattle.log_format.specs.Text.{words, arc_line, cut_line, header, log_lines, IsLog, AreWhole, Begins, IsWritableCut, IsWritablePacking}
+use Rattle.log_format.specs.Reading.{most, closed, cuts_left, step, run}
 use Rattle.log_format.specs.Reached.{lines_read, IsReached, IsRead}
 use Rattle.log_format.proofs.Steps.{step_some}
 use Rattle.log_format.proofs.LineLaws.{pair_judges, wall_judges, IsAscending}

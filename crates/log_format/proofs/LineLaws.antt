@@ -1,18 +1,18 @@
 -- Each kind of line is read just where it is spelled so.
-use Rattle.std.proofs.Common.{◌≡◌, ℕ, zero, suc, ◌+◌, ◌^◌, ◌<◌, ◌≤◌, true, cond, eqb, List, [], ◌∷◌, ◌++◌, length, Option, Some, None, refl, sym, ap, subst, ◌∙◌, append_assoc, arith}
+use Rattle.std.proofs.Common.{◌≡◌, ℕ, zero, suc, ◌+◌, ◌^◌, ◌<◌, ◌≤◌, true, eqb, List, [], ◌∷◌, ◌++◌, length, Option, Some, refl, sym, ap, subst, ◌∙◌, arith}
 use Rattle.std.specs.Prelude.{codes, ⊤}
 use Rattle.std.specs.List.{flat_map}
 use Rattle.std.specs.Fmt.{decimal}
 use Rattle.std.specs.Str.{bytes_eq}
 use Rattle.std.proofs.lemmas.Bool.{eqb-true}
-use Rattle.std.proofs.lemmas.List.{append-nil, nil_from_length}
+use Rattle.std.proofs.lemmas.List.{nil_from_length}
 use Rattle.std.proofs.lemmas.Option.{cond_some}
 use Rattle.std.proofs.lemmas.Slice.Eq.{bytes_eq-Decides}
 use Rattle.cut_packing.specs.declared.cut.Cut.{Cut}
 use Rattle.log_format.specs.Text.{spaced, words, cut_line}
-use Rattle.log_format.specs.Reading.{◌>>=◌, after, word_at, number, number_at, only, number_of, pair_of, set_at, counted_set_at, cut_head_of, cut_of, wall_of, most}
+use Rattle.log_format.specs.Reading.{after, word_at, number, number_at, only, number_of, pair_of, set_at, counted_set_at, cut_head_of, cut_of, wall_of, most}
 use Rattle.log_format.proofs.Steps.{step_some}
-use Rattle.log_format.proofs.Cut.{lacks, lacks-append, after_takes, after_again, begins_word, word_takes, word_again}
+use Rattle.log_format.proofs.Cut.{after_takes, after_again, begins_word, word_takes, word_again}
 use Rattle.log_format.proofs.Numerals.{decimal_lacks, number_takes, number_again}
 
 -- a test finds x just where the line is the spelling of x and x fits

@@ -1,5 +1,5 @@
 -- Bytes that are the text of no log are refused, at one line and as one kind.
-use Rattle.std.proofs.Common.{◌≡◌, ◌≢◌, ℕ, ◌+◌, ◌<◌, ◌≤◌, ◌⊎◌, inl, inr, List, [], ◌∷◌, ◌++◌, length, Option, Some, None, refl, sym, ap, subst, ◌∙◌, append_assoc, arith}
+use Rattle.std.proofs.Common.{◌≡◌, ◌≢◌, ℕ, ◌+◌, ◌⊎◌, inl, inr, List, [], ◌∷◌, ◌++◌, length, Option, Some, None, refl, sym, ap, subst, ◌∙◌, append_assoc}
 use Rattle.std.proofs.lemmas.List.{append-nil}
 use Rattle.log_format.specs.declared.kind.Kind.{Kind}
 use Rattle.log_format.specs.declared.kind.Kind.TheVariants.{BadLine, EndsEarly}
@@ -7,7 +7,7 @@ use Rattle.log_format.specs.declared.log.Log.{Log}
 use Rattle.log_format.specs.declared.log.Claim.{Claim}
 use Rattle.log_format.specs.declared.stage.Stage.{Stage}
 use Rattle.log_format.specs.declared.stage.Stage.TheVariants.{AtHeader, AtClaim, AtTree, AtArcs, AtProof, AtHalf, AtCuts, AtWall, AtEnd, AtNothing}
-use Rattle.log_format.specs.Text.{log_lines, log_text, whole_lines, unfinished, AreWhole, Begins, IsLog}
+use Rattle.log_format.specs.Text.{log_lines, whole_lines, unfinished, AreWhole, Begins}
 use Rattle.log_format.specs.Reading.{step}
 use Rattle.log_format.specs.Reached.{lines_read, IsRead}
 use Rattle.log_format.specs.Refused.{IsBadLine, HasBytesBehind, IsCutShort, LogRefused}

@@ -1,8 +1,7 @@
 -- What is rejected is not accepted, and is rejected at one line and as one kind; and what is not accepted can't escape it.
-use Rattle.std.proofs.Common.{◌≡◌, ℕ, zero, suc, ◌+◌, ◌≤◌, Bool, true, false, List, [], ◌∷◌, ◌++◌, ◌⊎◌, inl, inr, length, refl, sym, ap, subst, ◌∙◌, append_assoc, arith}
+use Rattle.std.proofs.Common.{◌≡◌, ℕ, ◌+◌, true, List, [], ◌∷◌, ◌++◌, inl, inr, length, refl, sym, ap, subst, ◌∙◌, append_assoc}
 use Rattle.std.proofs.lemmas.List.{append-nil}
 use Rattle.st_model.specs.declared.branch.Branch.{Branch}
-use Rattle.st_model.specs.declared.tree.Tree.{Tree}
 use Rattle.st_model.specs.Network.{Network}
 use Rattle.st_model.specs.Branch.{with_inside, with_outside}
 use Rattle.cut_packing.specs.ProofTree.{ProofTree, close, split, Closes, IsSplit, Proves}
@@ -13,9 +12,9 @@ use Rattle.log_format.specs.declared.log.Claim.{Claim}
 use Rattle.log_format.specs.declared.log.Claim.TheVariants.{Found, NoTree}
 use Rattle.log_format.specs.declared.proof_line.ProofLine.{ProofLine}
 use Rattle.log_format.specs.declared.proof_line.ProofLine.TheVariants.{Split, Close}
-use Rattle.log_format.specs.Preorder.{preorder, are_proofs, IsOneProof}
+use Rattle.log_format.specs.Preorder.{preorder, are_proofs}
 use Rattle.log_format.specs.Text.{IsProved}
-use Rattle.log_format.specs.Accepts.{all_trees, ProvesAll, AcceptsClaim, FailsFirst, IsFirstWrong, RejectsClaim, proof_line}
+use Rattle.log_format.specs.Accepts.{all_trees, AcceptsClaim, FailsFirst, IsFirstWrong, RejectsClaim, proof_line}
 use Rattle.log_format.specs.Laws.{RejectedExactly}
 use Rattle.log_format.proofs.Preorders.{preorders, one_passes}
 
@@ -131,11 +130,32 @@ once I (NoTree wall) l l' k k' a b = agree 3 l l' BadWall k k' a b (λ none othe
 -- what isn't accepted can't go without being rejected
 no_escape : (I : Network) (claim : Claim) → IsProved claim → (AcceptsClaim I claim → ⊥) → ((l : ℕ) (k : Kind) → RejectsClaim I claim l k → ⊥) → ⊥
 no_escape I (Found primal dual tree proof) one not_accepted none =
-    none 3 NotTree (inl ((λ is_tree. none 2 WrongCost (inr (is_tree, inl ((λ is_cost. none 2 DualAbovePrimal (inr (is_tree, inr (is_cost, inl ((λ is_below.
-      all_right I dual (all_trees ∷ []) (proof_line tree) proof (one_passes proof one)
-      (λ l k wrong. none l k (inr (is_tree, inr (is_cost, inr (is_below, wrong)))))
-      (λ right. not_accepted (record { is_tree = is_tree; is_cost = is_cost; is_below = is_below; is_proved = proof_of I dual all_trees proof (trees_of I dual (all_trees ∷ []) proof right) }))
-    ), refl, refl))))), refl, refl)))), refl, refl))
+    none 3 NotTree (inl (
+      (λ is_tree. none 2 WrongCost (inr (
+        is_tree,
+        inl (
+          (λ is_cost. none 2 DualAbovePrimal (inr (
+            is_tree,
+            inr (
+              is_cost,
+              inl (
+                (λ is_below.
+                    all_right I dual (all_trees ∷ []) (proof_line tree) proof (one_passes proof one)
+                    (λ l k wrong. none l k (inr (is_tree, inr (is_cost, inr (is_below, wrong)))))
+                    (λ right. not_accepted (record { is_tree = is_tree; is_cost = is_cost; is_below = is_below; is_proved = proof_of I dual all_trees proof (trees_of I dual (all_trees ∷ []) proof right) }))
+                    ),
+                refl,
+                refl,
+              ),
+            ),
+          ))),
+          refl,
+          refl,
+        ),
+      ))),
+      refl,
+      refl,
+    ))
 no_escape I (NoTree wall) one not_accepted none = none 3 BadWall (inl (not_accepted, refl, refl))
 
 pub rejected_exactly_lem : (I : Network) (log : Log) → RejectedExactly I log

@@ -1,9 +1,7 @@
 -- The lines of a log are read, from the first to the last.
-use Rattle.std.proofs.Common.{◌≡◌, ℕ, zero, suc, ◌+◌, ◌-◌, ◌^◌, ◌<◌, ◌≤◌, Bool, true, false, cond, eqb, List, [], ◌∷◌, ◌++◌, length, map, Option, Some, None, refl, sym, ap, subst, ◌∙◌, append_assoc, arith}
+use Rattle.std.proofs.Common.{◌≡◌, ℕ, zero, suc, ◌+◌, ◌-◌, ◌^◌, ◌<◌, ◌≤◌, true, false, List, [], ◌∷◌, ◌++◌, length, map, Option, Some, None, refl, sym, ap, subst, ◌∙◌, append_assoc, arith}
 use Rattle.std.specs.Prelude.{codes, IfSome, ◌==◌}
 use Rattle.std.specs.List.{flat_map, AllByRecursion}
-use Rattle.std.specs.Str.{bytes_eq}
-use Rattle.std.proofs.lemmas.Bool.{eqb-true}
 use Rattle.std.proofs.lemmas.Bool.Decides.{nat_tests}
 use Rattle.std.proofs.lemmas.List.{append-nil}
 use Rattle.std.proofs.lemmas.List.Elements.{recursion_from_All}
@@ -20,7 +18,7 @@ use Rattle.log_format.specs.declared.stage.Stage.{Stage}
 use Rattle.log_format.specs.declared.stage.Stage.TheVariants.{AtHeader, AtClaim, AtTree, AtArcs, AtProof, AtHalf, AtCuts, AtWall, AtEnd, AtNothing}
 use Rattle.log_format.specs.Preorder.{are_proofs}
 use Rattle.log_format.specs.Text.{words, root_number, arc_line, cut_line, lines_of, header, claim_lines, log_lines, IsLog, IsClaimInRange, IsProved, IsAnyVertex, IsWritableCut, IsWritableLine, IsWritablePacking}
-use Rattle.log_format.specs.Reading.{◌>>=◌, number_of, pair_of, cut_of, wall_of, most, stage_if, root_of, closed, cuts_left, split_at, half_at, step, run}
+use Rattle.log_format.specs.Reading.{number_of, most, stage_if, root_of, closed, cuts_left, split_at, step, run}
 use Rattle.log_format.proofs.LineLaws.{same_bytes, number_of_judges, pair_judges, cut_judges, wall_judges}
 use Rattle.log_format.proofs.Sets.{set_to, cut_to}
 use Rattle.log_format.proofs.Preorders.{one_passes}

@@ -1,5 +1,5 @@
 -- Sets are written ascending, and read so.
-use Rattle.std.proofs.Common.{◌≡◌, ℕ, zero, suc, ◌+◌, ◌^◌, ◌<◌, ◌≤◌, List, [], ◌∷◌, length, refl, sym, subst, arith}
+use Rattle.std.proofs.Common.{◌≡◌, ℕ, zero, suc, ◌+◌, ◌<◌, ◌≤◌, List, [], ◌∷◌, length, subst, arith}
 use Rattle.std.specs.Prelude.{slice_index}
 use Rattle.std.specs.List.{AllByRecursion}
 use Rattle.std.specs.List.Sorted.{IsStrictlyIncreasing}
@@ -7,7 +7,7 @@ use Rattle.std.proofs.lemmas.List.Elements.{recursion_from_All, All-from_recursi
 use Rattle.st_model.specs.Network.{IsVertex}
 use Rattle.cut_packing.specs.declared.cut.Cut.{Cut}
 use Rattle.log_format.specs.Text.{IsWritableSet, IsWritableCut}
-use Rattle.log_format.proofs.LineLaws.{IsBetween, AscendAbove, IsAscending, IsCut}
+use Rattle.log_format.proofs.LineLaws.{AscendAbove, IsAscending, IsCut}
 
 -- what ascends rises strictly
 rises : (last : ℕ) (set : List ℕ) → AscendAbove last set → IsStrictlyIncreasing set

@@ -1,5 +1,5 @@
 -- What was read at a stage was spelled so.
-use Rattle.std.proofs.Common.{◌≡◌, ℕ, zero, suc, ◌+◌, ◌-◌, ◌^◌, ◌<◌, ◌≤◌, Bool, true, false, cond, eqb, inl, inr, List, [], ◌∷◌, ◌++◌, length, map, Option, Some, None, refl, sym, ap, subst, ◌∙◌, append_assoc, arith}
+use Rattle.std.proofs.Common.{◌≡◌, ℕ, zero, suc, ◌+◌, ◌-◌, ◌^◌, ◌<◌, ◌≤◌, eqb, inl, inr, List, [], ◌∷◌, ◌++◌, length, map, Option, Some, None, refl, sym, ap, subst, ◌∙◌, append_assoc, arith}
 use Rattle.std.specs.Prelude.{codes, IfSome}
 use Rattle.std.specs.List.{flat_map, AllByRecursion}
 use Rattle.std.specs.Str.{bytes_eq}
@@ -7,11 +7,10 @@ use Rattle.std.proofs.lemmas.Bool.{eqb-true}
 use Rattle.std.proofs.lemmas.Bool.Decides.{nat_tests}
 use Rattle.std.proofs.lemmas.Grind.{flat_map-append}
 use Rattle.std.proofs.lemmas.List.{append-nil, map-append, length-append}
-use Rattle.std.proofs.lemmas.List.Elements.{recursion_from_All, All-from_recursion}
+use Rattle.std.proofs.lemmas.List.Elements.{All-from_recursion}
 use Rattle.std.proofs.lemmas.Option.{cond_some}
 use Rattle.cut_packing.specs.declared.cut.Cut.{Cut}
 use Rattle.cut_packing.specs.declared.packing.Packing.{Packing}
-use Rattle.log_format.specs.declared.log.Claim.{Claim}
 use Rattle.log_format.specs.declared.log.Claim.TheVariants.{Found, NoTree}
 use Rattle.log_format.specs.declared.proof_line.ProofLine.{ProofLine}
 use Rattle.log_format.specs.declared.proof_line.ProofLine.TheVariants.{Split, Close}
@@ -20,10 +19,10 @@ use Rattle.log_format.specs.declared.stage.Proving.{Proving}
 use Rattle.log_format.specs.declared.stage.Stage.{Stage}
 use Rattle.log_format.specs.declared.stage.Stage.TheVariants.{AtHeader, AtClaim, AtTree, AtArcs, AtProof, AtHalf, AtCuts, AtWall, AtEnd, AtNothing}
 use Rattle.log_format.specs.Text.{words, root_number, arc_line, cut_line, lines_of, header, IsAnyVertex, IsWritableCut, IsWritableLine}
-use Rattle.log_format.specs.Reading.{◌>>=◌, number_of, pair_of, cut_of, wall_of, most, stage_if, root_of, closed, cuts_left, split_at, half_at, step, open_after, IsOpen}
-use Rattle.log_format.specs.Reached.{tree_lines, answer_lines, proof_lines, close_lines, lines_read, IsAnswer, IsProving, AreArcsReached, AreCutsReached, IsReached}
+use Rattle.log_format.specs.Reading.{◌>>=◌, number_of, pair_of, cut_of, wall_of, most, stage_if, root_of, closed, cuts_left, split_at, half_at, step, open_after}
+use Rattle.log_format.specs.Reached.{tree_lines, answer_lines, proof_lines, close_lines, lines_read, IsProving, IsReached}
 use Rattle.log_format.proofs.Steps.{step_some, chosen}
-use Rattle.log_format.proofs.LineLaws.{bytes_are, number_of_judges, pair_line, pair_judges, cut_judges, wall_judges}
+use Rattle.log_format.proofs.LineLaws.{bytes_are, number_of_judges, pair_judges, cut_judges, wall_judges}
 use Rattle.log_format.proofs.Sets.{set_from, cut_from}
 use Rattle.log_format.proofs.Preorders.{are_proofs-append, open_after-append, one_from}
 

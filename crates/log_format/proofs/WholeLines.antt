@@ -1,5 +1,5 @@
 -- What reading whole lines tells of all the bytes.
-use Rattle.std.proofs.Common.{◌≡◌, ◌≢◌, ℕ, ◌+◌, inl, inr, List, [], ◌∷◌, ◌++◌, length, None, Some, Result, Ok, Err, refl, sym, ap, ◌∙◌, append_assoc, arith, length-append}
+use Rattle.std.proofs.Common.{◌≡◌, ℕ, ◌+◌, inl, inr, List, [], ◌∷◌, ◌++◌, length, None, Some, Result, Ok, Err, refl, sym, ap, ◌∙◌, append_assoc}
 use Rattle.std.specs.Prelude.{IfOk, IfErr, MatchResult}
 use Rattle.std.specs.List.{flat_map}
 use Rattle.std.proofs.lemmas.List.{append-nil}
@@ -11,7 +11,7 @@ use Rattle.log_format.specs.declared.log.Log.{Log}
 use Rattle.log_format.specs.declared.stage.Stage.TheVariants.{AtHeader}
 use Rattle.log_format.specs.Text.{ended, log_lines, log_text, whole_lines, unfinished, Begins, IsLog}
 use Rattle.log_format.specs.Reading.{cut}
-use Rattle.log_format.specs.Refused.{IsBadLine, HasBytesBehind, IsCutShort, LogRefused, IsRefusedBy}
+use Rattle.log_format.specs.Refused.{LogRefused, IsRefusedBy}
 use Rattle.log_format.proofs.Finishing.{read_none, read_begins, same_lines}
 use Rattle.log_format.proofs.Lines.{cut_some, cut_none, text_lines, lines_make}
 

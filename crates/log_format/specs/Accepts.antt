@@ -75,9 +75,9 @@ proof_line tree = 6 + length tree.arcs
 -- the first check that a claim fails, and its line
 abbrev pub RejectsClaim : Network → Claim → ℕ → Kind → Type 0
 RejectsClaim I (Found primal dual tree proof) line kind = FailsFirst (IsTree I tree) 3 NotTree line kind
-  (FailsFirst (primal ≡ cost I tree) 2 WrongCost line kind
-  (FailsFirst (dual ≤ primal) 2 DualAbovePrimal line kind
-  (IsFirstWrong I dual (all_trees ∷ []) (proof_line tree) proof line kind)))
+    (FailsFirst (primal ≡ cost I tree) 2 WrongCost line kind
+    (FailsFirst (dual ≤ primal) 2 DualAbovePrimal line kind
+    (IsFirstWrong I dual (all_trees ∷ []) (proof_line tree) proof line kind)))
 RejectsClaim I (NoTree wall) line kind = FailsFirst (IsWall I wall) 3 BadWall line kind ⊥
 
 abbrev pub Rejects : Network → Log → ℕ → Kind → Type 0

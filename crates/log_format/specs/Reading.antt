@@ -2,12 +2,9 @@
 use Rattle.std.specs.Prelude.{◌≡◌, ℕ, zero, suc, ◌+◌, ◌-◌, ◌*◌, ◌≤◌, ◌&&◌, ◌||◌, ◌==◌, Bool, false, List, [], ◌∷◌, ◌++◌, length, Option, Some, None, Result, Ok, Err, option_map, option_and_then, nat_lt, nat_le, if◌then◌else◌, codes}
 use Rattle.std.specs.Char.{is_ascii_digit}
 use Rattle.std.specs.Str.{bytes_eq}
-use Rattle.st_model.specs.declared.tree.Tree.{Tree}
 use Rattle.cut_packing.specs.declared.cut.Cut.{Cut}
-use Rattle.cut_packing.specs.declared.packing.Packing.{Packing}
 use Rattle.log_format.specs.declared.fault.LineError.{LineError}
 use Rattle.log_format.specs.declared.fault.LineError.TheVariants.{BadLine, NoMemory}
-use Rattle.log_format.specs.declared.log.Claim.{Claim}
 use Rattle.log_format.specs.declared.log.Claim.TheVariants.{Found, NoTree}
 use Rattle.log_format.specs.declared.proof_line.ProofLine.{ProofLine}
 use Rattle.log_format.specs.declared.proof_line.ProofLine.TheVariants.{Split, Close}

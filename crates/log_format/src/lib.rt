@@ -14,6 +14,7 @@ mod log;
 mod numbers;
 mod proof;
 mod proof_line;
+mod proving;
 mod read;
 mod reader;
 mod stage;

@@ -1,13 +1,14 @@
-ghost use Rattle.std.specs.Prelude.{◌≡◌, ◌∷◌, [], ◌++◌, ◌≤◌, IfOk, codes, option_map};
+ghost use Rattle.std.specs.Prelude.{◌≡◌, ◌∷◌, [], ◌++◌, codes, option_map};
 ghost use Rattle.log_format.specs.Reached.{IsReached};
-ghost use Rattle.log_format.specs.Reading.{Gives, IsOpen, pair_of, root_of, stage_if, cuts_left, closed, half_at, split_at, step};
+ghost use Rattle.log_format.specs.Reading.{Gives, pair_of, stage_if, step};
 
 use crate::fault::LineError;
-use crate::line::{MAX_VERTEX, cut_of, number_of, pair_of, wall_of};
-use crate::{Claim, Proof, ProofLine};
-use cut_packing::{Cut, Packing};
+use crate::line::{MAX_VERTEX, pair_of, wall_of};
+use crate::proving::{at_cuts, at_half};
+use crate::{Claim, ProofLine};
+use cut_packing::Cut;
 use st_model::{Listed, Tree};
-use std::alloc::{AllocError, Global};
+use std::alloc::Global;
 
 /// What a log with a tree says before its proof.
 #[derive(Debug, Drop)]
@@ -146,105 +147,6 @@ fn at_arcs(
     })
 }
 
-// The lines with one more.
-fn with_line(lines: Listed<ProofLine>, line: ProofLine) -> Result<Listed<ProofLine>, AllocError>
-    ensures { IfOk result (λ more. more ≡ lines ++ line ∷ []) }
-{
-    let mut lines = lines.into_vec();
-    lines.push(line)?;
-    Ok(Listed::of(lines))
-}
-
-// What comes behind a close: the next of the halves that wait, or the end.
-fn closed(proving: Proving, packing: Packing) -> Result<Stage, AllocError>
-    requires { IsOpen proving }
-    ensures { IfOk result (λ stage. stage
-        ≡ closed proving.answer (proving.lines ++ ProofLine.Close packing ∷ []) proving.waiting) }
-{
-    let Proving {
-        answer,
-        lines,
-        waiting,
-    } = proving;
-    let lines = with_line(lines, ProofLine::Close(packing))?;
-    if waiting == 0 {
-        let Answer { primal, dual, tree } = answer;
-        let proof = Proof::whole(lines.into_vec());
-        return Ok(Stage::AtEnd(Claim::Found {
-            primal,
-            dual,
-            tree,
-            proof,
-        }));
-    }
-    Ok(Stage::AtHalf(Proving {
-        answer,
-        lines,
-        waiting: waiting - 1,
-    }))
-}
-
-// What comes behind a split: its two halves, one of which waits.
-fn split(proving: Proving, vertex: u32) -> Result<Stage, AllocError>
-    requires { IsOpen proving }
-    ensures { IfOk result (λ stage. stage ≡ split_at proving vertex) }
-{
-    let Proving {
-        answer,
-        lines,
-        waiting,
-    } = proving;
-    let lines = with_line(lines, ProofLine::Split(vertex))?;
-    Ok(Stage::AtHalf(Proving {
-        answer,
-        lines,
-        waiting: waiting + 1,
-    }))
-}
-
-// What comes behind some cuts of a close.
-fn cuts_left(
-    proving: Proving,
-    root: Option<u32>,
-    cuts: Listed<Cut>,
-    left: u64,
-) -> Result<Stage, AllocError>
-    requires { IsOpen proving }
-    ensures { IfOk result (λ stage. stage ≡ cuts_left proving root cuts left) }
-{
-    if left == 0 {
-        return closed(proving, Packing { root, cuts });
-    }
-    Ok(Stage::AtCuts {
-        proving,
-        root,
-        cuts,
-        left,
-    })
-}
-
-// The root that is written so: 0 stands for none.
-fn root_of(number: u32) -> Option<u32>
-    ensures { result ≡ root_of number }
-{
-    if number == 0 { None } else { Some(number) }
-}
-
-// What comes behind the head of a close.
-fn at_close(alloc: Global, proving: Proving, line: &[u8]) -> Result<Stage, LineError>
-    requires { IsOpen proving }
-    ensures { Gives (λ s. s) result (half_at proving None line.now) }
-{
-    let (root, left) = pair_of(line, b"C", 0, MAX_VERTEX, 0, u64::MAX).ok_or(LineError::BadLine)?;
-    let stage = cuts_left(
-        proving,
-        root_of(root as u32),
-        Listed::of(Vec::new(alloc)),
-        left,
-    )?;
-    Ok(stage)
-}
-
 // What comes behind the word that begins a proof.
 #[tactic(auto, unfolding(crate::specs::Reading::step))]
 fn at_proof(alloc: Global, answer: Answer, line: &[u8]) -> Result<Stage, LineError>
@@ -256,42 +158,6 @@ fn at_proof(alloc: Global, answer: Answer, line: &[u8]) -> Result<Stage, LineErr
         waiting: 0,
     };
     stage_if(b"PROOF", line, Stage::AtHalf(proving))
-}
-
-// What comes behind a line where a half of a proof begins.
-#[tactic(auto, unfolding(crate::specs::Reading::step))]
-fn at_half(alloc: Global, proving: Proving, line: &[u8]) -> Result<Stage, LineError>
-    requires { IsOpen proving }
-    ensures { Gives (λ s. s) result (step (Stage.AtHalf proving) line.now) }
-{
-    match number_of(line, b"S", 1, MAX_VERTEX) {
-        None => at_close(alloc, proving, line),
-        Some(vertex) => {
-            let stage = split(proving, vertex as u32)?;
-            Ok(stage)
-        }
-    }
-}
-
-// What comes behind a line where cuts of a close stand.
-#[tactic(auto, unfolding(crate::specs::Reading::step))]
-fn at_cuts(
-    alloc: Global,
-    proving: Proving,
-    root: Option<u32>,
-    cuts: Listed<Cut>,
-    left: u64,
-    line: &[u8],
-) -> Result<Stage, LineError>
-    requires open { IsOpen proving }
-    requires some { 1 ≤ left }
-    ensures { Gives (λ s. s) result (step (Stage.AtCuts proving root cuts left) line.now) }
-{
-    let cut = cut_of(alloc, line)?;
-    let mut cuts = cuts.into_vec();
-    cuts.push(cut)?;
-    let stage = cuts_left(proving, root, Listed::of(cuts), left - 1)?;
-    Ok(stage)
 }
 
 // What comes behind a line where a wall stands.

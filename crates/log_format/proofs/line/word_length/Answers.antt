@@ -1,4 +1,3 @@
-use Rattle.std.proofs.Common.{◌∙◌, refl}
 use Rattle.log_format.proofs.Cut.{word-position}
 use Rattle.log_format.proofs.line.word_length.Goals as goal
 

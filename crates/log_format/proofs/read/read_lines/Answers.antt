@@ -1,6 +1,5 @@
-use Rattle.std.proofs.Common.{◌≡◌, ◌+◌, ◌++◌, ◌∷◌, [], length, refl, sym, ap, ◌∙◌, arith, length-append}
-use Rattle.log_format.specs.Text.{Begins, whole_lines}
-use Rattle.log_format.proofs.WholeLines.{IsReadUpTo, nothing_begins, one_more, no_more, bad_line}
+use Rattle.std.proofs.Common.{◌∷◌, [], length, refl, sym, ap, ◌∙◌, arith, length-append}
+use Rattle.log_format.proofs.WholeLines.{nothing_begins, one_more, no_more, bad_line}
 use Rattle.log_format.proofs.read.read_lines.Goals as goal
 
 pub loop-line-init : goal.loop-line-init

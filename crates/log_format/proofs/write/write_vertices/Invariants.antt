@@ -1,6 +1,6 @@
-use Rattle.std.proofs.Common.{◌≡◌, ◌++◌, map, take}
+use Rattle.std.proofs.Common.{◌≡◌, ◌++◌, take}
 use Rattle.std.specs.List.{flat_map}
-use Rattle.log_format.specs.Text.{ended, spaced, arc_line, cut_line, lines_of}
+use Rattle.log_format.specs.Text.{spaced}
 use Rattle.log_format.proofs.write.write_vertices.Given as goal
 
 abbrev pub invariant-loop-vertex : goal.invariant-loop-vertex

@@ -1,4 +1,4 @@
-use Rattle.std.proofs.Common.{◌≡◌, sym, ◌∙◌}
+use Rattle.std.proofs.Common.{sym, ◌∙◌}
 use Rattle.log_format.proofs.Finishing.{whole_is_read}
 use Rattle.log_format.proofs.reader.LogReader.finish.Goals as goal
 

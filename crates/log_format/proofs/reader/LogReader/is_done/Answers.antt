@@ -1,7 +1,4 @@
-use Rattle.std.proofs.Common.{◌≡◌, sym, ap, subst, ◌∙◌, refl}
-use Rattle.log_format.specs.declared.stage.Stage.{Stage}
-use Rattle.log_format.specs.declared.stage.Stage.TheVariants.{AtNothing}
-use Rattle.log_format.specs.Reached.{lines_read, IsRead}
+use Rattle.std.proofs.Common.{sym, ◌∙◌, refl}
 use Rattle.log_format.proofs.Finishing.{is_whole, whole_is_read}
 use Rattle.log_format.proofs.reader.LogReader.is_done.Goals as goal
 

@@ -1,11 +1,9 @@
-use Rattle.std.proofs.Common.{◌≡◌, ◌++◌, ◌∷◌, [], None, Some, sym, ap, subst, ◌∙◌}
+use Rattle.std.proofs.Common.{◌≡◌, None, Some, sym, ap, subst, ◌∙◌}
 use Rattle.std.proofs.lemmas.Result.{err_from_is_err_and}
 use Rattle.log_format.specs.declared.fault.LineError.{LineError}
 use Rattle.log_format.specs.declared.fault.LineError.TheVariants.{BadLine}
 use Rattle.log_format.specs.declared.stage.Stage.{Stage}
 use Rattle.log_format.specs.Reading.{Fails, step}
-use Rattle.log_format.specs.Reached.{lines_read}
-use Rattle.log_format.specs.Text.{Begins}
 use Rattle.log_format.proofs.Finishing.{read_none, read_more, read_begins, refused_stops}
 use Rattle.log_format.proofs.reader.LogReader.line.Goals as goal
 
