@@ -11,6 +11,8 @@ mod deciding;
 mod gate;
 mod open;
 mod splitting;
+#[cfg(test)]
+mod tests;
 
 pub use gate::{Gate, OpenGate};
 pub use open::search;
