@@ -1,5 +1,4 @@
 use Rattle.steiner_top.specs.declared.status.Status.TheVariants.{Optimal}
-use Rattle.steiner_top.proofs.Promises.{headline_from}
 use Rattle.steiner_top.proofs.running.run.Goals as goal
 
 pub returns-in-Ok-clause-cut_short : goal.returns-in-Ok-clause-cut_short
