@@ -21,7 +21,7 @@ pub record RefusedExactly (bytes : List ℕ) : Type 0 where
   pub some_fault : IsNoText bytes → (line : ℕ) × (kind : Kind) × LogRefused bytes line kind
   pub one_fault : (line line' : ℕ) (kind kind' : Kind) → LogRefused bytes line kind → LogRefused bytes line' kind' → (line ≡ line') × (kind ≡ kind')
 
--- what is accepted is not rejected; what is rejected is so at one line and as one kind; and what is not accepted can't go without it
+-- the log isn't both accepted and rejected, and not neither; where it is rejected, it is at one line and as one kind
 pub record RejectedExactly (I : Network) (log : Log) : Type 0 where
   pub not_accepted : (line : ℕ) (kind : Kind) → Rejects I log line kind → Accepts I log → ⊥
   pub one_fault : (line line' : ℕ) (kind kind' : Kind) → Rejects I log line kind → Rejects I log line' kind' → (line ≡ line') × (kind ≡ kind')

@@ -19,7 +19,8 @@ pub fn accepted_holds()
     ensures { AcceptedHolds }
 {}
 
-/// A log is rejected, at one line and as one kind, exactly where it isn't accepted.
+/// No log is both accepted and rejected, and none is neither; what is rejected is so at one line
+/// and as one kind.
 pub fn rejected_exactly()
     ensures { (I : Network) (log : Log) → RejectedExactly I log }
 {}
