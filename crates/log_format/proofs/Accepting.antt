@@ -11,7 +11,8 @@ use Rattle.cut_packing.proofs.Duality.{proof_tree_bounds_lem}
 use Rattle.log_format.specs.declared.log.Claim.{Claim}
 use Rattle.log_format.specs.declared.log.Claim.TheVariants.{Found, NoTree}
 use Rattle.log_format.specs.declared.proof_line.ProofLine.{ProofLine}
-use Rattle.log_format.specs.Accepts.{all_trees, IsWall, AcceptsFound, AcceptsClaim, Holds, AcceptedHolds}
+use Rattle.st_model.specs.Wall.{IsWall}
+use Rattle.log_format.specs.Accepts.{all_trees, AcceptsFound, AcceptsClaim, Holds, AcceptedHolds}
 
 -- every tree belongs to the branch of all
 belongs : (t : Tree) → Belongs all_trees t

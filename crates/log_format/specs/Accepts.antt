@@ -1,11 +1,11 @@
 -- When a log is right of an instance, and what is wrong with it first where it isn't.
-use Rattle.std.specs.Prelude.{◌≡◌, ℕ, ◌+◌, ◌≤◌, ◌⊎◌, IsTrue, IsFalse, IsSome, List, [], ◌∷◌, length, All}
+use Rattle.std.specs.Prelude.{◌≡◌, ℕ, ◌+◌, ◌≤◌, ◌⊎◌, List, [], ◌∷◌, length}
 use Rattle.st_model.specs.declared.branch.Branch.{Branch}
 use Rattle.st_model.specs.declared.tree.Tree.{Tree}
-use Rattle.st_model.specs.Lists.{has}
-use Rattle.st_model.specs.Network.{Network, IsVertex, link, is_required}
+use Rattle.st_model.specs.Network.{Network}
 use Rattle.st_model.specs.Arborescence.{IsTree, IsBound, IsBest, cost}
 use Rattle.st_model.specs.Branch.{with_inside, with_outside}
+use Rattle.st_model.specs.Wall.{IsWall}
 use Rattle.cut_packing.specs.Packing.{Fits, weight}
 use Rattle.cut_packing.specs.ProofTree.{ProofTree, IsSplit, Proves}
 use Rattle.log_format.specs.declared.kind.Kind.{Kind}
@@ -20,13 +20,6 @@ use Rattle.log_format.specs.Preorder.{preorder}
 -- the branch of all trees
 abbrev pub all_trees : Branch
 all_trees = record { inside = []; outside = [] }
-
--- vertices in range that no link leaves, with a required vertex inside and one outside
-pub record IsWall (I : Network) (wall : List ℕ) : Type 0 where
-  pub in_range : All (IsVertex I.n) wall
-  pub inside : (v : ℕ) × IsVertex I.n v × IsTrue (is_required I v) × IsTrue (has wall v)
-  pub outside : (v : ℕ) × IsVertex I.n v × IsTrue (is_required I v) × IsFalse (has wall v)
-  pub uncrossed : (u v : ℕ) → IsSome (link I.links u v) → has wall u ≡ has wall v
 
 -- the lines are a proof tree that proves x of all trees
 abbrev pub ProvesAll : Network → ℕ → List ProofLine → Type 0

@@ -9,13 +9,13 @@ use Rattle.st_model.specs.Lists.{has}
 use Rattle.st_model.specs.Network.{Network, IsVertex, is_required}
 use Rattle.st_model.specs.Arborescence.{IsTree, reached, cost}
 use Rattle.st_model.proofs.ThinGrowth.{has-reached_from}
-use Rattle.st_model.specs.Branch.{Belongs, is_certain}
+use Rattle.st_model.specs.Branch.{Belongs, LeavesRequired, is_certain}
 use Rattle.cut_packing.specs.declared.packing.Packing.{Packing}
 use Rattle.cut_packing.specs.Packing.{Fits, weight}
 use Rattle.cut_packing.proofs.Duality.{weak_duality_lem, certain_reached}
 use Rattle.level_packing.specs.Forest.{IsPresent}
 use Rattle.level_packing.specs.Spanning.{IsSpanning}
-use Rattle.split_search.specs.Open.{IsDecided, LeavesRequired}
+use Rattle.split_search.specs.Open.{IsDecided}
 
 -- a present vertex that isn't free is required or inside
 pub certain_where_decided : (I : Network) (B : Branch) → IsDecided I B → (v : ℕ) → IsPresent I B v → IsTrue (is_certain I B v)

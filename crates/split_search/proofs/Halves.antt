@@ -9,11 +9,11 @@ use Rattle.st_model.specs.declared.tree.Tree.{Tree}
 use Rattle.st_model.specs.Lists.{has}
 use Rattle.st_model.specs.Network.{Network, IsVertex, is_required}
 use Rattle.st_model.specs.Arborescence.{IsTree, reached}
-use Rattle.st_model.specs.Branch.{Belongs, is_undecided, with_inside, with_outside}
+use Rattle.st_model.specs.Branch.{Belongs, LeavesRequired, is_undecided, with_inside, with_outside}
 use Rattle.st_model.proofs.Sums.{total-append, sum_to_same, sum_to-add, sum_to_one}
 use Rattle.cut_packing.proofs.Members.{has-with_vertex}
 use Rattle.cut_packing.proofs.Duality.{belongs_inside, belongs_outside}
-use Rattle.split_search.specs.Open.{is_free, free_count, turns, turns_of, IsInOne, IsOpen, IsMatched, IsFound, LeavesRequired}
+use Rattle.split_search.specs.Open.{is_free, free_count, turns, turns_of, IsInOne, IsOpen, IsMatched, IsFound}
 
 in_one_left : (xs ys : List Branch) (t : Tree) → IsInOne xs t → IsInOne (xs ++ ys) t
 in_one_left [] ys t h = elim h [ ]

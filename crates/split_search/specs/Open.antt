@@ -5,7 +5,7 @@ use Rattle.st_model.specs.declared.tree.Tree.{Tree}
 use Rattle.st_model.specs.Lists.{has, total, sum_to}
 use Rattle.st_model.specs.Network.{Network, IsVertex, is_required}
 use Rattle.st_model.specs.Arborescence.{IsTree, cost}
-use Rattle.st_model.specs.Branch.{Belongs, is_undecided}
+use Rattle.st_model.specs.Branch.{Belongs, LeavesRequired, is_undecided}
 
 -- whether trees of the branch may reach v or not
 abbrev pub is_free : Network → Branch → ℕ → Bool
@@ -14,10 +14,6 @@ is_free I B v = is_undecided B v && not (is_required I v)
 -- each vertex from 1 to n is required, inside or outside
 abbrev pub IsDecided : Network → Branch → Type 0
 IsDecided I B = (v : ℕ) → IsVertex I.n v → IsFalse (is_free I B v)
-
--- no required vertex is outside
-abbrev pub LeavesRequired : Network → Branch → Type 0
-LeavesRequired I B = (v : ℕ) → IsTrue (has B.outside v) → IsFalse (is_required I v)
 
 -- how many vertices may still be split at
 abbrev pub free_count : Network → Branch → ℕ

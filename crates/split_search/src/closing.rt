@@ -1,8 +1,8 @@
 ghost use Rattle.std.specs.Prelude.{◌≡◌, ◌≤◌, ℕ, IfOk, IfSome, ◌⊎◌};
 ghost use Rattle.st_model.specs.declared.tree.Tree.{Tree};
 ghost use Rattle.st_model.specs.Arborescence.{IsTree, cost};
-ghost use Rattle.st_model.specs.Branch.{Belongs};
-ghost use Rattle.split_search.specs.Open.{IsDecided, IsFound, IsMatched, LeavesRequired};
+ghost use Rattle.st_model.specs.Branch.{Belongs, LeavesRequired};
+ghost use Rattle.split_search.specs.Open.{IsDecided, IsFound, IsMatched};
 
 use crate::deciding::has_present;
 use level_packing::{Leaf, close_all};

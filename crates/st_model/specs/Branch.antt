@@ -18,6 +18,10 @@ pub record IsBranch (I : Network) (B : Branch) : Type 0 where
   pub outside : IsVertexSet I.n B.outside
   pub apart : (v : ℕ) → IsTrue (has B.inside v) → IsFalse (has B.outside v)
 
+-- no required vertex is outside
+abbrev pub LeavesRequired : Network → Branch → Type 0
+LeavesRequired I B = (v : ℕ) → IsTrue (has B.outside v) → IsFalse (is_required I v)
+
 -- the tree reaches all of the inside and none of the outside
 pub record Belongs (B : Branch) (t : Tree) : Type 0 where
   pub inside : (v : ℕ) → IsTrue (has B.inside v) → IsTrue (has (reached t) v)

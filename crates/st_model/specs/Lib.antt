@@ -9,4 +9,5 @@ pub mod Made
 pub mod Growth
 pub mod Regrown
 pub mod VertexSet
+pub mod Wall
 pub mod Laws
