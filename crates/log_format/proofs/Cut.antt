@@ -1,16 +1,12 @@
 -- Where words and keywords end.
-use Rattle.std.proofs.Common.{◌≡◌, ◌≢◌, ℕ, suc, Bool, true, false, cond, not, eqb, ◌&&◌, inl, inr, List, [], ◌∷◌, ◌++◌, length, take, drop, Option, Some, None, option_map, refl, sym, ap, ◌∙◌, arith}
+use Rattle.std.proofs.Common.{◌≡◌, ◌≢◌, ℕ, suc, Bool, true, false, cond, not, eqb, inl, inr, List, [], ◌∷◌, ◌++◌, length, take, drop, Option, Some, None, option_map, refl, sym, ap, ◌∙◌, arith}
 use Rattle.std.specs.Prelude.{◌==◌, position, MatchOption, unwrap_or}
 use Rattle.std.proofs.lemmas.Bool.{eqb-true, eq-eqb, and_parts, and_from, not-true}
 use Rattle.std.proofs.lemmas.Bool.Decides.{nat_tests}
 use denote.Ref.{Bor}
 use Rattle.log_format.specs.Reading.{after, word_at}
-use Rattle.log_format.proofs.Steps.{chosen}
-
--- whether no byte is d
-abbrev pub lacks : ℕ → List ℕ → Bool
-lacks d [] = true
-lacks d (b ∷ bs) = not (eqb b d) && lacks d bs
+use Rattle.decimals.proofs.Steps.{chosen}
+use Rattle.decimals.proofs.Numerals.{lacks}
 
 -- two texts without d make one
 pub lacks-append : (d : ℕ) (xs ys : List ℕ) → lacks d xs ≡ true → lacks d ys ≡ true → lacks d (xs ++ ys) ≡ true

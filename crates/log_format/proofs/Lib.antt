@@ -1,6 +1,4 @@
-pub mod Steps
 pub mod Cut
-pub mod Numerals
 pub mod Preorders
 pub mod Loop
 pub mod LineLaws

@@ -10,10 +10,11 @@ use Rattle.std.proofs.lemmas.Option.{cond_some}
 use Rattle.std.proofs.lemmas.Slice.Eq.{bytes_eq-Decides}
 use Rattle.cut_packing.specs.declared.cut.Cut.{Cut}
 use Rattle.log_format.specs.Text.{spaced, words, cut_line}
-use Rattle.log_format.specs.Reading.{after, word_at, number, number_at, only, number_of, pair_of, set_at, counted_set_at, cut_head_of, cut_of, wall_of, most}
-use Rattle.log_format.proofs.Steps.{step_some}
+use Rattle.log_format.specs.Reading.{after, word_at, number_at, only, number_of, pair_of, set_at, counted_set_at, cut_head_of, cut_of, wall_of, most}
+use Rattle.decimals.specs.Numbers.{number}
+use Rattle.decimals.proofs.Steps.{step_some}
 use Rattle.log_format.proofs.Cut.{after_takes, after_again, begins_word, word_takes, word_again}
-use Rattle.log_format.proofs.Numerals.{decimal_lacks, number_takes, number_again}
+use Rattle.decimals.proofs.Numerals.{decimal_lacks, number_takes, number_again}
 
 -- a test finds x just where the line is the spelling of x and x fits
 pub record Judges {X : Type 0} (judge : List ℕ → Option X) (spell : X → List ℕ) (Fits : X → Type 0) : Type 0 where

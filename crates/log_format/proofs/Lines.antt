@@ -12,8 +12,8 @@ use Rattle.log_format.specs.declared.proof_line.ProofLine.TheVariants.{Split, Cl
 use Rattle.cut_packing.specs.declared.cut.Cut.{Cut}
 use Rattle.log_format.specs.Text.{ended, spaced, words, root_number, arc_line, cut_line, lines_of, claim_lines, log_lines, log_text, with_byte, cut_lines, whole_lines, unfinished, IsAnyVertex, IsWritableCut, IsWritableLine, IsClaimInRange, IsInLogRange}
 use Rattle.log_format.specs.Reading.{cut, most}
-use Rattle.log_format.proofs.Cut.{lacks, lacks-append, position-cons}
-use Rattle.log_format.proofs.Numerals.{decimal_lacks}
+use Rattle.log_format.proofs.Cut.{lacks-append, position-cons}
+use Rattle.decimals.proofs.Numerals.{lacks, decimal_lacks}
 use Rattle.log_format.proofs.Sets.{set_to}
 use Rattle.log_format.proofs.Runs.{root_in_range}
 use Rattle.st_model.specs.Network.{IsVertex}

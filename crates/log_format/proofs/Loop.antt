@@ -4,7 +4,8 @@ use Rattle.std.proofs.Common.{◌≡◌, ℕ, suc, length, true, false, ◌-◌,
 use Rattle.std.proofs.lemmas.List.{append-nil}
 use Rattle.log_format.specs.declared.fault.LineError.{LineError}
 use Rattle.log_format.specs.declared.fault.LineError.TheVariants.{BadLine, NoMemory}
-use Rattle.log_format.specs.Reading.{◌>>=◌, Fails, number_at, only, set_at}
+use Rattle.log_format.specs.Reading.{Fails, number_at, only, set_at}
+use Rattle.decimals.specs.Numbers.{◌>>=◌}
 
 -- what was read before, and what is still read
 abbrev pub with_front : List ℕ → Option (List ℕ) → Option (List ℕ)

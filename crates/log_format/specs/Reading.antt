@@ -1,8 +1,8 @@
 -- Reading a log line by line. Helpers' clauses cite this, and no public one.
-use Rattle.std.specs.Prelude.{◌≡◌, ℕ, zero, suc, ◌+◌, ◌-◌, ◌*◌, ◌≤◌, ◌&&◌, ◌||◌, ◌==◌, Bool, false, List, [], ◌∷◌, ◌++◌, length, Option, Some, None, Result, Ok, Err, option_map, option_and_then, nat_lt, nat_le, if◌then◌else◌, codes}
-use Rattle.std.specs.Char.{is_ascii_digit}
+use Rattle.std.specs.Prelude.{◌≡◌, ℕ, zero, suc, ◌+◌, ◌-◌, ◌≤◌, ◌==◌, List, [], ◌∷◌, ◌++◌, length, Option, Some, None, Result, Ok, Err, option_map, if◌then◌else◌, codes}
 use Rattle.std.specs.Str.{bytes_eq}
 use Rattle.cut_packing.specs.declared.cut.Cut.{Cut}
+use Rattle.decimals.specs.Numbers.{◌>>=◌, number}
 use Rattle.log_format.specs.declared.fault.LineError.{LineError}
 use Rattle.log_format.specs.declared.fault.LineError.TheVariants.{BadLine, NoMemory}
 use Rattle.log_format.specs.declared.log.Claim.TheVariants.{Found, NoTree}
@@ -13,10 +13,6 @@ use Rattle.log_format.specs.declared.stage.Proving.{Proving}
 use Rattle.log_format.specs.declared.stage.Stage.{Stage}
 use Rattle.log_format.specs.declared.stage.Stage.TheVariants.{AtHeader, AtClaim, AtTree, AtArcs, AtProof, AtHalf, AtCuts, AtWall, AtEnd, AtNothing}
 use Rattle.log_format.specs.Text.{header}
-
-infixl 10 ◌>>=◌
-abbrev pub ◌>>=◌ : {A B : Type 0} → Option A → (A → Option B) → Option B
-o >>= f = option_and_then f o
 
 -- What a function returned, seen by view, is what reading gives, unless memory ran out.
 abbrev pub Fails : {Y : Type 0} → LineError → Option Y → Type 0
@@ -42,21 +38,6 @@ after (k ∷ keyword) (b ∷ bytes) = if b == k then after keyword bytes else No
 abbrev pub word_at : List ℕ → List ℕ × List ℕ
 word_at [] = ([], [])
 word_at (b ∷ bs) = if b == 32 then ([], b ∷ bs) else (b ∷ (word_at bs).0, (word_at bs).1)
-
--- the number that has the digits of n and then these, if it is at most limit
-abbrev pub value_after : ℕ → ℕ → List ℕ → Option ℕ
-value_after limit n [] = Some n
-value_after limit n (c ∷ cs) = if is_ascii_digit c && nat_le (10 * n + (c - 48)) limit then value_after limit (10 * n + (c - 48)) cs else None
-
--- whether digits stand behind a first 0
-abbrev pub has_leading_zero : List ℕ → Bool
-has_leading_zero [] = false
-has_leading_zero (c ∷ []) = false
-has_leading_zero (c ∷ d ∷ cs) = c == 48
-
--- the number from low to high that is written as this word
-unfoldable pub number : ℕ → ℕ → List ℕ → Option ℕ
-number low high word = if (length word == 0) || has_leading_zero word then None else (value_after high 0 word >>= λ n. if nat_lt n low then None else Some n)
 
 -- a number from low to high behind a space, and what stands behind it
 unfoldable pub number_at : ℕ → ℕ → List ℕ → Option (ℕ × List ℕ)

@@ -11,7 +11,6 @@ mod kind;
 mod law;
 mod line;
 mod log;
-mod numbers;
 mod proof;
 mod proof_line;
 mod proving;

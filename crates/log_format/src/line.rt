@@ -2,8 +2,8 @@ ghost use Rattle.std.specs.Prelude.{◌≡◌, ◌+◌, ◌^◌, ◌≤◌, ◌<
 ghost use Rattle.log_format.specs.Reading.{Gives, after, word_at, number_at, only, number_of, pair_of, set_at, counted_set_at, cut_head_of, cut_of, wall_of};
 
 use crate::fault::LineError;
-use crate::numbers::number;
 use cut_packing::Cut;
+use decimals::number;
 use st_model::Listed;
 use std::alloc::Global;
 

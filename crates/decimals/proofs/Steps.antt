@@ -1,6 +1,6 @@
 -- What a step of reading that gave something says of its parts.
 use Rattle.std.proofs.Common.{◌≡◌, Bool, true, false, cond, ◌⊎◌, inl, inr, Option, Some, None, option_map, refl}
-use Rattle.log_format.specs.Reading.{◌>>=◌}
+use Rattle.decimals.specs.Numbers.{◌>>=◌}
 
 -- two steps gave y: the first gave an x, and the second y from it
 pub step_some : {A B : Type 0} (o : Option A) (f : A → Option B) (y : B) → (o >>= f) ≡ Some y → (x : A) × (o ≡ Some x) × (f x ≡ Some y)

@@ -1,6 +1,6 @@
 use Rattle.std.proofs.Common.{◌≡◌, ◌≤◌, drop}
-use Rattle.log_format.specs.Reading.{value_after}
-use Rattle.log_format.proofs.numbers.value_of.Given as goal
+use Rattle.decimals.specs.Numbers.{value_after}
+use Rattle.decimals.proofs.value_of.Given as goal
 
 abbrev pub invariant-loop-digit : goal.invariant-loop-digit
 invariant-loop-digit l = record {

@@ -1,5 +1,6 @@
 -- The word of a number is its decimal digits, and nothing else is read as it.
-use Rattle.std.proofs.Common.{◌≡◌, ℕ, zero, suc, ◌+◌, ◌-◌, ◌*◌, ◌^◌, ◌<◌, ◌≤◌, true, false, cond, eqb, ltb, leb, ◌&&◌, ◌||◌, inl, inr, List, [], ◌∷◌, length, get_or, Some, None, refl, sym, ap, ◌∙◌, arith, rules}
+use Rattle.std.specs.Prelude.{IfSome, IfNone}
+use Rattle.std.proofs.Common.{◌≡◌, ◌≢◌, subst, Option, ℕ, Bool, zero, suc, ◌+◌, ◌-◌, ◌*◌, ◌^◌, ◌<◌, ◌≤◌, true, false, not, cond, eqb, ltb, leb, ◌&&◌, ◌||◌, inl, inr, List, [], ◌∷◌, length, get_or, Some, None, refl, sym, ap, ◌∙◌, arith, rules}
 use Rattle.std.specs.Char.{is_ascii_digit}
 use Rattle.std.specs.Str.{all_ascii_digits}
 use Rattle.std.specs.Fmt.{decimal}
@@ -7,9 +8,13 @@ use Rattle.std.proofs.lemmas.Bool.{ltb-false, le-ltb, and_parts, or_parts}
 use Rattle.std.proofs.lemmas.Bool.Decides.{nat_tests}
 use Rattle.std.proofs.lemmas.Str.Parse.{IsNumeralModel, numerals_by_fold}
 use Rattle.std.proofs.lemmas.Fmt.{digits_decimal, digits_value-decimal, decimal-digits_value, decimal_nonempty, first_decimal, decimal_digit}
-use Rattle.log_format.specs.Reading.{◌>>=◌, value_after, has_leading_zero, number}
-use Rattle.log_format.proofs.Steps.{step_some, chosen, unless}
-use Rattle.log_format.proofs.Cut.{lacks}
+use Rattle.decimals.specs.Numbers.{◌>>=◌, value_after, has_leading_zero, number}
+use Rattle.decimals.proofs.Steps.{step_some, chosen, unless}
+
+-- d is none of the bytes
+abbrev pub lacks : ℕ → List ℕ → Bool
+lacks d [] = true
+lacks d (b ∷ bs) = not (eqb b d) && lacks d bs
 
 -- the number that digits write behind those of n
 abbrev read_on : ℕ → List ℕ → ℕ
@@ -107,3 +112,16 @@ number_again low high n lt fits =
     let read : value_after high 0 (decimal n) ≡ Some (read_on 0 (decimal n)) = value_again high 0 (decimal n) (digits_decimal own n small) (omega arith) in
     let above : ltb n low ≡ false = le-ltb n low (omega arith) in
     rw (some_digit, decimal_lead n small, read, value, above) refl
+
+-- what is read is the writing of a number
+pub found_decimal : (low high : ℕ) (word : List ℕ) (read : Option ℕ) → high < 2 ^ 64 → read ≡ number low high word → IfSome read (λ n. word ≡ decimal n)
+found_decimal low high word (Some n) lt e = (number_takes low high word n lt (sym e)).1
+found_decimal low high word None lt e = tt
+
+-- what isn't read is the writing of no number in range
+pub no_decimal : (low high : ℕ) (word : List ℕ) (read : Option ℕ) → high < 2 ^ 64 → read ≡ number low high word → IfNone read ((n : ℕ) → low ≤ n → n ≤ high → word ≢ decimal n)
+no_decimal low high word (Some n) lt e = tt
+no_decimal low high word None lt e = λ n above below same.
+    let again : number low high word ≡ Some n = subst (λ w. number low high w ≡ Some n) (sym same) (number_again low high n lt (above, below)) in
+    let bad : None ≡ Some n = e ∙ again in
+    absurd cc
