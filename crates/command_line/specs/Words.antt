@@ -1,0 +1,102 @@
+-- The words of the command line, behind the program's name, and the command that they mean.
+use Rattle.std.specs.Prelude.{ℕ, Bool, true, false, ◌==◌, List, [], ◌∷◌, codes, Option, Some, None, if◌then◌else◌}
+use Rattle.std.specs.Str.{bytes_eq}
+use Rattle.clap.specs.Walk.{Row, Rule, Text, first_of, is_empty}
+use Rattle.clap.specs.Simple.{App, new_app, new_rule, on_top, subcommand_of, with_rule, with_subcommand}
+use Rattle.clap.specs.Faults.{fault_of}
+use Rattle.clap.specs.declared.builder.action.ArgAction.TheVariants.{SetTrue}
+use Rattle.decimals.specs.Numbers.{◌>>=◌, number}
+
+-- ---- what may stand behind the program's name, for clap
+
+-- a word that has to stand in its place
+abbrev pub place : Text → Rule
+place id = record (new_rule id) { required = true }
+
+-- an option with a value behind it, at most once
+abbrev pub option : Text → Rule
+option name = record (new_rule name) { long = Some name }
+
+-- an option with no value, at most once
+abbrev pub flag : Text → Rule
+flag name = record (new_rule name) { long = Some name; action = Some SetTrue }
+
+-- `solve FILE [--workers W] [--nodes N] [--log NAME] [--plain]`
+abbrev pub solve_app : App
+solve_app = with_rule (with_rule (with_rule (with_rule (with_rule (new_app (codes "solve")) (place (codes "FILE"))) (option (codes "workers"))) (option (codes "nodes"))) (option (codes "log"))) (flag (codes "plain"))
+
+-- `check FILE LOG`
+abbrev pub check_app : App
+check_app = with_rule (with_rule (new_app (codes "check")) (place (codes "FILE"))) (place (codes "LOG"))
+
+-- one of them
+abbrev pub program : App
+program = with_subcommand (with_subcommand (on_top (λ s. record s { no_binary_name = true }) (new_app (codes "steiner"))) solve_app.top) check_app.top
+
+-- ---- what the words mean
+
+-- a file to be solved by so many workers and at most so many nodes; where a log is kept; and whether the graph is left as it is
+pub record SolveWords : Type 0 where
+  pub file : Text
+  pub workers : ℕ
+  pub nodes : ℕ
+  pub log_name : Option Text
+  pub plain : Bool
+
+-- a file, and a log that is to be checked
+pub record CheckWords : Type 0 where
+  pub file : Text
+  pub log_name : Text
+
+pub data Command : Type 0 where
+  solve : SolveWords → Command
+  check : CheckWords → Command
+
+-- a hyphen stands in front
+abbrev pub is_hyphened : Text → Bool
+is_hyphened [] = false
+is_hyphened (b ∷ bs) = b == 45
+
+-- a name is a word that is there and begins with no hyphen
+abbrev pub name_of : Option Text → Option Text
+name_of None = None
+name_of (Some text) = if is_hyphened text then None else Some text
+
+-- a name that may be missing
+abbrev pub optional_name_of : Option Text → Option (Option Text)
+optional_name_of None = Some None
+optional_name_of (Some text) = if is_hyphened text then None else Some (Some text)
+
+-- a number from low to high, with what stands for it where it is missing
+abbrev pub number_of : ℕ → ℕ → ℕ → Option Text → Option ℕ
+number_of missing low high None = Some missing
+number_of missing low high (Some text) = number low high text
+
+-- whether a flag was set
+abbrev pub is_set : Option Text → Bool
+is_set None = false
+is_set (Some text) = bytes_eq text (codes "true")
+
+-- what the words behind `solve` mean
+unfoldable pub solve_of : List Row → Option SolveWords
+solve_of rows = do
+  file ← name_of (first_of (codes "FILE") rows)
+  workers ← number_of 1 1 64 (first_of (codes "workers") rows)
+  nodes ← number_of 1000000 0 1000000 (first_of (codes "nodes") rows)
+  log ← optional_name_of (first_of (codes "log") rows)
+  Some (record { file = file; workers = workers; nodes = nodes; log_name = log; plain = is_set (first_of (codes "plain") rows) })
+
+-- what the words behind `check` mean
+unfoldable pub check_of : List Row → Option CheckWords
+check_of rows = do
+  file ← name_of (first_of (codes "FILE") rows)
+  log ← name_of (first_of (codes "LOG") rows)
+  Some (record { file = file; log_name = log })
+
+-- what a subcommand with these arguments means
+abbrev pub meant : Text × List Row → Option Command
+meant (name, rows) = if bytes_eq name (codes "solve") then (solve_of rows >>= λ words. Some (solve words)) else (if bytes_eq name (codes "check") then (check_of rows >>= λ words. Some (check words)) else None)
+
+-- what the words mean: clap takes them for the program, and the names and numbers are in form
+unfoldable pub command_of : List Text → Option Command
+command_of words = if is_empty (fault_of program words) then (subcommand_of program words >>= meant) else None

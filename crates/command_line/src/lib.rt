@@ -1,0 +1,17 @@
+//! The words of the command line.
+//!
+//! `read_words` gives the command that the words behind the program's name mean, and refuses them
+//! exactly where they mean none: the crate `clap` takes them for the program of the definition
+//! `program`, names begin with no hyphen, and numbers are decimal digits within their limits.
+//! Whatever else clap would answer, as a help text, is a refusal.
+#![tactic(auto)]
+
+mod cmd;
+mod meaning;
+mod parse;
+mod program;
+#[cfg(test)]
+mod tests;
+
+pub use cmd::{CheckWords, Cmd, SolveWords};
+pub use parse::{WordFault, read_words};
