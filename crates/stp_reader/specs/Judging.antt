@@ -1,12 +1,12 @@
 -- What a line says at its place: the place behind it, or the least reason why it may not stand there.
-use Rattle.std.specs.Prelude.{ℕ, ◌||◌, ◌&&◌, ◌==◌, not, Bool, true, false, if◌then◌else◌, List, [], ◌∷◌, ◌++◌, length, Option, Some, None, Result, Ok, Err}
+use Rattle.std.specs.Prelude.{ℕ, ◌&&◌, ◌==◌, not, Bool, false, if◌then◌else◌, List, [], ◌∷◌, ◌++◌, length, Option, Some, None, Result, Ok, Err}
 use Rattle.std.specs.List.{list_any}
 use Rattle.st_model.specs.declared.link.Link.{Link}
 use Rattle.st_model.specs.declared.need.Need.{Need}
 use Rattle.st_model.specs.declared.need.Need.TheVariants.{Required, Pays}
 use Rattle.st_model.specs.Network.{is_needed}
 use Rattle.stp_reader.specs.declared.keyword.Keyword.{Keyword}
-use Rattle.stp_reader.specs.declared.keyword.Keyword.TheVariants.{Section, Eof, End, Nodes, Edges, Edge, Arcs, Count, Terminal, Prize, Root, Other}
+use Rattle.stp_reader.specs.declared.keyword.Keyword.TheVariants.{Section, Eof, End, Nodes, Edges, Edge, Arcs, Count, Terminal, Prize, Root}
 use Rattle.stp_reader.specs.declared.keyword.SectionName.{SectionName}
 use Rattle.stp_reader.specs.declared.keyword.SectionName.TheVariants as name
 use Rattle.stp_reader.specs.declared.reason.Reason.{Reason}

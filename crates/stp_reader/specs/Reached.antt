@@ -1,11 +1,13 @@
 -- How the stages of the reader stand for places, and what holds of what was read. Helpers' clauses cite this, and no public one.
-use Rattle.std.specs.Prelude.{◌≡◌, ℕ, ◌≤◌, ◌<◌, List, [], ◌∷◌, length, All, Option, Result, Ok, Err}
+use Rattle.std.specs.Prelude.{◌≡◌, ℕ, ◌≤◌, ◌<◌, List, length, All, Result, Ok, Err}
 use Rattle.st_model.specs.declared.link.Link.{Link}
 use Rattle.st_model.specs.declared.need.Need.{Need}
 use Rattle.st_model.specs.Lists.{has}
 use Rattle.st_model.specs.Network.{IsVertex, prize}
 use Rattle.stp_reader.specs.declared.fault.LineError.{LineError}
 use Rattle.stp_reader.specs.declared.fault.LineError.TheVariants.{Refused, NoMemory}
+use Rattle.stp_reader.specs.declared.fault.ReadError.{ReadError}
+use Rattle.stp_reader.specs.declared.fault.ReadError.TheVariants.{Fault, NoMemory as NoMemoryToRead}
 use Rattle.stp_reader.specs.declared.reason.Reason.{Reason}
 use Rattle.stp_reader.specs.declared.stage.GraphPart.{GraphPart}
 use Rattle.stp_reader.specs.declared.stage.NeedsPart.{NeedsPart}
@@ -30,6 +32,11 @@ Fails NoMemory said = Unit {0}
 abbrev pub Gives : {X Y : Type 0} → (X → Y) → Result X LineError → Result Y Reason → Type 0
 Gives view (Ok x) said = said ≡ Ok (view x)
 Gives view (Err e) said = Fails e said
+
+-- why a file isn't read, if this was wrong at a line
+abbrev pub error_at : ℕ → LineError → ReadError
+error_at line (Refused r) = Fault (record { line = line; reason = r })
+error_at line NoMemory = NoMemoryToRead
 
 -- ---- the place that a stage stands for
 

@@ -1,5 +1,5 @@
 -- The numbers and names of what can be wrong with an STP file, and the lesser of two.
-use Rattle.std.specs.Prelude.{ℕ, List, Bool, Result, Ok, Err, nat_le, if◌then◌else◌, codes}
+use Rattle.std.specs.Prelude.{ℕ, List, Result, Ok, Err, nat_le, if◌then◌else◌, codes}
 use Rattle.stp_reader.specs.declared.reason.Reason.{Reason}
 use Rattle.stp_reader.specs.declared.reason.Reason.TheVariants.{NoHeader, BadLine, UnknownSection, RepeatedSection, GraphFirst, BadNumber, Fraction, OutOfRange, VertexRange, CountMismatch, RepeatedPrize, RootNotTerminal, Directed, Unclosed, NoGraph, NoTerminals, NoVertices}
 

@@ -1,6 +1,7 @@
 ghost use Rattle.std.specs.Prelude.{◌≡◌};
 ghost use Rattle.stp_reader.specs.declared.fault.ReadError.TheVariants.{NoMemory};
 ghost use Rattle.stp_reader.specs.declared.fault.LineError.TheVariants.{NoMemory as NoMemoryForLine, Refused};
+ghost use Rattle.stp_reader.specs.Reached.{error_at};
 
 use crate::Reason;
 use std::alloc::{AllocError, AllocFailed};
@@ -46,7 +47,9 @@ pub enum LineError {
 
 impl LineError {
     /// Why the file wasn't read, if this was wrong at a line.
-    pub fn at(self, line: u64) -> ReadError {
+    pub fn at(self, line: u64) -> ReadError
+        ensures { result ≡ error_at line self }
+    {
         match self {
             LineError::Refused(reason) => ReadError::Fault(StpFault { line, reason }),
             LineError::NoMemory => ReadError::NoMemory,

@@ -52,7 +52,12 @@ pub fn nodes_line(keyword: Keyword, args: &[u8]) -> Result<Stage, Reason>
 }
 
 /// Behind the second line of Graph.
-pub fn edges_line(alloc: Global, vertices: u32, keyword: Keyword, args: &[u8]) -> Result<Stage, Reason>
+pub fn edges_line(
+    alloc: Global,
+    vertices: u32,
+    keyword: Keyword,
+    args: &[u8],
+) -> Result<Stage, Reason>
     requires { IsCount vertices }
     ensures place { Says place_of result (edges_line vertices keyword (words args.now)) }
     ensures reached { IfOk result IsReached }
@@ -105,7 +110,12 @@ fn graph_end(graph: GraphPart, count: u64, args: &[u8]) -> Result<Stage, Reason>
 }
 
 /// Behind a further line of Graph.
-pub fn link_line(graph: GraphPart, count: u64, keyword: Keyword, args: &[u8]) -> Result<Stage, LineError>
+pub fn link_line(
+    graph: GraphPart,
+    count: u64,
+    keyword: Keyword,
+    args: &[u8],
+) -> Result<Stage, LineError>
     requires links { AreLinks graph.vertices graph.links.items }
     requires few { count ≤ 4000000 }
     ensures place { Gives place_of result (link_line graph.vertices count graph.links.items keyword (words args.now)) }

@@ -27,18 +27,21 @@ pub fn next_piece(bytes: &[u8]) -> Option<(&[u8], &[u8])>
     if bytes.is_empty() {
         return None;
     }
-    match cut_at(bytes, b'\n') {
-        Some(cut) => Some(cut),
-        None => Some((bytes, &bytes[bytes.len()..])),
-    }
+    let Some((piece, behind)) = cut_at(bytes, b'\n') else {
+        return Some((bytes, &bytes[..0]));
+    };
+    Some((piece, behind))
 }
 
 /// The line without the CR that ends it, if one does.
 pub fn without_cr(piece: &[u8]) -> &[u8]
     ensures { result.now ≡ without_cr piece.now }
 {
-    match piece {
-        [line @ .., b'\r'] => line,
-        _ => piece,
+    let Some(last) = piece.len().checked_sub(1) else {
+        return piece;
+    };
+    if piece[last] == b'\r' {
+        return &piece[..last];
     }
+    piece
 }

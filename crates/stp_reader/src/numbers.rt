@@ -93,10 +93,10 @@ pub fn vertex(word: &[u8], vertices: u32) -> Result<u32, Reason>
 fn parts(word: &[u8]) -> (&[u8], &[u8])
     ensures { (result.0.now, result.1.now) ≡ parts word.now }
 {
-    match cut_at(word, b'.') {
-        Some(parts) => parts,
-        None => (word, &word[word.len()..]),
-    }
+    let Some((whole, fraction)) = cut_at(word, b'.') else {
+        return (word, &word[..0]);
+    };
+    (whole, fraction)
 }
 
 /// The cost or prize that a word says.

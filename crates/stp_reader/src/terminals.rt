@@ -31,7 +31,12 @@ fn root_of(vertices: u32, root: Option<u32>, args: &[u8]) -> Result<u32, Reason>
 }
 
 // Behind the line that says how many terminals there are.
-fn with_count(alloc: Global, graph: GraphPart, root: Option<u32>, args: &[u8]) -> Result<Stage, LineError>
+fn with_count(
+    alloc: Global,
+    graph: GraphPart,
+    root: Option<u32>,
+    args: &[u8],
+) -> Result<Stage, LineError>
     requires { IsGraph graph.vertices graph.links.items }
     ensures place { Gives place_of result (count_line (graph_of graph) root Count (words args.now)) }
     ensures reached { IfOk result IsReached }
