@@ -22,6 +22,8 @@ mod read;
 mod reason;
 mod stage;
 mod terminals;
+#[cfg(test)]
+mod tests;
 mod words;
 
 pub use fault::{ReadError, StpFault};
