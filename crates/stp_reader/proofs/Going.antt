@@ -1,13 +1,12 @@
 -- What reading one line after the other tells of all of them.
 use Rattle.std.proofs.Common.{◌≡◌, ℕ, suc, ◌+◌, List, [], ◌∷◌, map, Result, Ok, Err, refl, sym, ap, ◌∙◌, add-one}
 use Rattle.stp_reader.specs.declared.fault.LineError.{LineError}
-use Rattle.stp_reader.specs.declared.fault.LineError.TheVariants.{Refused as RefusedLine, NoMemory}
+use Rattle.stp_reader.specs.declared.fault.LineError.TheVariants.{Refused, NoMemory}
 use Rattle.stp_reader.specs.declared.reason.Reason.{Reason}
 use Rattle.stp_reader.specs.Lines.{pieces, words, without_cr, word_lines}
 use Rattle.stp_reader.specs.Place.{File, Place}
-use Rattle.stp_reader.specs.Judging.{judge, at_end}
-use Rattle.stp_reader.specs.Reads.{at_line, stated_from, stated, IsRefusedBy}
-use Rattle.stp_reader.specs.Reached.{Fails, error_at}
+use Rattle.stp_reader.specs.Judging.{judge, at_end, at_line, stated_from}
+use Rattle.stp_reader.specs.Reached.{Fails, error_at, IsFaultOf}
 
 -- the lines behind the first
 lines_behind : (rest piece others : List ℕ) → pieces rest ≡ piece ∷ pieces others → word_lines rest ≡ words (without_cr piece) ∷ word_lines others
@@ -22,10 +21,10 @@ goes_on number place behind rest piece others all e judged so_far =
     rw add-one (sym one ∙ so_far)
 
 -- a line was refused, or memory ran out
-pub is_refused : (bytes : List ℕ) (number : ℕ) (place : Place) (rest piece others : List ℕ) (e : LineError) → pieces rest ≡ piece ∷ pieces others → Fails e (judge place (words (without_cr piece)))
-    → stated_from number place (word_lines rest) ≡ stated bytes → IsRefusedBy bytes (error_at number e)
-is_refused bytes number place rest piece others NoMemory e failed so_far = tt
-is_refused bytes number place rest piece others (RefusedLine r) e failed so_far =
+pub is_refused : (number : ℕ) (place : Place) (rest piece others : List ℕ) (e : LineError) (all : Result File (ℕ × Reason)) → pieces rest ≡ piece ∷ pieces others → Fails e (judge place (words (without_cr piece)))
+    → stated_from number place (word_lines rest) ≡ all → IsFaultOf all (error_at number e)
+is_refused number place rest piece others NoMemory all e failed so_far = tt
+is_refused number place rest piece others (Refused r) all e failed so_far =
     let lines = lines_behind rest piece others e in
     let one : stated_from number place (word_lines rest) ≡ Err (number, r) = rw (lines, failed) refl in
     sym so_far ∙ one

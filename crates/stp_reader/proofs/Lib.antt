@@ -1,8 +1,11 @@
-pub mod Steps
 pub mod Cut
 pub mod Pieces
 pub mod Blanks
 pub mod Values
-pub mod OneAnswer
 pub mod Going
 pub mod Totals
+pub mod Least
+pub mod WordReasons
+pub mod Agreeing
+pub mod Whole
+pub mod OneAnswer

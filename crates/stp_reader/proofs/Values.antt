@@ -2,7 +2,8 @@
 use Rattle.std.proofs.Common.{◌≡◌, ℕ, suc, drop, get_or, length, sym, ◌∙◌, ◌+◌, ◌-◌, ◌*◌, ◌<◌, ◌≤◌, leb, false, List, [], ◌∷◌, Err, refl, arith}
 use Rattle.std.proofs.Math.Seq.{drop-cons}
 use Rattle.std.proofs.lemmas.Bool.Decides.{nat_tests}
-use Rattle.stp_reader.specs.Amounts.{value_after, value, within}
+use Rattle.stp_reader.specs.Amounts.{value_after, value}
+use Rattle.stp_reader.specs.Judged.{within}
 use Rattle.stp_reader.specs.declared.reason.Reason.TheVariants.{OutOfRange}
 
 -- more digits make no less

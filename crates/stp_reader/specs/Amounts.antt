@@ -1,10 +1,10 @@
--- What a word says as a count, a vertex or an amount, or the least reason why it says none.
-use Rattle.std.specs.Prelude.{ℕ, ◌+◌, ◌-◌, ◌*◌, ◌&&◌, ◌==◌, not, Bool, if◌then◌else◌, List, [], ◌∷◌, length, Option, Some, None, option_map, unwrap_or, Result, Ok, Err, nat_le}
+-- What a word says as a count, a vertex or an amount, and the reasons why it says none.
+use Rattle.std.specs.Prelude.{ℕ, ◌+◌, ◌-◌, ◌*◌, ◌&&◌, ◌==◌, not, Bool, if◌then◌else◌, List, [], ◌∷◌, ◌++◌, length, Option, Some, None, option_map, unwrap_or, nat_le}
 use Rattle.std.specs.List.{list_all}
 use Rattle.std.specs.Char.{is_ascii_digit}
 use Rattle.stp_reader.specs.declared.reason.Reason.{Reason}
 use Rattle.stp_reader.specs.declared.reason.Reason.TheVariants.{BadNumber, Fraction, OutOfRange, VertexRange, NoVertices}
-use Rattle.stp_reader.specs.Reason.{◌>>=◌}
+use Rattle.stp_reader.specs.Reason.{when}
 
 -- one or more decimal digits
 abbrev pub is_number : List ℕ → Bool
@@ -19,21 +19,17 @@ value_after n (c ∷ cs) = value_after (10 * n + (c - 48)) cs
 abbrev pub value : List ℕ → ℕ
 value word = value_after 0 word
 
--- a number with this value is at most the limit
-abbrev pub within : ℕ → ℕ → Result ℕ Reason
-within limit n = if nat_le n limit then Ok n else Err OutOfRange
+-- why a word is no count up to a limit
+abbrev pub count_reasons : ℕ → List ℕ → List Reason
+count_reasons limit word = if is_number word then when (not (nat_le (value word) limit)) OutOfRange else BadNumber ∷ []
 
--- a count that is at most the limit
-unfoldable pub count : ℕ → List ℕ → Result ℕ Reason
-count limit word = if is_number word then within limit (value word) else Err BadNumber
+-- why a word is no number of vertices
+abbrev pub nodes_reasons : List ℕ → List Reason
+nodes_reasons word = count_reasons 1000000 word ++ when (is_number word && (value word == 0)) NoVertices
 
--- a number of vertices
-unfoldable pub nodes : List ℕ → Result ℕ Reason
-nodes word = count 1000000 word >>= λ n. if n == 0 then Err NoVertices else Ok n
-
--- a vertex from 1 to n
-unfoldable pub vertex : ℕ → List ℕ → Result ℕ Reason
-vertex n word = if is_number word then (if nat_le 1 (value word) && nat_le (value word) n then Ok (value word) else Err VertexRange) else Err BadNumber
+-- why a word is no vertex from 1 to n
+abbrev pub vertex_reasons : ℕ → List ℕ → List Reason
+vertex_reasons n word = if is_number word then when (not (nat_le 1 (value word) && nat_le (value word) n)) VertexRange else BadNumber ∷ []
 
 -- what stands before the first byte d, and what stands behind it
 abbrev pub cut : ℕ → List ℕ → Option (List ℕ × List ℕ)
@@ -44,9 +40,16 @@ cut d (b ∷ bs) = if b == d then Some ([], bs) else option_map (λ x. (b ∷ x.
 abbrev pub parts : List ℕ → List ℕ × List ℕ
 parts word = unwrap_or (cut 46 word) (word, [])
 
--- a cost or a prize: digits, and then a point with no more than zeros behind it, if there is one
-unfoldable pub amount : List ℕ → Result ℕ Reason
-amount word =
-    if is_number (parts word).0 && list_all is_ascii_digit (parts word).1
-    then (if list_all (λ c. c == 48) (parts word).1 then within 1000000000000 (value (parts word).0) else Err Fraction)
-    else Err BadNumber
+-- digits, and then, if there is a point, any number of digits behind it
+abbrev pub is_amount : List ℕ → Bool
+is_amount word = is_number (parts word).0 && list_all is_ascii_digit (parts word).1
+
+-- the cost or prize that a word says
+abbrev pub amount_value : List ℕ → ℕ
+amount_value word = value (parts word).0
+
+-- why a word is no cost or prize
+abbrev pub amount_reasons : List ℕ → List Reason
+amount_reasons word = if is_amount word
+    then when (not (list_all (λ c. c == 48) (parts word).1)) Fraction ++ when (not (nat_le (amount_value word) 1000000000000)) OutOfRange
+    else BadNumber ∷ []

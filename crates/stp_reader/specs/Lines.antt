@@ -1,5 +1,5 @@
 -- The lines of a text, and the words of a line.
-use Rattle.std.specs.Prelude.{ℕ, ◌||◌, ◌==◌, Bool, false, if◌then◌else◌, List, [], ◌∷◌, map}
+use Rattle.std.specs.Prelude.{ℕ, ◌||◌, ◌==◌, Bool, true, false, if◌then◌else◌, List, [], ◌∷◌, map}
 
 -- one more byte in front of the first of some pieces
 abbrev pub with_byte : ℕ → List (List ℕ) → List (List ℕ)
@@ -31,7 +31,12 @@ words (b ∷ c ∷ bytes) = if is_blank b then words (c ∷ bytes) else (if is_b
 abbrev pub word_lines : List ℕ → List (List (List ℕ))
 word_lines bytes = map (λ piece. words (without_cr piece)) (pieces bytes)
 
--- whether a word begins with #: then its line is a remark, if the word is the first
+-- whether a word begins with #
 abbrev pub is_remark : List ℕ → Bool
 is_remark [] = false
 is_remark (b ∷ bytes) = b == 35
+
+-- whether a line is skipped wherever it stands: it has no words, or its first begins with #
+abbrev pub is_skipped : List (List ℕ) → Bool
+is_skipped [] = true
+is_skipped (word ∷ args) = is_remark word

@@ -8,6 +8,8 @@ use Rattle.stp_reader.specs.declared.fault.LineError.{LineError}
 use Rattle.stp_reader.specs.declared.fault.LineError.TheVariants.{Refused, NoMemory}
 use Rattle.stp_reader.specs.declared.fault.ReadError.{ReadError}
 use Rattle.stp_reader.specs.declared.fault.ReadError.TheVariants.{Fault, NoMemory as NoMemoryToRead}
+use Rattle.stp_reader.specs.declared.form.Form.{Form as FormRead}
+use Rattle.stp_reader.specs.declared.form.Form.TheVariants.{Section, Nameless, Eof, End, Nodes, Edges, Edge, Arcs, Count, Terminal, Prize, Root, Other}
 use Rattle.stp_reader.specs.declared.reason.Reason.{Reason}
 use Rattle.stp_reader.specs.declared.stage.GraphPart.{GraphPart}
 use Rattle.stp_reader.specs.declared.stage.NeedsPart.{NeedsPart}
@@ -16,8 +18,9 @@ use Rattle.stp_reader.specs.declared.stage.Ended.{Ended}
 use Rattle.stp_reader.specs.declared.stage.Ended.TheVariants.{Nothing, OneGraph, Whole}
 use Rattle.stp_reader.specs.declared.stage.Stage.{Stage}
 use Rattle.stp_reader.specs.declared.stage.Stage.TheVariants.{AtHeader, Outside, PassedOver, AtNodes, AtEdges, AtLinks, AtCount, AtNeeds, BehindEnd}
+use Rattle.stp_reader.specs.Forms.{Form, section_line, nameless_line, eof_line, end_line, nodes_line, edges_line, edge_line, arcs_line, count_line, terminal_line, prize_line, root_line, other_line}
 use Rattle.stp_reader.specs.Place.{Graph, File, Stated, nothing, graph, whole, Place, at_header, outside, passed_over, at_nodes, at_edges, at_links, at_count, at_needs, behind_end}
-use Rattle.stp_reader.specs.Judging.{has_prize}
+use Rattle.stp_reader.specs.Reasons.{has_prize}
 
 -- what a function returned, seen by view, is what is said
 abbrev pub Says : {X Y : Type 0} → (X → Y) → Result X Reason → Result Y Reason → Type 0
@@ -37,6 +40,27 @@ Gives view (Err e) said = Fails e said
 abbrev pub error_at : ℕ → LineError → ReadError
 error_at line (Refused r) = Fault (record { line = line; reason = r })
 error_at line NoMemory = NoMemoryToRead
+
+-- the fault is the one that is said, where it isn't memory
+abbrev pub IsFaultOf : {A : Type 0} → Result A (ℕ × Reason) → ReadError → Type 0
+IsFaultOf said (Fault f) = said ≡ Err (f.line, f.reason)
+IsFaultOf said NoMemoryToRead = Unit {0}
+
+-- the form that a line was found to have
+abbrev pub form_seen : FormRead → Form
+form_seen (Section name) = section_line name.now
+form_seen Nameless = nameless_line
+form_seen Eof = eof_line
+form_seen End = end_line
+form_seen (Nodes n) = nodes_line n.now
+form_seen (Edges m) = edges_line m.now
+form_seen (Edge u v c) = edge_line u.now v.now c.now
+form_seen Arcs = arcs_line
+form_seen (Count t) = count_line t.now
+form_seen (Terminal v) = terminal_line v.now
+form_seen (Prize v p) = prize_line v.now p.now
+form_seen (Root r) = root_line r.now
+form_seen Other = other_line
 
 -- ---- the place that a stage stands for
 

@@ -1,40 +1,54 @@
 -- The instance that a text stands for, and why a text stands for none.
-use Rattle.std.specs.Prelude.{◌≡◌, ℕ, suc, List, [], ◌∷◌, Result, Ok, Err}
+use Rattle.std.specs.Prelude.{◌≡◌, ℕ, ◌+◌, ◌⊎◌, List, [], ◌∷◌, ◌++◌, length, Option, Some, None}
 use Rattle.st_model.specs.Network.{Network}
 use Rattle.st_model.specs.Stated.{network_of}
 use Rattle.stp_reader.specs.declared.reason.Reason.{Reason}
 use Rattle.stp_reader.specs.declared.fault.ReadError.{ReadError}
 use Rattle.stp_reader.specs.declared.fault.ReadError.TheVariants.{Fault, NoMemory}
+use Rattle.stp_reader.specs.Reason.{least}
 use Rattle.stp_reader.specs.Lines.{word_lines}
-use Rattle.stp_reader.specs.Place.{File, Place, at_header}
-use Rattle.stp_reader.specs.Judging.{judge, at_end}
+use Rattle.stp_reader.specs.Place.{File, whole, Place, at_header, outside, behind_end, behind, behind_all}
+use Rattle.stp_reader.specs.Reasons.{reasons, end_reasons}
 
--- what is said, or the line at which it is refused, and why
-abbrev pub at_line : {A : Type 0} → ℕ → Result A Reason → Result A (ℕ × Reason)
-at_line line (Ok x) = Ok x
-at_line line (Err r) = Err (line, r)
+-- no line of these has a reason, the first of them standing at this place
+abbrev pub AllRight : Place → List (List (List ℕ)) → Type 0
+AllRight place [] = Unit {0}
+AllRight place (line ∷ lines) = (reasons place line ≡ []) × AllRight (behind place line) lines
 
--- goes on with what was said, if nothing was refused
-abbrev pub then_on : {A B : Type 0} → Result A (ℕ × Reason) → (A → Result B (ℕ × Reason)) → Result B (ℕ × Reason)
-then_on (Ok x) f = f x
-then_on (Err fault) f = Err fault
+-- what a whole file states, at the place behind it
+abbrev pub file_at : Place → Option File
+file_at (outside (whole f)) = Some f
+file_at (behind_end f) = Some f
+file_at _ = None
 
--- what these lines state from this place on, the first of them being line `number`; or the first of them that has a reason, and the least of its reasons
-abbrev pub stated_from : ℕ → Place → List (List (List ℕ)) → Result File (ℕ × Reason)
-stated_from number place [] = at_line number (at_end place)
-stated_from number place (line ∷ lines) = then_on (at_line number (judge place line)) (λ behind. stated_from (suc number) behind lines)
-
--- what all lines of a text state
-unfoldable pub stated : List ℕ → Result File (ℕ × Reason)
-stated bytes = stated_from 1 at_header (word_lines bytes)
+-- no line has a reason, and the text ends where all is stated: this
+pub record IsRead (lines : List (List (List ℕ))) (f : File) : Type 0 where
+  pub right : AllRight at_header lines
+  pub file : file_at (behind_all at_header lines) ≡ Some f
 
 -- the bytes are the text of this instance
 abbrev pub Reads : List ℕ → Network → Type 0
-Reads bytes I = (f : File) × (stated bytes ≡ Ok f) × (I ≡ network_of f.n f.links f.needs)
+Reads bytes I = (f : File) × IsRead (word_lines bytes) f × (I ≡ network_of f.n f.links f.needs)
 
--- the bytes are the text of no instance: this is the first line with a reason, and this the least of its reasons
+-- a line is the first that has a reason, and this is the least of its reasons; lines are numbered from 1
+pub record IsFirstBad (lines : List (List (List ℕ))) (line : ℕ) (reason : Reason) : Type 0 where
+  pub before : List (List (List ℕ))
+  pub bad : List (List ℕ)
+  pub others : List (List (List ℕ))
+  pub split : lines ≡ before ++ bad ∷ others
+  pub number : line ≡ length before + 1
+  pub right : AllRight at_header before
+  pub why : least (reasons (behind_all at_header before) bad) ≡ Some reason
+
+-- no line has a reason, but the text may not end behind the last, and this is the least reason for that; it counts as one line more
+pub record IsBadEnd (lines : List (List (List ℕ))) (line : ℕ) (reason : Reason) : Type 0 where
+  pub number : line ≡ length lines + 1
+  pub right : AllRight at_header lines
+  pub why : least (end_reasons (behind_all at_header lines)) ≡ Some reason
+
+-- the bytes are the text of no instance: the first line with a reason, and the least of its reasons
 abbrev pub Refused : List ℕ → ℕ → Reason → Type 0
-Refused bytes line reason = stated bytes ≡ Err (line, reason)
+Refused bytes line reason = IsFirstBad (word_lines bytes) line reason ⊎ IsBadEnd (word_lines bytes) line reason
 
 -- what was answered is that fault, where it isn't memory
 abbrev pub IsRefusedBy : List ℕ → ReadError → Type 0

@@ -1,5 +1,5 @@
--- The numbers and names of what can be wrong with an STP file, and the lesser of two.
-use Rattle.std.specs.Prelude.{ℕ, List, Result, Ok, Err, nat_le, if◌then◌else◌, codes}
+-- The numbers and names of what can be wrong with a line of an STP file, and the least of several.
+use Rattle.std.specs.Prelude.{ℕ, Bool, List, [], ◌∷◌, Option, Some, None, nat_le, if◌then◌else◌, codes}
 use Rattle.stp_reader.specs.declared.reason.Reason.{Reason}
 use Rattle.stp_reader.specs.declared.reason.Reason.TheVariants.{NoHeader, BadLine, UnknownSection, RepeatedSection, GraphFirst, BadNumber, Fraction, OutOfRange, VertexRange, CountMismatch, RepeatedPrize, RootNotTerminal, Directed, Unclosed, NoGraph, NoTerminals, NoVertices}
 
@@ -45,15 +45,17 @@ name_of NoVertices = codes "NoVertices"
 abbrev pub lesser : Reason → Reason → Reason
 lesser r q = if nat_le (code_of r) (code_of q) then r else q
 
--- what is said, and what is said next of it; a reason of the first ends it
-infixl 10 ◌>>=◌
-abbrev pub ◌>>=◌ : {A B : Type 0} → Result A Reason → (A → Result B Reason) → Result B Reason
-Ok x >>= f = f x
-Err r >>= f = Err r
+-- the least reason of either, if there is one
+abbrev pub lesser_of : Option Reason → Option Reason → Option Reason
+lesser_of None o = o
+lesser_of (Some r) None = Some r
+lesser_of (Some r) (Some q) = Some (lesser r q)
 
--- what two parts of a line say, or the least of their reasons
-abbrev pub both : {A B : Type 0} → Result A Reason → Result B Reason → Result (A × B) Reason
-both (Ok x) (Ok y) = Ok (x, y)
-both (Ok x) (Err q) = Err q
-both (Err r) (Ok y) = Err r
-both (Err r) (Err q) = Err (lesser r q)
+-- the least of some reasons, if there are any
+abbrev pub least : List Reason → Option Reason
+least [] = None
+least (r ∷ rs) = lesser_of (Some r) (least rs)
+
+-- this reason, where the test is true
+abbrev pub when : Bool → Reason → List Reason
+when test r = if test then r ∷ [] else []

@@ -1,12 +1,10 @@
--- Which keyword or section name a word is, in capitals or not, and how many words stand behind a keyword.
-use Rattle.std.specs.Prelude.{ℕ, ◌||◌, Bool, if◌then◌else◌, List, [], ◌∷◌, Result, Ok, Err, codes}
+-- Which keyword or section name a word is, in capitals or not.
+use Rattle.std.specs.Prelude.{ℕ, ◌||◌, Bool, if◌then◌else◌, List, codes}
 use Rattle.std.specs.Str.{str_eq_ignore_ascii_case}
 use Rattle.stp_reader.specs.declared.keyword.Keyword.{Keyword}
 use Rattle.stp_reader.specs.declared.keyword.Keyword.TheVariants.{Section, Eof, End, Nodes, Edges, Edge, Arcs, Count, Terminal, Prize, Root, Other}
 use Rattle.stp_reader.specs.declared.keyword.SectionName.{SectionName}
 use Rattle.stp_reader.specs.declared.keyword.SectionName.TheVariants.{Graph, Terminals, Passed, Unknown}
-use Rattle.stp_reader.specs.declared.reason.Reason.{Reason}
-use Rattle.stp_reader.specs.declared.reason.Reason.TheVariants.{BadLine}
 
 -- the words are equal, or differ in capitals alone
 abbrev pub is_word : List ℕ → List ℕ → Bool
@@ -43,20 +41,3 @@ section_of name =
     if is_word name (codes "Terminals") then Terminals else
     if is_passed_over name then Passed else
     Unknown
-
--- the words behind a keyword, where there are so many
-abbrev pub none : List (List ℕ) → Result (List (List ℕ)) Reason
-none [] = Ok []
-none _ = Err BadLine
-
-abbrev pub one : List (List ℕ) → Result (List ℕ) Reason
-one (u ∷ []) = Ok u
-one _ = Err BadLine
-
-abbrev pub two : List (List ℕ) → Result (List ℕ × List ℕ) Reason
-two (u ∷ v ∷ []) = Ok (u, v)
-two _ = Err BadLine
-
-abbrev pub three : List (List ℕ) → Result (List ℕ × List ℕ × List ℕ) Reason
-three (u ∷ v ∷ w ∷ []) = Ok (u, v, w)
-three _ = Err BadLine

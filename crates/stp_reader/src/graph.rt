@@ -1,74 +1,64 @@
 ghost use Rattle.std.specs.Prelude.{◌≡◌, ◌≤◌, IfOk};
-ghost use Rattle.stp_reader.specs.declared.keyword.Keyword.TheVariants.{Edge, End};
-ghost use Rattle.stp_reader.specs.Lines.{words};
-ghost use Rattle.stp_reader.specs.Judging.{misplaced, misplaced_in_graph, nodes_line, edges_line, link_of, link_line};
-ghost use Rattle.stp_reader.specs.Reached.{Says, Gives, place_of, IsStatedLink, IsCount, AreLinks, IsReached};
+ghost use Rattle.stp_reader.specs.Forms.{edge_line, end_line};
+ghost use Rattle.stp_reader.specs.Judging.{reason_in_section, reason_in_graph, judge_nodes, judge_edges, link_of, judge_link};
+ghost use Rattle.stp_reader.specs.Reached.{Says, Gives, form_seen, place_of, IsStatedLink, IsCount, AreLinks, IsReached};
 
 use crate::Reason;
 use crate::fault::LineError;
-use crate::keyword::Keyword;
+use crate::form::Form;
 use crate::numbers::{amount, count, nodes, vertex};
 use crate::reason::both;
 use crate::stage::{Ended, GraphPart, Stage};
-use crate::words::{none, one, three};
 use st_model::Link;
 use std::alloc::Global;
 
+/// The greatest number of links that a file may state.
 const MAX_LINKS: u64 = 4_000_000;
 
 /// What is wrong with a line that may not stand at its place in a section.
-pub fn misplaced(keyword: Keyword, args: &[u8]) -> Reason
-    ensures { result ≡ misplaced keyword (words args.now) }
+pub fn misplaced(form: Form) -> Reason
+    ensures { result ≡ reason_in_section (form_seen form.entry) }
 {
-    match keyword {
-        Keyword::Section => Reason::Unclosed,
-        Keyword::Eof if none(args).is_ok() => Reason::Unclosed,
+    match form {
+        Form::Section(_) | Form::Nameless | Form::Eof => Reason::Unclosed,
         _ => Reason::BadLine,
     }
 }
 
 // What is wrong with a line that may not stand at its place in Graph.
-fn misplaced_in_graph(keyword: Keyword, args: &[u8]) -> Reason
-    ensures { result ≡ misplaced_in_graph keyword (words args.now) }
+fn misplaced_in_graph(form: Form) -> Reason
+    ensures { result ≡ reason_in_graph (form_seen form.entry) }
 {
-    match keyword {
-        Keyword::Arcs => Reason::Directed,
-        _ => misplaced(keyword, args),
+    match form {
+        Form::Arcs => Reason::Directed,
+        _ => misplaced(form),
     }
 }
 
 /// Behind the first line of Graph.
-pub fn nodes_line(keyword: Keyword, args: &[u8]) -> Result<Stage, Reason>
-    ensures place { Says place_of result (nodes_line keyword (words args.now)) }
+pub fn nodes_line(form: Form) -> Result<Stage, Reason>
+    ensures place { Says place_of result (judge_nodes (form_seen form.entry)) }
     ensures reached { IfOk result IsReached }
 {
-    match keyword {
-        Keyword::Nodes => {
-            let vertices = nodes(one(args)?)?;
-            Ok(Stage::AtEdges(vertices))
-        }
-        _ => Err(misplaced_in_graph(keyword, args)),
+    match form {
+        Form::Nodes(word) => Ok(Stage::AtEdges(nodes(word)?)),
+        _ => Err(misplaced_in_graph(form)),
     }
 }
 
 /// Behind the second line of Graph.
-pub fn edges_line(
-    alloc: Global,
-    vertices: u32,
-    keyword: Keyword,
-    args: &[u8],
-) -> Result<Stage, Reason>
+pub fn edges_line(alloc: Global, vertices: u32, form: Form) -> Result<Stage, Reason>
     requires { IsCount vertices }
-    ensures place { Says place_of result (edges_line vertices keyword (words args.now)) }
+    ensures place { Says place_of result (judge_edges vertices (form_seen form.entry)) }
     ensures reached { IfOk result IsReached }
 {
-    match keyword {
-        Keyword::Edges => {
-            let count = count(one(args)?, MAX_LINKS)?;
+    match form {
+        Form::Edges(word) => {
+            let count = count(word, MAX_LINKS)?;
             let links = Vec::new(alloc);
             Ok(Stage::AtLinks(GraphPart { vertices, links }, count))
         }
-        _ => Err(misplaced_in_graph(keyword, args)),
+        _ => Err(misplaced_in_graph(form)),
     }
 }
 
@@ -83,26 +73,32 @@ fn link_of(vertices: u32, first: &[u8], second: &[u8], cost: &[u8]) -> Result<Li
 }
 
 // The graph with the link of one more line.
-fn with_link(mut graph: GraphPart, count: u64, args: &[u8]) -> Result<Stage, LineError>
+fn with_link(
+    mut graph: GraphPart,
+    count: u64,
+    first: &[u8],
+    second: &[u8],
+    cost: &[u8],
+) -> Result<Stage, LineError>
     requires links { AreLinks graph.vertices graph.links.items }
     requires few { count ≤ 4000000 }
-    ensures place { Gives place_of result (link_line graph.vertices count graph.links.items Edge (words args.now)) }
+    ensures place { Gives place_of result
+        (judge_link graph.vertices count graph.links.items (edge_line first.now second.now cost.now)) }
     ensures reached { IfOk result IsReached }
 {
-    let (first, second, cost) = three(args)?;
     let link = link_of(graph.vertices, first, second, cost)?;
     graph.links.push(link)?;
     Ok(Stage::AtLinks(graph, count))
 }
 
 // Behind the END of Graph.
-fn graph_end(graph: GraphPart, count: u64, args: &[u8]) -> Result<Stage, Reason>
+fn graph_end(graph: GraphPart, count: u64) -> Result<Stage, Reason>
     requires links { AreLinks graph.vertices graph.links.items }
     requires few { count ≤ 4000000 }
-    ensures place { Says place_of result (link_line graph.vertices count graph.links.items End (words args.now)) }
+    ensures place { Says place_of result
+        (judge_link graph.vertices count graph.links.items end_line) }
     ensures reached { IfOk result IsReached }
 {
-    none(args)?;
     if graph.links.len() as u64 != count {
         return Err(Reason::CountMismatch);
     }
@@ -110,20 +106,16 @@ fn graph_end(graph: GraphPart, count: u64, args: &[u8]) -> Result<Stage, Reason>
 }
 
 /// Behind a further line of Graph.
-pub fn link_line(
-    graph: GraphPart,
-    count: u64,
-    keyword: Keyword,
-    args: &[u8],
-) -> Result<Stage, LineError>
+pub fn link_line(graph: GraphPart, count: u64, form: Form) -> Result<Stage, LineError>
     requires links { AreLinks graph.vertices graph.links.items }
     requires few { count ≤ 4000000 }
-    ensures place { Gives place_of result (link_line graph.vertices count graph.links.items keyword (words args.now)) }
+    ensures place { Gives place_of result
+        (judge_link graph.vertices count graph.links.items (form_seen form.entry)) }
     ensures reached { IfOk result IsReached }
 {
-    match keyword {
-        Keyword::Edge => with_link(graph, count, args),
-        Keyword::End => Ok(graph_end(graph, count, args)?),
-        _ => Err(LineError::Refused(misplaced_in_graph(keyword, args))),
+    match form {
+        Form::Edge(first, second, cost) => with_link(graph, count, first, second, cost),
+        Form::End => Ok(graph_end(graph, count)?),
+        _ => Err(LineError::Refused(misplaced_in_graph(form))),
     }
 }

@@ -13,6 +13,7 @@ ghost use Rattle.stp_reader.specs.declared.reason.Reason.{Reason as StpReason};
 ghost use Rattle.stp_reader.specs.declared.fault.ReadError.TheVariants.{Fault, NoMemory};
 
 mod fault;
+mod form;
 mod graph;
 mod keyword;
 mod law;

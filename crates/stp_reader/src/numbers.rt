@@ -2,7 +2,8 @@ ghost use Rattle.std.specs.Prelude.{◌≡◌, ◌^◌, ◌<◌, ◌≤◌, ◌=
 ghost use Rattle.std.specs.Char.{is_ascii_digit};
 ghost use Rattle.std.specs.List.{list_all};
 ghost use Rattle.st_model.specs.Network.{IsVertex};
-ghost use Rattle.stp_reader.specs.Amounts.{is_number, value, within, count, nodes, vertex, parts, amount};
+ghost use Rattle.stp_reader.specs.Amounts.{is_number, value, parts};
+ghost use Rattle.stp_reader.specs.Judged.{within, count, nodes, vertex, amount};
 
 use crate::Reason;
 use crate::lines::cut_at;
@@ -49,7 +50,7 @@ fn within(digits: &[u8], limit: u64) -> Result<u64, Reason>
 }
 
 /// The count that a word says, which is at most the limit.
-#[tactic(auto, unfolding(crate::specs::Amounts::count))]
+#[tactic(auto, unfolding(crate::specs::Judged::count))]
 pub fn count(word: &[u8], limit: u64) -> Result<u64, Reason>
     requires { limit < 2 ^ 60 }
     ensures value { result ≡ count limit word.now }
@@ -62,7 +63,7 @@ pub fn count(word: &[u8], limit: u64) -> Result<u64, Reason>
 }
 
 /// The number of vertices that a word says.
-#[tactic(auto, unfolding(crate::specs::Amounts::nodes))]
+#[tactic(auto, unfolding(crate::specs::Judged::nodes))]
 pub fn nodes(word: &[u8]) -> Result<u32, Reason>
     ensures value { result ≡ nodes word.now }
     ensures in_range { IfOk result (λ n. (1 ≤ n) × (n ≤ 1000000)) }
@@ -75,7 +76,7 @@ pub fn nodes(word: &[u8]) -> Result<u32, Reason>
 }
 
 /// The vertex that a word says, from 1 to a number.
-#[tactic(auto, unfolding(crate::specs::Amounts::vertex))]
+#[tactic(auto, unfolding(crate::specs::Judged::vertex))]
 pub fn vertex(word: &[u8], vertices: u32) -> Result<u32, Reason>
     ensures value { result ≡ vertex vertices word.now }
     ensures in_range { IfOk result (IsVertex vertices) }
@@ -100,7 +101,7 @@ fn parts(word: &[u8]) -> (&[u8], &[u8])
 }
 
 /// The cost or prize that a word says.
-#[tactic(auto, unfolding(crate::specs::Amounts::amount))]
+#[tactic(auto, unfolding(crate::specs::Judged::amount))]
 pub fn amount(word: &[u8]) -> Result<u64, Reason>
     ensures value { result ≡ amount word.now }
     ensures in_range { IfOk result (λ x. x ≤ 1000000000000) }

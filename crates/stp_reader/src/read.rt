@@ -1,6 +1,6 @@
 ghost use Rattle.std.specs.Prelude.{◌≡◌, IfOk, IfErr, Ok};
-ghost use Rattle.stp_reader.specs.Reads.{stated, IsRefusedBy};
-ghost use Rattle.stp_reader.specs.Reached.{file_from, IsFile};
+ghost use Rattle.stp_reader.specs.Judging.{stated};
+ghost use Rattle.stp_reader.specs.Reached.{file_from, IsFile, IsFaultOf};
 
 use crate::fault::{LineError, ReadError};
 use crate::lines::{next_piece, without_cr};
@@ -8,11 +8,11 @@ use crate::stage::{FilePart, Stage, at_end, behind};
 use std::alloc::Global;
 
 /// What all lines of a text state.
-#[tactic(auto, unfolding(crate::specs::Reads::stated))]
+#[tactic(auto, unfolding(crate::specs::Judging::stated))]
 pub fn file_in(alloc: Global, bytes: &[u8]) -> Result<FilePart, ReadError>
     ensures file { IfOk result (λ f. stated bytes.now ≡ Ok (file_from f)) }
     ensures reached { IfOk result IsFile }
-    ensures refused { IfErr result (IsRefusedBy bytes.now) }
+    ensures refused { IfErr result (IsFaultOf (stated bytes.now)) }
 {
     let mut stage = Stage::AtHeader;
     let mut rest = bytes;

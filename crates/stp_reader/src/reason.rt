@@ -1,5 +1,6 @@
 ghost use Rattle.std.specs.Prelude.{◌≡◌};
-ghost use Rattle.stp_reader.specs.Reason.{code_of, name_of, lesser, both};
+ghost use Rattle.stp_reader.specs.Judged.{both};
+ghost use Rattle.stp_reader.specs.Reason.{code_of, name_of, lesser};
 
 /// What is wrong with a line of an STP file.
 #[derive(Clone, Copy, Debug, PartialEq, Eq)]

@@ -1,14 +1,17 @@
 ghost use Rattle.std.specs.Prelude.{◌≡◌, ◌∷◌, IfOk};
 ghost use Rattle.stp_reader.specs.Lines.{words};
-ghost use Rattle.stp_reader.specs.Judging.{opened, outside_line, header_line, passed_line, file_of, judge, judge_line, at_end};
-ghost use Rattle.stp_reader.specs.Reached.{Says, Gives, stated_of, place_of, file_from, IsEnded, IsFile, IsReached};
+ghost use Rattle.stp_reader.specs.Words.{keyword_of};
+ghost use Rattle.stp_reader.specs.Forms.{form_of};
+ghost use Rattle.stp_reader.specs.Judging.{judge_opening, judge_outside, judge_no_header, judge_passed, file_of, judge, judge_line, at_end};
+ghost use Rattle.stp_reader.specs.Reached.{Says, Gives, form_seen, stated_of, place_of, file_from, IsEnded, IsFile, IsReached};
 
 use crate::Reason;
 use crate::fault::LineError;
+use crate::form::{Form, form_of};
 use crate::graph::{edges_line, link_line, nodes_line};
-use crate::keyword::{Keyword, SectionName, keyword_of, section_of};
+use crate::keyword::{SectionName, section_of};
 use crate::terminals::{count_line, need_line};
-use crate::words::{has_magic, is_remark, next_word, none, one};
+use crate::words::{has_magic, is_remark, next_word};
 use st_model::{Link, Need, VertexSet};
 use std::alloc::Global;
 
@@ -64,7 +67,7 @@ pub enum Stage {
 // Behind the line that opens a section.
 fn opened(ended: Ended, name: SectionName) -> Result<Stage, Reason>
     requires { IsEnded ended }
-    ensures place { Says place_of result (opened (stated_of ended) name) }
+    ensures place { Says place_of result (judge_opening (stated_of ended) name) }
     ensures reached { IfOk result IsReached }
 {
     match name {
@@ -96,51 +99,45 @@ fn file_of(ended: Ended) -> Result<FilePart, Reason>
 }
 
 // Behind a line between sections.
-fn outside_line(ended: Ended, keyword: Keyword, args: &[u8]) -> Result<Stage, Reason>
+fn outside_line(ended: Ended, form: Form) -> Result<Stage, Reason>
     requires { IsEnded ended }
-    ensures place { Says place_of result (outside_line (stated_of ended) keyword (words args.now)) }
+    ensures place { Says place_of result (judge_outside (stated_of ended) (form_seen form.entry)) }
     ensures reached { IfOk result IsReached }
 {
-    match keyword {
-        Keyword::Section => opened(ended, section_of(one(args)?)),
-        Keyword::Eof => {
-            none(args)?;
-            Ok(Stage::BehindEnd(file_of(ended)?))
-        }
+    match form {
+        Form::Section(name) => opened(ended, section_of(name)),
+        Form::Eof => Ok(Stage::BehindEnd(file_of(ended)?)),
         _ => Err(Reason::BadLine),
     }
 }
 
-// Behind the first line that says something.
-fn header_line(line: &[u8], word: &[u8], args: &[u8]) -> Result<Stage, Reason>
-    requires { words line.now ≡ word.now ∷ words args.now }
-    ensures place { Says place_of result (header_line word.now (words args.now)) }
+// Behind the first line that says something, where it is no header.
+fn no_header(form: Form) -> Result<Stage, Reason>
+    ensures place { Says place_of result (judge_no_header (form_seen form.entry)) }
     ensures reached { IfOk result IsReached }
 {
-    if has_magic(line) {
-        return Ok(Stage::Outside(Ended::Nothing));
-    }
-    match keyword_of(word) {
-        Keyword::Section => outside_line(Ended::Nothing, Keyword::Section, args),
+    match form {
+        Form::Section(name) => opened(Ended::Nothing, section_of(name)),
+        Form::Nameless => Err(Reason::BadLine),
         _ => Err(Reason::NoHeader),
     }
 }
 
 // Behind a line of a section that is passed over.
-fn passed_line(ended: Ended, keyword: Keyword, args: &[u8]) -> Result<Stage, Reason>
+fn passed_line(ended: Ended, form: Form) -> Stage
     requires { IsEnded ended }
-    ensures place { Says place_of result (passed_line (stated_of ended) keyword (words args.now)) }
-    ensures reached { IfOk result IsReached }
+    ensures place { place_of result ≡ judge_passed (stated_of ended) (form_seen form.entry) }
+    ensures reached { IsReached result }
 {
-    if keyword == Keyword::End && none(args).is_ok() {
-        return Ok(Stage::Outside(ended));
+    match form {
+        Form::End => Stage::Outside(ended),
+        _ => Stage::PassedOver(ended),
     }
-    Ok(Stage::PassedOver(ended))
 }
 
-// Behind a line that is no remark.
+// Behind a line that isn't skipped.
 #[tactic(auto, unfolding(crate::specs::Judging::judge_line))]
-fn line_behind(
+fn behind_said(
     alloc: Global,
     stage: Stage,
     line: &[u8],
@@ -149,19 +146,20 @@ fn line_behind(
 ) -> Result<Stage, LineError>
     requires reached { IsReached stage }
     requires words { words line.now ≡ word.now ∷ words args.now }
-    ensures place { Gives place_of result (judge_line (place_of stage) word.now (words args.now)) }
+    ensures place { Gives place_of result (judge_line (place_of stage) (words line.now)) }
     ensures reached { IfOk result IsReached }
 {
-    let keyword = keyword_of(word);
+    let form = form_of(word, args);
     match stage {
-        Stage::AtHeader => Ok(header_line(line, word, args)?),
-        Stage::Outside(ended) => Ok(outside_line(ended, keyword, args)?),
-        Stage::PassedOver(ended) => Ok(passed_line(ended, keyword, args)?),
-        Stage::AtNodes => Ok(nodes_line(keyword, args)?),
-        Stage::AtEdges(vertices) => Ok(edges_line(alloc, vertices, keyword, args)?),
-        Stage::AtLinks(graph, count) => link_line(graph, count, keyword, args),
-        Stage::AtCount(graph, root) => count_line(alloc, graph, root, keyword, args),
-        Stage::AtNeeds(needs) => need_line(needs, keyword, args),
+        Stage::AtHeader if has_magic(line) => Ok(Stage::Outside(Ended::Nothing)),
+        Stage::AtHeader => Ok(no_header(form)?),
+        Stage::Outside(ended) => Ok(outside_line(ended, form)?),
+        Stage::PassedOver(ended) => Ok(passed_line(ended, form)),
+        Stage::AtNodes => Ok(nodes_line(form)?),
+        Stage::AtEdges(vertices) => Ok(edges_line(alloc, vertices, form)?),
+        Stage::AtLinks(graph, count) => link_line(graph, count, form),
+        Stage::AtCount(graph, root) => count_line(alloc, graph, root, form),
+        Stage::AtNeeds(needs) => need_line(needs, form),
         Stage::BehindEnd(file) => Ok(Stage::BehindEnd(file)),
     }
 }
@@ -179,7 +177,7 @@ pub fn behind(alloc: Global, stage: Stage, line: &[u8]) -> Result<Stage, LineErr
     if is_remark(word) {
         return Ok(stage);
     }
-    line_behind(alloc, stage, line, word, args)
+    behind_said(alloc, stage, line, word, args)
 }
 
 /// All that is stated, behind the last line.

@@ -1,10 +1,8 @@
 ghost use Rattle.std.specs.Prelude.{◌≡◌, ◌<◌, [], ◌∷◌, length, not, MatchOption, IfSome, position};
 ghost use Rattle.std.specs.List.{list_any};
 ghost use Rattle.stp_reader.specs.Lines.{is_blank, words, is_remark};
-ghost use Rattle.stp_reader.specs.Words.{is_magic, none, one, two, three};
-ghost use Rattle.stp_reader.specs.Reached.{Says};
+ghost use Rattle.stp_reader.specs.Words.{is_magic};
 
-use crate::Reason;
 use crate::keyword::is_word;
 
 // Whether a byte stands between words.
@@ -59,40 +57,4 @@ pub fn has_magic(line: &[u8]) -> bool
         rest = behind;
     }
     false
-}
-
-/// Nothing, if no word stands there.
-pub fn none(args: &[u8]) -> Result<(), Reason>
-    ensures { Says (λ _. []) result (none (words args.now)) }
-{
-    match next_word(args) {
-        None => Ok(()),
-        Some(_) => Err(Reason::BadLine),
-    }
-}
-
-/// The one word that stands there.
-pub fn one(args: &[u8]) -> Result<&[u8], Reason>
-    ensures { Says (λ u. u.now) result (one (words args.now)) }
-{
-    let (first, rest) = next_word(args).ok_or(Reason::BadLine)?;
-    none(rest)?;
-    Ok(first)
-}
-
-/// The two words that stand there.
-pub fn two(args: &[u8]) -> Result<(&[u8], &[u8]), Reason>
-    ensures { Says (λ w. (w.0.now, w.1.now)) result (two (words args.now)) }
-{
-    let (first, rest) = next_word(args).ok_or(Reason::BadLine)?;
-    Ok((first, one(rest)?))
-}
-
-/// The three words that stand there.
-pub fn three(args: &[u8]) -> Result<(&[u8], &[u8], &[u8]), Reason>
-    ensures { Says (λ w. (w.0.now, w.1.now, w.2.now)) result (three (words args.now)) }
-{
-    let (first, rest) = next_word(args).ok_or(Reason::BadLine)?;
-    let (second, third) = two(rest)?;
-    Ok((first, second, third))
 }

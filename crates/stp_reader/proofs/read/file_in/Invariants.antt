@@ -1,6 +1,6 @@
 use Rattle.std.proofs.Common.{◌≡◌, ◌+◌, ◌≤◌, length}
 use Rattle.stp_reader.specs.Lines.{word_lines}
-use Rattle.stp_reader.specs.Reads.{stated_from, stated}
+use Rattle.stp_reader.specs.Judging.{stated_from, stated}
 use Rattle.stp_reader.specs.Reached.{place_of, IsReached}
 use Rattle.stp_reader.proofs.read.file_in.Given as goal
 
