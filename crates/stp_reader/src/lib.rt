@@ -1,42 +1,54 @@
 //! Reads the text of an STP file into an instance of the Steiner tree problem.
 //!
-//! A plain file has one spelling, the definition `text`, and stands for `instance_of` what it
-//! says. A caller may rely on both directions: what is read is the instance of a plain file that
-//! is spelled so, and each text that is spelled so is read, unless memory runs out. The reader
-//! goes over the text once, and of the numbers that it states only that of `Nodes` takes memory.
+//! `Reads` and `Refused` say by the lines of a text which instance it stands for, or at which line
+//! and for which reason it stands for none. A caller may rely on both directions, and on exactly
+//! one of the two. The reader goes over the text once, and of the numbers that it states only that
+//! of `Nodes` takes memory.
 #![tactic(auto)]
 
-ghost use Rattle.std.specs.Prelude.{◌≡◌, ◌≢◌, IfOk, MatchResult, Err};
-ghost use Rattle.stp_reader.specs.Spelling.{Plain, IsInRange, text, instance_of};
-ghost use Rattle.stp_reader.specs.declared.fault.StpFault.TheVariants.{NotPlain, NoMemory};
+ghost use Rattle.std.specs.Prelude.{◌≡◌, ◌⊎◌, ℕ, IfOk, IfErr, Err, MatchResult};
+ghost use Rattle.st_model.specs.Network.{Network};
+ghost use Rattle.stp_reader.specs.Reads.{Reads, Refused, IsRefusedBy};
+ghost use Rattle.stp_reader.specs.declared.reason.Reason.{Reason as StpReason};
+ghost use Rattle.stp_reader.specs.declared.fault.ReadError.TheVariants.{Fault, NoMemory};
 
 mod fault;
+mod form;
+mod graph;
+mod keyword;
+mod law;
 mod lines;
 mod numbers;
-mod plain;
-mod words;
-
-pub use fault::StpFault;
-
+mod read;
+mod reason;
+mod stage;
+mod terminals;
 #[cfg(test)]
 mod tests;
+mod words;
 
-use plain::parts_of;
+pub use fault::{ReadError, StpFault};
+pub use law::refused_exactly;
+use read::file_in;
+pub use reason::Reason;
 use st_model::Instance;
 use std::alloc::Global;
 
-/// Reads a plain file, all of the bytes.
-pub fn read_stp(alloc: Global, bytes: &[u8]) -> Result<Instance, StpFault>
-    // What is read is the instance of a plain file that is spelled so.
-    ensures found { IfOk result
-        (λ I. (p : Plain) × IsInRange p × (bytes.now ≡ text p) × (I ≡ instance_of p)) }
-    // What is spelled so is read as its instance, unless memory runs out.
-    ensures only { (p : Plain) → IsInRange p → bytes.now ≡ text p
-        → MatchResult result (λ I. I ≡ instance_of p) (λ e. e ≡ NoMemory) }
-    // What is refused as no plain file is spelled by none.
-    ensures refused { result ≡ Err NotPlain → (p : Plain) → IsInRange p → bytes.now ≢ text p }
+/// Reads an STP file, all of the bytes. Memory grows with the lines that were read and the number
+/// of vertices that they state.
+pub fn read_stp(alloc: Global, bytes: &[u8]) -> Result<Instance, ReadError>
+    // What is read is the instance that the bytes stand for.
+    ensures found { IfOk result (Reads bytes.now) }
+    // The instance that the bytes stand for is what is read, unless memory runs out.
+    ensures only { (I : Network) → Reads bytes.now I
+        → MatchResult result (λ read. read ≡ I) (λ e. e ≡ NoMemory) }
+    // A fault is the first line with a reason, and the least of its reasons.
+    ensures fault { IfErr result (IsRefusedBy bytes.now) }
+    // Bytes that are refused so are answered with that line and reason, unless memory runs out.
+    ensures refused { (line : ℕ) (reason : StpReason) → Refused bytes.now line reason
+        → (result ≡ Err (Fault (record { line = line; reason = reason }))) ⊎ (result ≡ Err NoMemory) }
 {
-    let parts = parts_of(alloc, bytes)?;
-    let instance = Instance::build(alloc, parts.vertices, &parts.links, &parts.needs)?;
+    let file = file_in(alloc, bytes)?;
+    let instance = Instance::build(alloc, file.vertices, &file.links, &file.needs)?;
     Ok(instance)
 }

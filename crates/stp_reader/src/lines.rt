@@ -1,45 +1,47 @@
-ghost use Rattle.std.specs.Prelude.{◌≡◌, ◌==◌, length};
-ghost use Rattle.stp_reader.specs.Reading.{Gives, cut, expected};
+ghost use Rattle.std.specs.Prelude.{◌≡◌, ◌<◌, ◌==◌, [], ◌∷◌, length, MatchOption, IfSome, position, option_map};
+ghost use Rattle.stp_reader.specs.Amounts.{cut};
+ghost use Rattle.stp_reader.specs.Lines.{pieces, without_cr};
 
-use crate::fault::StpFault;
-use crate::words::cut_at;
-
-/// The lines of a file from first to last. Each of them ends with LF.
-#[derive(Drop)]
-pub struct Lines<'a> {
-    rest: &'a [u8],
+// The index of the first such byte.
+fn index_of(bytes: &[u8], byte: u8) -> Option<usize>
+    ensures { result ≡ position (λ b. b == byte) bytes.now }
+{
+    bytes.iter().position(|b| *b == byte)
 }
 
-impl<'a> Lines<'a> {
-    pub fn of(bytes: &'a [u8]) -> Self
-        ensures { result.rest.now ≡ bytes.now }
-    {
-        Lines { rest: bytes }
-    }
+/// The bytes before the first such byte, and those behind it.
+pub fn cut_at(bytes: &[u8], byte: u8) -> Option<(&[u8], &[u8])>
+    ensures cut { option_map (λ x. (x.0.now, x.1.now)) result ≡ cut byte bytes.now }
+    ensures shorter { IfSome result (λ x. length x.1.now < length bytes.now) }
+{
+    let index = index_of(bytes, byte)?;
+    Some((&bytes[..index], &bytes[index + 1..]))
+}
 
-    /// The next line, without its end.
-    pub fn next(&mut self) -> Result<&'a [u8], StpFault>
-        ensures { Gives (λ line. (line.now, self.new.rest.now)) result (cut 10 self.old.rest.now) }
-    {
-        let (line, rest) = cut_at(self.rest, b'\n').ok_or(StpFault::NotPlain)?;
-        self.rest = rest;
-        Ok(line)
+/// The first line, without its LF, and what stands behind it.
+pub fn next_piece(bytes: &[u8]) -> Option<(&[u8], &[u8])>
+    ensures piece { MatchOption result (pieces bytes.now ≡ [])
+        (λ x. pieces bytes.now ≡ x.0.now ∷ pieces x.1.now) }
+    ensures shorter { IfSome result (λ x. length x.1.now < length bytes.now) }
+{
+    if bytes.is_empty() {
+        return None;
     }
+    let Some((piece, behind)) = cut_at(bytes, b'\n') else {
+        return Some((bytes, &bytes[..0]));
+    };
+    Some((piece, behind))
+}
 
-    /// Passes over the next line, which must be this one.
-    pub fn expect(&mut self, wanted: &[u8]) -> Result<(), StpFault>
-        ensures { Gives (λ _. self.new.rest.now) result (expected wanted.now self.old.rest.now) }
-    {
-        if self.next()? != wanted {
-            return Err(StpFault::NotPlain);
-        }
-        Ok(())
+/// The line without the CR that ends it, if one does.
+pub fn without_cr(piece: &[u8]) -> &[u8]
+    ensures { result.now ≡ without_cr piece.now }
+{
+    let Some(last) = piece.len().checked_sub(1) else {
+        return piece;
+    };
+    if piece[last] == b'\r' {
+        return &piece[..last];
     }
-
-    /// Whether no byte is left.
-    pub fn is_at_end(&self) -> bool
-        ensures { result ≡ (length self.now.rest.now == 0) }
-    {
-        self.rest.is_empty()
-    }
+    piece
 }

@@ -5,135 +5,165 @@ use std::test::Fail;
 
 const HEADER: &str = "33D32945 STP File, STP Format Version 1.0";
 
-/// Two vertices that are joined, both of them terminals.
-const PAIR: &str = "33D32945 STP File, STP Format Version 1.0\nSECTION Graph\nNodes 2\nEdges 1\n\
-    E 1 2 5\nEND\nSECTION Terminals\nTerminals 2\nT 1\nT 2\nEND\nEOF\n";
+/// A star of three vertices around a fourth, with the sides between them.
+const STAR: &str = "33D32945 STP File, STP Format Version 1.0\nSECTION Graph\nNodes 4\nEdges 6\n\
+    E 1 4 2\nE 2 4 2\nE 3 4 2\nE 1 2 4\nE 2 3 4\nE 1 3 4\nEND\n\
+    SECTION Terminals\nTerminals 3\nT 1\nT 2\nT 3\nEND\nEOF\n";
 
-/// What is written of a plain file, and the instance that is meant by it.
+/// What stands behind the first words of a file, and the instance that is meant by it.
 #[derive(Drop)]
 struct Case {
-    nodes: &'static str,
-    edges: &'static str,
-    terminals: &'static str,
-    vertices: u32,
+    text: &'static str,
     links: &'static [(u32, u32, u64)],
-    required: &'static [u32],
+    needs: &'static [Need],
 }
 
-fn is_read(rt: &(impl Abort + AllocGlobal), case: &Case) -> Result<(), Fail> {
-    let nodes = case.nodes;
-    let edges = case.edges;
-    let terminals = case.terminals;
-    let text = format!(in rt.alloc();
-        "{HEADER}\nSECTION Graph\nNodes {nodes}\nEdges {edges}\nEND\n\
-        SECTION Terminals\nTerminals {terminals}\nEND\nEOF\n"
-    )?;
+fn is_read(rt: &(impl Abort + AllocGlobal), start: &str, case: &Case) -> Result<(), Fail> {
+    let rest = case.text;
+    let text = format!(in rt.alloc(); "{start}{rest}")?;
     let instance = read_stp(rt.alloc(), text.as_bytes())?;
-    assert_eq!(rt; instance.vertices(), case.vertices, "in {text}");
     let links: Vec<(u32, u32, u64)> = instance
         .links()
         .iter()
         .map(|l| (l.a, l.b, l.cost))
         .collect(rt.alloc())?;
     assert_eq!(rt; links.as_slice(), case.links, "in {text}");
+    assert_eq!(rt; instance.vertices() as usize, case.needs.len(), "in {text}");
     for before in 0..instance.vertices() {
-        let vertex = before + 1;
-        let is_required = instance.need(vertex) == Need::Required;
+        let need = instance.need(before + 1);
         assert_eq!(rt;
-            is_required,
-            case.required.contains(&vertex),
-            "at {vertex} in {text}"
+            Some(need),
+            case.needs.get(before as usize).copied(),
+            "in {text}"
         );
     }
     Ok(())
 }
 
+/// The links of the star.
+const SIDES: &[(u32, u32, u64)] = &[
+    (1, 4, 2),
+    (2, 4, 2),
+    (3, 4, 2),
+    (1, 2, 4),
+    (2, 3, 4),
+    (1, 3, 4),
+];
+
+/// What the vertices of the star need.
+const STAR_NEEDS: &[Need] = &[
+    Need::Required,
+    Need::Required,
+    Need::Required,
+    Need::Pays(0),
+];
+
+/// Two vertices that are both required.
+const BOTH: &[Need] = &[Need::Required, Need::Required];
+
 #[test]
-fn reads_plain_files(rt: HostRuntime) -> Result<(), Fail> {
+fn reads_links_and_terminals(rt: HostRuntime) -> Result<(), Fail> {
     let cases = [
         Case {
-            nodes: "4",
-            edges: "6\nE 1 4 2\nE 2 4 2\nE 3 4 2\nE 1 2 4\nE 2 3 4\nE 1 3 4",
-            terminals: "3\nT 1\nT 2\nT 3",
-            vertices: 4,
-            links: &[
-                (1, 4, 2),
-                (2, 4, 2),
-                (3, 4, 2),
-                (1, 2, 4),
-                (2, 3, 4),
-                (1, 3, 4),
-            ],
-            required: &[1, 2, 3],
-        },
-        Case {
-            nodes: "4",
-            edges: "6\nE 1 4 2\nE 2 4 2\nE 3 4 2\nE 1 2 3\nE 2 3 3\nE 1 3 3",
-            terminals: "3\nT 1\nT 2\nT 3",
-            vertices: 4,
-            links: &[
-                (1, 4, 2),
-                (2, 4, 2),
-                (3, 4, 2),
-                (1, 2, 3),
-                (2, 3, 3),
-                (1, 3, 3),
-            ],
-            required: &[1, 2, 3],
-        },
-        Case {
-            nodes: "1",
-            edges: "0",
-            terminals: "1\nT 1",
-            vertices: 1,
+            text: "\nSECTION Graph\nNodes 1\nEdges 0\nEND\nSECTION Terminals\nTerminals 1\nT 1\nEND\nEOF\n",
             links: &[],
-            required: &[1],
+            needs: &[Need::Required],
         },
         Case {
-            nodes: "2",
-            edges: "2\nE 1 2 5\nE 1 2 3",
-            terminals: "2\nT 1\nT 2",
-            vertices: 2,
+            text: "\nSECTION Graph\nNodes 2\nEdges 2\nE 1 2 5\nE 2 1 3\nEND\nSECTION Terminals\nTerminals 2\nT 1\nT 2\nEND\nEOF\n",
             links: &[(1, 2, 3)],
-            required: &[1, 2],
+            needs: BOTH,
         },
         Case {
-            nodes: "2",
-            edges: "3\nE 2 1 3\nE 1 1 4\nE 1 2 5",
-            terminals: "3\nT 2\nT 1\nT 2",
-            vertices: 2,
+            text: "\nSECTION Graph\nNodes 2\nEdges 2\nE 2 1 3\nE 1 2 5\nEND\nSECTION Terminals\nTerminals 2\nT 1\nT 2\nEND\nEOF\n",
             links: &[(1, 2, 3)],
-            required: &[1, 2],
+            needs: BOTH,
         },
         Case {
-            nodes: "3",
-            edges: "1\nE 1 2 1",
-            terminals: "2\nT 1\nT 3",
-            vertices: 3,
-            links: &[(1, 2, 1)],
-            required: &[1, 3],
+            text: "\nSECTION Graph\nNodes 2\nEdges 3\nE 1 2 5\nE 2 1 3\nE 1 1 4\nEND\nSECTION Terminals\nTerminals 2\nT 1\nT 2\nEND\nEOF\n",
+            links: &[(1, 2, 3)],
+            needs: BOTH,
         },
         Case {
-            nodes: "3",
-            edges: "2\nE 1 2 0\nE 2 3 0",
-            terminals: "3\nT 1\nT 2\nT 3",
-            vertices: 3,
-            links: &[(1, 2, 0), (2, 3, 0)],
-            required: &[1, 2, 3],
+            text: "\nSECTION Graph\nNodes 3\nEdges 1\nE 1 2 7\nEND\nSECTION Terminals\nTerminals 2\nT 1\nT 3\nEND\nEOF\n",
+            links: &[(1, 2, 7)],
+            needs: &[Need::Required, Need::Pays(0), Need::Required],
         },
         Case {
-            nodes: "10",
-            edges: "1\nE 9 10 1000000000000",
-            terminals: "1\nT 10",
-            vertices: 10,
-            links: &[(9, 10, 1_000_000_000_000)],
-            required: &[10],
+            text: "\nSECTION Graph\nNodes 2\nEdges 1\nE 1 2 1000000000000\nEND\nSECTION Terminals\nTerminals 3\nT 1\nT 2\nT 1\nEND\n",
+            links: &[(1, 2, 1_000_000_000_000)],
+            needs: BOTH,
+        },
+        Case {
+            text: "\nSECTION Graph\nNodes 02\nEdges 1\nE 1 002 5.0\nEND\nSECTION Terminals\nRoot 2\nTerminals 2\nT 1\nT 2\nEND\nEOF\nE 9",
+            links: &[(1, 2, 5)],
+            needs: BOTH,
+        },
+        Case {
+            text: "\n\tSECTION  Graph \nNodes 2\n\n# E\nEdges 1\n #E 9\nE\t1 2 5.\nEND\nSECTION Tree\nSECTION Graph\nEOF\nEND x\nEND\nSECTION Terminals\nTerminals 2\nT 1\nT 2\nEND",
+            links: &[(1, 2, 5)],
+            needs: BOTH,
         },
     ];
     for case in &cases {
-        is_read(&rt, case)?;
+        is_read(&rt, HEADER, case)?;
+        is_read(&rt, "\n#\n\t \nMagic 33d32945", case)?;
+        is_read(&rt, "SECTION 33D32945", case)?;
+        is_read(&rt, "# no header", case)?;
     }
     Ok(())
+}
+
+#[test]
+fn reads_prizes(rt: HostRuntime) -> Result<(), Fail> {
+    let cases = [
+        Case {
+            text: "\nSECTION Graph\nNodes 2\nEdges 1\nE 1 2 5\nEND\nSECTION Terminals\nTerminals 2\nTP 1 3\nTP 2 4\nEND\nEOF\n",
+            links: &[(1, 2, 5)],
+            needs: &[Need::Pays(3), Need::Pays(4)],
+        },
+        Case {
+            text: "\nSECTION Graph\nNodes 2\nEdges 1\nE 1 2 2\nEND\nSECTION Terminals\nTerminals 2\nTP 1 3\nTP 2 4\nEND\nEOF\n",
+            links: &[(1, 2, 2)],
+            needs: &[Need::Pays(3), Need::Pays(4)],
+        },
+        Case {
+            text: "\nSECTION Graph\nNodes 2\nEdges 1\nE 1 2 3\nEND\nSECTION Terminals\nTerminals 2\nTP 1 3\nTP 2 4\nEND\nEOF\n",
+            links: &[(1, 2, 3)],
+            needs: &[Need::Pays(3), Need::Pays(4)],
+        },
+        Case {
+            text: "\nSECTION Graph\nNodes 3\nEdges 2\nE 1 2 1\nE 2 3 1\nEND\nSECTION Terminals\nTerminals 1\nTP 2 0\nEND\nEOF\n",
+            links: &[(1, 2, 1), (2, 3, 1)],
+            needs: &[Need::Pays(0), Need::Pays(0), Need::Pays(0)],
+        },
+        Case {
+            text: "\nSECTION Graph\nNodes 3\nEdges 2\nE 1 3 4\nE 3 2 5\nEND\nSECTION Terminals\nTerminals 2\nT 1\nTP 2 10\nEND\nEOF\n",
+            links: &[(1, 3, 4), (2, 3, 5)],
+            needs: &[Need::Required, Need::Pays(10), Need::Pays(0)],
+        },
+        Case {
+            text: "\nSECTION Graph\nNodes 2\nEdges 0\nEND\nSECTION Terminals\nTerminals 4\nT 1\nTP 1 10\nTP 2 7.00\nT 2\nRoot 1\nEND\n",
+            links: &[],
+            needs: BOTH,
+        },
+    ];
+    for case in &cases {
+        is_read(&rt, HEADER, case)?;
+    }
+    Ok(())
+}
+
+#[test]
+fn reads_small_letters_and_carriage_returns(rt: HostRuntime) -> Result<(), Fail> {
+    let case = Case {
+        text: "\r\nsection coordinates\r\ndd 1 0 0\r\nend\r\nsection graph\r\nnodes 4\r\nedges 6\r\n\
+            e 1 4 2\r\ne 2 4 2\r\ne 3 4 2\r\ne 1 2 4\r\ne 2 3 4\r\ne 1 3 4\r\nend\r\n\
+            section terminals\r\nterminals 3\r\nt 1\r\nt 2\r\nt 3\r\nend\r",
+        links: SIDES,
+        needs: STAR_NEEDS,
+    };
+    is_read(&rt, "33d32945 stp file, stp format version 1.0", &case)
 }
 
 #[test]
@@ -147,78 +177,261 @@ fn reads_as_many_vertices_as_there_may_be(rt: HostRuntime) -> Result<(), Fail> {
     Ok(())
 }
 
-fn is_refused(rt: &impl AllocGlobal, text: &[u8]) -> bool {
-    matches!(read_stp(rt.alloc(), text), Err(StpFault::NotPlain))
-}
-
-#[test]
-fn refuses_what_is_cut_short(rt: HostRuntime) {
-    let text = PAIR.as_bytes();
-    assert!(rt; read_stp(rt.alloc(), text).is_ok());
-    for end in 0..text.len() {
-        assert!(rt; is_refused(&rt, &text[..end]), "after {end} bytes");
+/// What is refused of a text, or line 0 where it is read.
+fn fault_of(rt: &impl AllocGlobal, text: &[u8]) -> Result<(u64, Reason), Fail> {
+    match read_stp(rt.alloc(), text) {
+        Ok(_) => Ok((0, Reason::NoHeader)),
+        Err(ReadError::Fault(fault)) => Ok((fault.line, fault.reason)),
+        Err(ReadError::NoMemory) => Err("no memory".into()),
     }
 }
 
-/// The one mistake: what stands in the file, and what is written in its place.
-const MISTAKES: [(&str, &str); 48] = [
-    ("33D32945 STP", "33d32945 STP"),
-    ("Version 1.0", "Version 1.1"),
-    ("SECTION Graph\n", "SECTION graph\n"),
-    ("SECTION Graph\n", "SECTION Graph \n"),
-    ("SECTION Graph\n", "\nSECTION Graph\n"),
-    ("SECTION Graph\n", "SECTION Graph\r\n"),
-    ("Nodes 2\n", "Nodes 0\n"),
-    ("Nodes 2\n", "Nodes 02\n"),
-    ("Nodes 2\n", "Nodes\n"),
-    ("Nodes 2\n", "Nodes 2 2\n"),
-    ("Nodes 2\n", "Nodes 1000001\n"),
-    ("Nodes 2\n", "nodes 2\n"),
-    ("Edges 1\n", "Edges 0\n"),
-    ("Edges 1\n", "Edges 2\n"),
-    ("Edges 1\n", "Edges 4000001\n"),
-    ("Edges 1\n", "Edges +1\n"),
-    ("Edges 1\n", "Arcs 1\n"),
-    ("E 1 2 5\n", ""),
-    ("E 1 2 5\n", "E 1 2 5\nE 1 2 5\n"),
-    ("E 1 2 5\n", "E 1 2\n"),
-    ("E 1 2 5\n", "E 1 2 5 5\n"),
-    ("E 1 2 5\n", "E 1 2 5 \n"),
-    ("E 1 2 5\n", "E 1  2 5\n"),
-    ("E 1 2 5\n", " E 1 2 5\n"),
-    ("E 1 2 5\n", "E\t1 2 5\n"),
-    ("E 1 2 5\n", "e 1 2 5\n"),
-    ("E 1 2 5\n", "A 1 2 5\n"),
-    ("E 1 2 5\n", "E 0 2 5\n"),
-    ("E 1 2 5\n", "E 1 3 5\n"),
-    ("E 1 2 5\n", "E 1 2 05\n"),
-    ("E 1 2 5\n", "E 1 2 5.0\n"),
-    ("E 1 2 5\n", "E 1 2 -5\n"),
-    ("E 1 2 5\n", "E 1 2 1000000000001\n"),
-    ("E 1 2 5\n", "E 1 2 18446744073709551621\n"),
-    ("E 1 2 5\n", "E 1 2 5\r\n"),
-    ("Terminals 2\n", "Terminals 0\n"),
-    ("Terminals 2\n", "Terminals 1\n"),
-    ("Terminals 2\n", "Terminals 3\n"),
-    ("Terminals 2\n", "Terminals 2000001\n"),
-    ("T 2\n", "T 0\n"),
-    ("T 2\n", "T 3\n"),
-    ("T 2\n", "T 1 2\n"),
-    ("T 2\n", "TP 2 7\n"),
-    ("EOF\n", "eof\n"),
-    ("EOF\n", "EOF\n\n"),
-    ("EOF\n", "EOF\nEOF\n"),
-    ("EOF\n", "EOF\nE 1 2 3\n"),
-    ("33D32945 STP", "hello\n33D32945 STP"),
+/// Whole texts, each with its fault.
+const TEXTS: [(&str, u64, Reason); 13] = [
+    ("", 1, Reason::NoHeader),
+    ("hello", 1, Reason::NoHeader),
+    ("#\n#\n#\n", 4, Reason::NoHeader),
+    ("\n \nhello\n33D32945\n", 3, Reason::NoHeader),
+    ("33D32945", 2, Reason::NoGraph),
+    ("33D32945\nEOF\n", 2, Reason::NoGraph),
+    ("SECTION", 1, Reason::BadLine),
+    ("SECTION Presolve\n", 1, Reason::UnknownSection),
+    ("SECTION Comment\nEOF\n", 3, Reason::Unclosed),
+    ("33D32945\n\nSECTION Graph Tree\n", 3, Reason::BadLine),
+    (
+        "H 33D32945\nSECTION Graph\nNodes 2\nEdges 1\nE 1 2 5\n",
+        6,
+        Reason::Unclosed,
+    ),
+    (
+        "33D32945 H\nSECTION Graph\nNodes 3\nEdges 3\nE 1 2 1\nE 2 3 1\nEND",
+        7,
+        Reason::CountMismatch,
+    ),
+    (
+        "33D32945\nSECTION Graph\nNodes 2\nEdges 0\nEND\nEOF\n",
+        6,
+        Reason::NoTerminals,
+    ),
 ];
 
 #[test]
-fn refuses_one_mistake(rt: HostRuntime) -> Result<(), Fail> {
-    assert!(rt; is_refused(&rt, b"hello"));
-    for (right, wrong) in MISTAKES {
-        let (before, after) = PAIR.split_once(right).ok_or("the file has no such part")?;
-        let text = format!(in rt.alloc(); "{before}{wrong}{after}")?;
-        assert!(rt; is_refused(&rt, text.as_bytes()), "in {text}");
+fn refuses_texts(rt: HostRuntime) -> Result<(), Fail> {
+    for (text, line, reason) in TEXTS {
+        assert_eq!(rt; fault_of(&rt, text.as_bytes())?, (line, reason), "{text}");
+    }
+    Ok(())
+}
+
+/// What stands in the star's file, what is written in its place, and the fault.
+const CHANGES: [(&str, &[u8], u64, Reason); 76] = [
+    ("T 3\nEND\nEOF\n", b"T 3\n", 17, Reason::Unclosed),
+    ("T 3\nEND\nEOF\n", b"T 3\nEN", 17, Reason::BadLine),
+    ("T 3\nEND\nEOF\n", b"T 3\nEND\nEO", 18, Reason::BadLine),
+    ("T 3\nEND\nEOF\n", b"T 3\nEND\nEOF x\n", 18, Reason::BadLine),
+    (
+        "T 3\nEND\nEOF\n",
+        b"T 3\nEND\nSECTION Graph\n",
+        18,
+        Reason::RepeatedSection,
+    ),
+    (
+        "T 3\nEND\nEOF\n",
+        b"T 3\nEND\nSECTION Terminals\n",
+        18,
+        Reason::RepeatedSection,
+    ),
+    (
+        "END\nSECTION Terminals\nTerminals 3\nT 1\nT 2\nT 3\nEND\nEOF\n",
+        b"END\n",
+        12,
+        Reason::NoTerminals,
+    ),
+    (
+        "END\nSECTION Terminals\nTerminals 3\nT 1\nT 2\nT 3\nEND\nEOF\n",
+        b"END\nEOF\n",
+        12,
+        Reason::NoTerminals,
+    ),
+    ("SECTION Graph", b"SECTION Terminals", 2, Reason::GraphFirst),
+    (
+        "SECTION Graph",
+        b"SECTION Presolve",
+        2,
+        Reason::UnknownSection,
+    ),
+    ("SECTION Graph", b"E 1 2 5", 2, Reason::BadLine),
+    (
+        "SECTION Graph",
+        b"SECTION Comment\nEND\nSECTION Graph\r\r",
+        4,
+        Reason::UnknownSection,
+    ),
+    ("Nodes 4", b"Nodes 0", 3, Reason::NoVertices),
+    ("Nodes 4", b"Nodes 99999999999", 3, Reason::OutOfRange),
+    (
+        "Nodes 4",
+        b"Nodes 36893488147419103236",
+        3,
+        Reason::OutOfRange,
+    ),
+    ("Nodes 4", b"Nodes 1000001", 3, Reason::OutOfRange),
+    ("Nodes 4", b"Nodes -", 3, Reason::BadNumber),
+    ("Nodes 4", b"Nodes 4 4", 3, Reason::BadLine),
+    ("Nodes 4", b"Edges 6", 3, Reason::BadLine),
+    ("Nodes 4", b"A", 3, Reason::Directed),
+    ("Nodes 4", b"END", 3, Reason::BadLine),
+    ("Nodes 4", b"EOF", 3, Reason::Unclosed),
+    ("Edges 6", b"END", 4, Reason::BadLine),
+    ("Edges 6", b"Nodes 4", 4, Reason::BadLine),
+    ("Edges 6", b"Arcs 6", 4, Reason::Directed),
+    ("Edges 6", b"Edges 4000001", 4, Reason::OutOfRange),
+    ("Edges 6", b"Edges 6.0", 4, Reason::BadNumber),
+    ("Edges 6", b"Edges 7", 11, Reason::CountMismatch),
+    ("Edges 6", b"Edges 5", 11, Reason::CountMismatch),
+    ("E 1 4 2", b"E 0 4 2", 5, Reason::VertexRange),
+    ("E 1 4 2", b"E 1 9 x", 5, Reason::BadNumber),
+    ("E 1 4 2", b"\xff", 5, Reason::BadLine),
+    ("E 1 4 2", b"A 1 2 5", 5, Reason::Directed),
+    ("E 1 4 2", b"E 1 4 1000000000001", 5, Reason::OutOfRange),
+    (
+        "E 1 4 2",
+        b"E 1 4 1000000000000000000002",
+        5,
+        Reason::OutOfRange,
+    ),
+    ("E 1 4 2", b"E 1 4 5.5", 5, Reason::Fraction),
+    ("E 1 4 2", b"E 9 4 5.5", 5, Reason::Fraction),
+    ("E 1 4 2", b"E 9 4 1000000000001", 5, Reason::OutOfRange),
+    ("E 1 4 2", b"E 9 4 1000000000001.01", 5, Reason::Fraction),
+    ("E 1 4 2", b"E 1 4 -1", 5, Reason::BadNumber),
+    ("E 1 4 2", b"E 1 4 .5", 5, Reason::BadNumber),
+    ("E 1 4 2", b"E 1 4 5.0.0", 5, Reason::BadNumber),
+    ("E 1 4 2", b"E 1 4 2\r\r", 5, Reason::BadNumber),
+    ("E 1 4 2", b"E 1 4\r 2", 5, Reason::BadNumber),
+    (
+        "E 1 4 2",
+        b"E 1 18446744073709551620 2",
+        5,
+        Reason::VertexRange,
+    ),
+    ("E 1 4 2", b"E 1 4", 5, Reason::BadLine),
+    ("E 1 4 2", b"E 1 4 2 2", 5, Reason::BadLine),
+    ("E 1 4 2", b"SECTION", 5, Reason::Unclosed),
+    ("E 1 4 2", b"EOF", 5, Reason::Unclosed),
+    ("E 1 4 2", b"EOF EOF", 5, Reason::BadLine),
+    ("E 1 4 2", b"Edges 6", 5, Reason::BadLine),
+    ("E 1 4 2", b"T 1", 5, Reason::BadLine),
+    ("E 1 4 2\nE 2 4 2", b"E 1 4 5.5\nE 1 4", 5, Reason::Fraction),
+    ("END\nSECTION T", b"END x\nSECTION T", 11, Reason::BadLine),
+    (
+        "SECTION Terminals",
+        b"SECTION Graph",
+        12,
+        Reason::RepeatedSection,
+    ),
+    ("SECTION Terminals", b"33D32945", 12, Reason::BadLine),
+    (
+        "SECTION Terminals",
+        b"SECTION Terminals\nEND",
+        13,
+        Reason::BadLine,
+    ),
+    (
+        "SECTION Terminals",
+        b"SECTION Terminals\nT 1",
+        13,
+        Reason::BadLine,
+    ),
+    (
+        "Terminals 3\nT 1\nT 2\nT 3\n",
+        b"Terminals 0\n",
+        14,
+        Reason::NoTerminals,
+    ),
+    (
+        "Terminals 3\n",
+        b"Terminals 2000001\n",
+        13,
+        Reason::OutOfRange,
+    ),
+    ("Terminals 3\n", b"Terminals 2\n", 17, Reason::CountMismatch),
+    (
+        "Terminals 3\n",
+        b"Root 4\nTerminals 2\n",
+        18,
+        Reason::CountMismatch,
+    ),
+    (
+        "Terminals 3\n",
+        b"Root 4\nTerminals 3\n",
+        18,
+        Reason::RootNotTerminal,
+    ),
+    (
+        "Terminals 3\n",
+        b"Root 5\nTerminals 3\n",
+        13,
+        Reason::VertexRange,
+    ),
+    ("T 1\n", b"T 0\n", 14, Reason::VertexRange),
+    ("T 1\n", b"T 1 1\n", 14, Reason::BadLine),
+    ("T 1\n", b"A 1 2\n", 14, Reason::BadLine),
+    ("T 1\n", b"EOF\n", 14, Reason::Unclosed),
+    ("T 1\n", b"Terminals 3\n", 14, Reason::BadLine),
+    ("T 1\n", b"TP 1\n", 14, Reason::BadLine),
+    ("T 1\n", b"TP 5 0.5\n", 14, Reason::Fraction),
+    ("T 1\nT 2\n", b"TP 1 3\nTP 1 4\n", 15, Reason::RepeatedPrize),
+    (
+        "T 1\nT 2\n",
+        b"TP 1 3\nTP 1 1000000000001\n",
+        15,
+        Reason::OutOfRange,
+    ),
+    (
+        "T 1\nT 2\n",
+        b"TP 1 3\nTP 2 4\nRoot 1\n",
+        18,
+        Reason::RootNotTerminal,
+    ),
+    ("T 1\nT 2\n", b"Root 1\nT 2\nRoot x\n", 16, Reason::BadLine),
+    (
+        "Terminals 3\nT 1\nT 2\nT 3\n",
+        b"Root 1\nTerminals 0\n",
+        15,
+        Reason::RootNotTerminal,
+    ),
+];
+
+/// The star's file with this in the place of that.
+fn changed(rt: &impl AllocGlobal, from: &str, to: &[u8]) -> Result<Vec<u8>, Fail> {
+    let (before, behind) = STAR.split_once(from).ok_or("the file has no such part")?;
+    let mut text = Vec::new(rt.alloc());
+    text.extend_from_slice(before.as_bytes())?;
+    text.extend_from_slice(to)?;
+    text.extend_from_slice(behind.as_bytes())?;
+    Ok(text)
+}
+
+#[test]
+fn refuses_one_change(rt: HostRuntime) -> Result<(), Fail> {
+    for (from, to, line, reason) in CHANGES {
+        let text = changed(&rt, from, to)?;
+        assert_eq!(rt; fault_of(&rt, &text)?, (line, reason), "{to:?} for {from}");
+    }
+    Ok(())
+}
+
+#[test]
+fn reads_a_file_cut_behind_its_end(rt: HostRuntime) -> Result<(), Fail> {
+    for to in [
+        b"T 3\nEND".as_slice(),
+        b"T 3\nEND\nEOF\nE 1\n\xff",
+        b"T 3\r\nEND\r",
+    ] {
+        let text = changed(&rt, "T 3\nEND\nEOF\n", to)?;
+        let instance = read_stp(rt.alloc(), &text)?;
+        assert_eq!(rt; instance.links().len(), 6);
     }
     Ok(())
 }

@@ -1,48 +1,60 @@
-ghost use Rattle.std.specs.Prelude.{◌≡◌, ◌==◌, option_map, position};
-ghost use Rattle.stp_reader.specs.Reading.{cut};
+ghost use Rattle.std.specs.Prelude.{◌≡◌, ◌<◌, [], ◌∷◌, length, not, MatchOption, IfSome, position};
+ghost use Rattle.std.specs.List.{list_any};
+ghost use Rattle.stp_reader.specs.Lines.{is_blank, words, is_remark};
+ghost use Rattle.stp_reader.specs.Words.{is_magic};
 
-/// The index of the first such byte.
-fn index_of(bytes: &[u8], byte: u8) -> Option<usize>
-    ensures { result ≡ position (λ b. b == byte) bytes.now }
+use crate::keyword::is_word;
+
+// Whether a byte stands between words.
+fn is_blank(byte: u8) -> bool
+    ensures { result ≡ is_blank byte }
 {
-    bytes.iter().position(|b| *b == byte)
+    byte == b' ' || byte == b'\t'
 }
 
-/// The bytes before the first such byte, and those behind it.
-pub fn cut_at(bytes: &[u8], byte: u8) -> Option<(&[u8], &[u8])>
-    ensures { option_map (λ x. (x.0.now, x.1.now)) result ≡ cut byte bytes.now }
+// The index of the first byte that isn't blank.
+fn word_start(bytes: &[u8]) -> Option<usize>
+    ensures { result ≡ position (λ b. not (is_blank b)) bytes.now }
 {
-    let index = index_of(bytes, byte)?;
-    Some((&bytes[..index], &bytes[index + 1..]))
+    bytes.iter().position(|byte| !is_blank(*byte))
 }
 
-/// The words of a line from left to right. One space stands behind each word but the last.
-#[derive(Drop)]
-pub struct Words<'a> {
-    rest: &'a [u8],
+// The index of the first blank byte.
+fn blank_index(bytes: &[u8]) -> Option<usize>
+    ensures { result ≡ position (λ b. is_blank b) bytes.now }
+{
+    bytes.iter().position(|byte| is_blank(*byte))
 }
 
-impl<'a> Words<'a> {
-    pub fn of(line: &'a [u8]) -> Self
-        ensures { result.rest.now ≡ line.now }
-    {
-        Words { rest: line }
-    }
+/// The first word of a line, and what stands behind it.
+pub fn next_word(line: &[u8]) -> Option<(&[u8], &[u8])>
+    ensures word { MatchOption result (words line.now ≡ [])
+        (λ x. words line.now ≡ x.0.now ∷ words x.1.now) }
+    ensures shorter { IfSome result (λ x. length x.1.now < length line.now) }
+{
+    let start = word_start(line)?;
+    let rest = &line[start..];
+    let end = blank_index(rest).unwrap_or(rest.len());
+    Some(rest.split_at(end))
+}
 
-    /// The next word, unless it is the last.
-    pub fn next(&mut self) -> Option<&'a [u8]>
-        ensures { option_map (λ word. (word.now, self.new.rest.now)) result
-            ≡ cut 32 self.old.rest.now }
-    {
-        let (word, rest) = cut_at(self.rest, b' ')?;
-        self.rest = rest;
-        Some(word)
-    }
+/// Whether a word begins with #.
+pub fn is_remark(word: &[u8]) -> bool
+    ensures { result ≡ is_remark word.now }
+{
+    matches!(word, [b'#', ..])
+}
 
-    /// All that is left: the last word, unless it contains a space.
-    pub fn last(self) -> &'a [u8]
-        ensures { result.now ≡ self.entry.rest.now }
-    {
-        self.rest
+/// Whether one of the words of a line marks a header.
+pub fn has_magic(line: &[u8]) -> bool
+    ensures { result ≡ list_any is_magic (words line.now) }
+{
+    let mut rest = line;
+    while let Some((word, behind)) = next_word(rest) {
+        if is_word(word, b"33D32945") {
+            return true;
+        }
+        rest = behind;
     }
+    false
 }

@@ -1,0 +1,124 @@
+-- What a word says, by the least of its reasons.
+use Rattle.std.proofs.Common.{◌≡◌, ℕ, leb, ◌&&◌, Bool, true, false, cond, not, List, [], ◌∷◌, ◌++◌, Option, Some, None, Ok, Err, refl, sym, ap, ◌∙◌, append_assoc}
+use Rattle.std.specs.Prelude.{◌==◌}
+use Rattle.std.specs.List.{list_all}
+use Rattle.st_model.specs.declared.link.Link.{Link}
+use Rattle.st_model.specs.declared.need.Need.{Need}
+use Rattle.st_model.specs.declared.need.Need.TheVariants.{Pays}
+use Rattle.stp_reader.specs.declared.reason.Reason.{Reason}
+use Rattle.stp_reader.specs.declared.reason.Reason.TheVariants.{BadNumber, Fraction, OutOfRange, VertexRange, NoVertices, RepeatedPrize}
+use Rattle.stp_reader.specs.Reason.{code_of, lesser_of, least, when}
+use Rattle.stp_reader.specs.Amounts.{is_number, value, parts, is_amount, amount_value, count_reasons, nodes_reasons, vertex_reasons, amount_reasons}
+use Rattle.stp_reader.specs.Judged.{◌>>=◌, both, count, nodes, vertex, amount}
+use Rattle.stp_reader.specs.Judging.{link_of, prize_of}
+use Rattle.stp_reader.specs.Place.{link_said}
+use Rattle.stp_reader.specs.Reasons.{has_prize}
+use Rattle.stp_reader.proofs.Least.{answer, least-append, both_answer, then_answer}
+
+pub count_answer : (limit : ℕ) (word : List ℕ) → count limit word ≡ answer (least (count_reasons limit word)) (value word)
+unfolding count
+count_answer limit word = by_case (is_number word) (leb (value word) limit)
+  where
+    by_case : (b c : Bool) → cond b (cond c (Ok (value word)) (Err OutOfRange)) (Err BadNumber) ≡ answer (least (cond b (when (not c) OutOfRange) (BadNumber ∷ []))) (value word)
+    by_case true true = refl
+    by_case true false = refl
+    by_case false c = refl
+
+pub nodes_answer : (word : List ℕ) → nodes word ≡ answer (least (nodes_reasons word)) (value word)
+unfolding nodes count
+nodes_answer word = by_case (value word) (is_number word) (leb (value word) 1000000) (value word == 0) refl
+  where
+    by_case : (v : ℕ) (b c z : Bool) → (v == 0) ≡ z → (cond b (cond c (Ok v) (Err OutOfRange)) (Err BadNumber) >>= λ n. cond (n == 0) (Err NoVertices) (Ok n)) ≡ answer (least (cond b (when (not c) OutOfRange) (BadNumber ∷ []) ++ when (b && z) NoVertices)) v
+    by_case v true true true e = rw e refl
+    by_case v true true false e = rw e refl
+    by_case v true false true e = refl
+    by_case v true false false e = refl
+    by_case v false c z e = refl
+
+pub vertex_answer : (n : ℕ) (word : List ℕ) → vertex n word ≡ answer (least (vertex_reasons n word)) (value word)
+unfolding vertex
+vertex_answer n word = by_case (is_number word) (leb 1 (value word) && leb (value word) n)
+  where
+    by_case : (b c : Bool) → cond b (cond c (Ok (value word)) (Err VertexRange)) (Err BadNumber) ≡ answer (least (cond b (when (not c) VertexRange) (BadNumber ∷ []))) (value word)
+    by_case true true = refl
+    by_case true false = refl
+    by_case false c = refl
+
+pub amount_answer : (word : List ℕ) → amount word ≡ answer (least (amount_reasons word)) (amount_value word)
+unfolding amount
+amount_answer word = by_case (is_amount word) (list_all (λ c. c == 48) (parts word).1) (leb (amount_value word) 1000000000000)
+  where
+    by_case : (b z c : Bool) → cond b (cond z (cond c (Ok (amount_value word)) (Err OutOfRange)) (Err Fraction)) (Err BadNumber) ≡ answer (least (cond b (when (not z) Fraction ++ when (not c) OutOfRange) (BadNumber ∷ []))) (amount_value word)
+    by_case true true true = refl
+    by_case true true false = refl
+    by_case true false true = refl
+    by_case true false false = refl
+    by_case false z c = refl
+
+-- the link of what three words say
+abbrev link_from : ℕ × (ℕ × ℕ) → Link
+link_from l = record { a = l.0; b = l.1.0; cost = l.1.1 }
+
+pub link_answer : (n : ℕ) (u v c : List ℕ) → link_of n u v c ≡ answer (least (vertex_reasons n u ++ vertex_reasons n v ++ amount_reasons c)) (link_said u v c)
+link_answer n u v c =
+    let two : ℕ × ℕ = (value v, amount_value c) in
+    let three : ℕ × (ℕ × ℕ) = (value u, two) in
+    let judged : link_of n u v c ≡ answer (least (vertex_reasons n u ++ (vertex_reasons n v ++ amount_reasons c))) (link_from three) =
+    rw (vertex_answer n u, vertex_answer n v, amount_answer c, both_answer (vertex_reasons n v) (amount_reasons c) (value v) (amount_value c), both_answer (vertex_reasons n u) (vertex_reasons n v ++ amount_reasons c) (value u) two)
+    (then_answer (least (vertex_reasons n u ++ (vertex_reasons n v ++ amount_reasons c))) three link_from) in
+    judged ∙ ap (λ (rs : List Reason). answer (least rs) (link_from three)) (sym (append_assoc (vertex_reasons n u) (vertex_reasons n v) (amount_reasons c)))
+
+-- ---- a second prize is the greatest reason of its line
+
+abbrev IsLow : Option Reason → Type 0
+IsLow None = Unit {0}
+IsLow (Some r) = leb (code_of r) 11 ≡ true
+
+IsLow-lesser : (a b : Option Reason) → IsLow a → IsLow b → IsLow (lesser_of a b)
+IsLow-lesser None b h k = k
+IsLow-lesser (Some r) None h k = h
+IsLow-lesser (Some r) (Some q) h k = by_case (leb (code_of r) (code_of q))
+  where
+    by_case : (test : Bool) → leb (code_of (cond test r q)) 11 ≡ true
+    by_case true = h
+    by_case false = k
+
+vertex_low : (n : ℕ) (word : List ℕ) → IsLow (least (vertex_reasons n word))
+vertex_low n word = by_case (is_number word) (leb 1 (value word) && leb (value word) n)
+  where
+    by_case : (b c : Bool) → IsLow (least (cond b (when (not c) VertexRange) (BadNumber ∷ [])))
+    by_case true true = tt
+    by_case true false = refl
+    by_case false c = refl
+
+amount_low : (word : List ℕ) → IsLow (least (amount_reasons word))
+amount_low word = by_case (is_amount word) (list_all (λ c. c == 48) (parts word).1) (leb (amount_value word) 1000000000000)
+  where
+    by_case : (b z c : Bool) → IsLow (least (cond b (when (not z) Fraction ++ when (not c) OutOfRange) (BadNumber ∷ [])))
+    by_case true true true = tt
+    by_case true true false = refl
+    by_case true false true = refl
+    by_case true false false = refl
+    by_case false z c = refl
+
+-- the need of what two words say
+abbrev prize_from : ℕ × ℕ → ℕ × Need
+prize_from e = (e.0, Pays e.1)
+
+-- behind what a vertex and an amount say
+second_prize : (o : Option Reason) (e : ℕ × ℕ) (test : ℕ → Bool) (h : Bool) → IsLow o → test e.0 ≡ h → (answer o e >>= λ d. cond (test d.0) (Err RepeatedPrize) (Ok (prize_from d))) ≡ answer (lesser_of o (least (when (test e.0) RepeatedPrize))) (prize_from e)
+second_prize None e test true low is = rw is refl
+second_prize None e test false low is = rw is refl
+second_prize (Some r) e test true low is = rw (is, low) refl
+second_prize (Some r) e test false low is = rw is refl
+
+pub prize_answer : (n : ℕ) (needs : List (ℕ × Need)) (v p : List ℕ) → prize_of n needs v p ≡ answer (least (vertex_reasons n v ++ amount_reasons p ++ when (has_prize needs (value v)) RepeatedPrize)) (value v, Pays (amount_value p))
+prize_answer n needs v p =
+    let own = vertex_reasons n v ++ amount_reasons p in
+    let third = when (has_prize needs (value v)) RepeatedPrize in
+    let said : ℕ × ℕ = (value v, amount_value p) in
+    let low : IsLow (least own) = rw (least-append (vertex_reasons n v) (amount_reasons p)) (IsLow-lesser (least (vertex_reasons n v)) (least (amount_reasons p)) (vertex_low n v) (amount_low p)) in
+    let all : least (own ++ third) ≡ lesser_of (least own) (least third) = least-append own third in
+    let both_say : both (vertex n v) (amount p) ≡ answer (least own) said = rw (vertex_answer n v, amount_answer p) (both_answer (vertex_reasons n v) (amount_reasons p) (value v) (amount_value p)) in
+    let judged : prize_of n needs v p ≡ answer (lesser_of (least own) (least third)) (prize_from said) = rw both_say (second_prize (least own) said (has_prize needs) (has_prize needs (value v)) low refl) in
+    judged ∙ ap (λ (o : Option Reason). answer o (prize_from said)) (sym all)

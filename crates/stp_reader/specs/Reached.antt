@@ -1,0 +1,144 @@
+-- How the stages of the reader stand for places, and what holds of what was read. Helpers' clauses cite this, and no public one.
+use Rattle.std.specs.Prelude.{◌≡◌, ℕ, ◌≤◌, ◌<◌, List, length, All, Result, Ok, Err}
+use Rattle.st_model.specs.declared.link.Link.{Link}
+use Rattle.st_model.specs.declared.need.Need.{Need}
+use Rattle.st_model.specs.Lists.{has}
+use Rattle.st_model.specs.Network.{IsVertex, prize}
+use Rattle.stp_reader.specs.declared.fault.LineError.{LineError}
+use Rattle.stp_reader.specs.declared.fault.LineError.TheVariants.{Refused, NoMemory}
+use Rattle.stp_reader.specs.declared.fault.ReadError.{ReadError}
+use Rattle.stp_reader.specs.declared.fault.ReadError.TheVariants.{Fault, NoMemory as NoMemoryToRead}
+use Rattle.stp_reader.specs.declared.form.Form.{Form as FormRead}
+use Rattle.stp_reader.specs.declared.form.Form.TheVariants.{Section, Nameless, Eof, End, Nodes, Edges, Edge, Arcs, Count, Terminal, Prize, Root, Other}
+use Rattle.stp_reader.specs.declared.reason.Reason.{Reason}
+use Rattle.stp_reader.specs.declared.stage.GraphPart.{GraphPart}
+use Rattle.stp_reader.specs.declared.stage.NeedsPart.{NeedsPart}
+use Rattle.stp_reader.specs.declared.stage.FilePart.{FilePart}
+use Rattle.stp_reader.specs.declared.stage.Ended.{Ended}
+use Rattle.stp_reader.specs.declared.stage.Ended.TheVariants.{Nothing, OneGraph, Whole}
+use Rattle.stp_reader.specs.declared.stage.Stage.{Stage}
+use Rattle.stp_reader.specs.declared.stage.Stage.TheVariants.{AtHeader, Outside, PassedOver, AtNodes, AtEdges, AtLinks, AtCount, AtNeeds, BehindEnd}
+use Rattle.stp_reader.specs.Forms.{Form, section_line, nameless_line, eof_line, end_line, nodes_line, edges_line, edge_line, arcs_line, count_line, terminal_line, prize_line, root_line, other_line}
+use Rattle.stp_reader.specs.Place.{Graph, File, Stated, nothing, graph, whole, Place, at_header, outside, passed_over, at_nodes, at_edges, at_links, at_count, at_needs, behind_end}
+use Rattle.stp_reader.specs.Reasons.{has_prize}
+
+-- what a function returned, seen by view, is what is said
+abbrev pub Says : {X Y : Type 0} → (X → Y) → Result X Reason → Result Y Reason → Type 0
+Says view (Ok x) said = said ≡ Ok (view x)
+Says view (Err r) said = said ≡ Err r
+
+-- the same, unless memory ran out
+abbrev pub Fails : {Y : Type 0} → LineError → Result Y Reason → Type 0
+Fails (Refused r) said = said ≡ Err r
+Fails NoMemory said = Unit {0}
+
+abbrev pub Gives : {X Y : Type 0} → (X → Y) → Result X LineError → Result Y Reason → Type 0
+Gives view (Ok x) said = said ≡ Ok (view x)
+Gives view (Err e) said = Fails e said
+
+-- why a file isn't read, if this was wrong at a line
+abbrev pub error_at : ℕ → LineError → ReadError
+error_at line (Refused r) = Fault (record { line = line; reason = r })
+error_at line NoMemory = NoMemoryToRead
+
+-- the fault is the one that is said, where it isn't memory
+abbrev pub IsFaultOf : {A : Type 0} → Result A (ℕ × Reason) → ReadError → Type 0
+IsFaultOf said (Fault f) = said ≡ Err (f.line, f.reason)
+IsFaultOf said NoMemoryToRead = Unit {0}
+
+-- the form that a line was found to have
+abbrev pub form_seen : FormRead → Form
+form_seen (Section name) = section_line name.now
+form_seen Nameless = nameless_line
+form_seen Eof = eof_line
+form_seen End = end_line
+form_seen (Nodes n) = nodes_line n.now
+form_seen (Edges m) = edges_line m.now
+form_seen (Edge u v c) = edge_line u.now v.now c.now
+form_seen Arcs = arcs_line
+form_seen (Count t) = count_line t.now
+form_seen (Terminal v) = terminal_line v.now
+form_seen (Prize v p) = prize_line v.now p.now
+form_seen (Root r) = root_line r.now
+form_seen Other = other_line
+
+-- ---- the place that a stage stands for
+
+abbrev pub graph_of : GraphPart → Graph
+graph_of g = record { n = g.vertices; links = g.links.items }
+
+abbrev pub file_from : FilePart → File
+file_from f = record { n = f.vertices; links = f.links.items; needs = f.needs.items }
+
+abbrev pub stated_of : Ended → Stated
+stated_of Nothing = nothing
+stated_of (OneGraph g) = graph (graph_of g)
+stated_of (Whole f) = whole (file_from f)
+
+abbrev pub place_of : Stage → Place
+place_of AtHeader = at_header
+place_of (Outside e) = outside (stated_of e)
+place_of (PassedOver e) = passed_over (stated_of e)
+place_of AtNodes = at_nodes
+place_of (AtEdges n) = at_edges n
+place_of (AtLinks g m) = at_links g.vertices m g.links.items
+place_of (AtCount g root) = at_count (graph_of g) root
+place_of (AtNeeds p) = at_needs (graph_of p.graph) p.count p.needs.items p.root
+place_of (BehindEnd f) = behind_end (file_from f)
+
+-- ---- what holds of what was read
+
+pub record IsCount (n : ℕ) : Type 0 where
+  pub some : 1 ≤ n
+  pub few : n ≤ 1000000
+
+-- the ends are vertices, also twice the same one, and the cost is at most 10^12
+pub record IsStatedLink (n : ℕ) (l : Link) : Type 0 where
+  pub first : IsVertex n l.a
+  pub second : IsVertex n l.b
+  pub cheap : l.cost ≤ 1000000000000
+
+-- what is stated of a vertex, and the prize is at most 10^12
+pub record IsStatedNeed (n : ℕ) (e : ℕ × Need) : Type 0 where
+  pub vertex : IsVertex n e.0
+  pub cheap : prize e.1 ≤ 1000000000000
+
+pub record AreLinks (n : ℕ) (links : List Link) : Type 0 where
+  pub count : IsCount n
+  pub fit : All (IsStatedLink n) links
+
+pub record IsGraph (n : ℕ) (links : List Link) : Type 0 where
+  pub are_links : AreLinks n links
+  pub few : length links ≤ 4000000
+
+-- the set holds the vertices that have a prize
+pub record AreNeeds (n : ℕ) (needs : List (ℕ × Need)) (below : ℕ) (paid : List ℕ) : Type 0 where
+  pub fit : All (IsStatedNeed n) needs
+  pub room : n < below
+  pub same : (v : ℕ) → has paid v ≡ has_prize needs v
+
+pub record IsFile (f : FilePart) : Type 0 where
+  pub graph : IsGraph f.vertices f.links.items
+  pub needs : All (IsStatedNeed f.vertices) f.needs.items
+  pub few : length f.needs.items ≤ 2000000
+
+abbrev pub IsEnded : Ended → Type 0
+IsEnded Nothing = Unit {0}
+IsEnded (OneGraph g) = IsGraph g.vertices g.links.items
+IsEnded (Whole f) = IsFile f
+
+pub record AreNeedsReached (p : NeedsPart) : Type 0 where
+  pub graph : IsGraph p.graph.vertices p.graph.links.items
+  pub few : p.count ≤ 2000000
+  pub needs : AreNeeds p.graph.vertices p.needs.items p.paid.count p.paid.members
+
+abbrev pub IsReached : Stage → Type 0
+IsReached AtHeader = Unit {0}
+IsReached (Outside e) = IsEnded e
+IsReached (PassedOver e) = IsEnded e
+IsReached AtNodes = Unit {0}
+IsReached (AtEdges n) = IsCount n
+IsReached (AtLinks g m) = AreLinks g.vertices g.links.items × (m ≤ 4000000)
+IsReached (AtCount g root) = IsGraph g.vertices g.links.items
+IsReached (AtNeeds p) = AreNeedsReached p
+IsReached (BehindEnd f) = IsFile f

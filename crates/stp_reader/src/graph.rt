@@ -1,0 +1,121 @@
+ghost use Rattle.std.specs.Prelude.{◌≡◌, ◌≤◌, IfOk};
+ghost use Rattle.stp_reader.specs.Forms.{edge_line, end_line};
+ghost use Rattle.stp_reader.specs.Judging.{reason_in_section, reason_in_graph, judge_nodes, judge_edges, link_of, judge_link};
+ghost use Rattle.stp_reader.specs.Reached.{Says, Gives, form_seen, place_of, IsStatedLink, IsCount, AreLinks, IsReached};
+
+use crate::Reason;
+use crate::fault::LineError;
+use crate::form::Form;
+use crate::numbers::{amount, count, nodes, vertex};
+use crate::reason::both;
+use crate::stage::{Ended, GraphPart, Stage};
+use st_model::Link;
+use std::alloc::Global;
+
+/// The greatest number of links that a file may state.
+const MAX_LINKS: u64 = 4_000_000;
+
+/// What is wrong with a line that may not stand at its place in a section.
+pub fn misplaced(form: Form) -> Reason
+    ensures { result ≡ reason_in_section (form_seen form.entry) }
+{
+    match form {
+        Form::Section(_) | Form::Nameless | Form::Eof => Reason::Unclosed,
+        _ => Reason::BadLine,
+    }
+}
+
+// What is wrong with a line that may not stand at its place in Graph.
+fn misplaced_in_graph(form: Form) -> Reason
+    ensures { result ≡ reason_in_graph (form_seen form.entry) }
+{
+    match form {
+        Form::Arcs => Reason::Directed,
+        _ => misplaced(form),
+    }
+}
+
+/// Behind the first line of Graph.
+pub fn nodes_line(form: Form) -> Result<Stage, Reason>
+    ensures place { Says place_of result (judge_nodes (form_seen form.entry)) }
+    ensures reached { IfOk result IsReached }
+{
+    match form {
+        Form::Nodes(word) => Ok(Stage::AtEdges(nodes(word)?)),
+        _ => Err(misplaced_in_graph(form)),
+    }
+}
+
+/// Behind the second line of Graph.
+pub fn edges_line(alloc: Global, vertices: u32, form: Form) -> Result<Stage, Reason>
+    requires { IsCount vertices }
+    ensures place { Says place_of result (judge_edges vertices (form_seen form.entry)) }
+    ensures reached { IfOk result IsReached }
+{
+    match form {
+        Form::Edges(word) => {
+            let count = count(word, MAX_LINKS)?;
+            let links = Vec::new(alloc);
+            Ok(Stage::AtLinks(GraphPart { vertices, links }, count))
+        }
+        _ => Err(misplaced_in_graph(form)),
+    }
+}
+
+// The link that three words say.
+fn link_of(vertices: u32, first: &[u8], second: &[u8], cost: &[u8]) -> Result<Link, Reason>
+    ensures link { result ≡ link_of vertices first.now second.now cost.now }
+    ensures in_range { IfOk result (IsStatedLink vertices) }
+{
+    let ends = vertex(second, vertices);
+    let (a, (b, cost)) = both(vertex(first, vertices), both(ends, amount(cost)))?;
+    Ok(Link { a, b, cost })
+}
+
+// The graph with the link of one more line.
+fn with_link(
+    mut graph: GraphPart,
+    count: u64,
+    first: &[u8],
+    second: &[u8],
+    cost: &[u8],
+) -> Result<Stage, LineError>
+    requires links { AreLinks graph.vertices graph.links.items }
+    requires few { count ≤ 4000000 }
+    ensures place { Gives place_of result
+        (judge_link graph.vertices count graph.links.items (edge_line first.now second.now cost.now)) }
+    ensures reached { IfOk result IsReached }
+{
+    let link = link_of(graph.vertices, first, second, cost)?;
+    graph.links.push(link)?;
+    Ok(Stage::AtLinks(graph, count))
+}
+
+// Behind the END of Graph.
+fn graph_end(graph: GraphPart, count: u64) -> Result<Stage, Reason>
+    requires links { AreLinks graph.vertices graph.links.items }
+    requires few { count ≤ 4000000 }
+    ensures place { Says place_of result
+        (judge_link graph.vertices count graph.links.items end_line) }
+    ensures reached { IfOk result IsReached }
+{
+    if graph.links.len() as u64 != count {
+        return Err(Reason::CountMismatch);
+    }
+    Ok(Stage::Outside(Ended::OneGraph(graph)))
+}
+
+/// Behind a further line of Graph.
+pub fn link_line(graph: GraphPart, count: u64, form: Form) -> Result<Stage, LineError>
+    requires links { AreLinks graph.vertices graph.links.items }
+    requires few { count ≤ 4000000 }
+    ensures place { Gives place_of result
+        (judge_link graph.vertices count graph.links.items (form_seen form.entry)) }
+    ensures reached { IfOk result IsReached }
+{
+    match form {
+        Form::Edge(first, second, cost) => with_link(graph, count, first, second, cost),
+        Form::End => Ok(graph_end(graph, count)?),
+        _ => Err(LineError::Refused(misplaced_in_graph(form))),
+    }
+}

@@ -1,0 +1,195 @@
+ghost use Rattle.std.specs.Prelude.{◌≡◌, ◌∷◌, IfOk};
+ghost use Rattle.stp_reader.specs.Lines.{words};
+ghost use Rattle.stp_reader.specs.Words.{keyword_of};
+ghost use Rattle.stp_reader.specs.Forms.{form_of};
+ghost use Rattle.stp_reader.specs.Judging.{judge_opening, judge_outside, judge_no_header, judge_passed, file_of, judge, judge_line, at_end};
+ghost use Rattle.stp_reader.specs.Reached.{Says, Gives, form_seen, stated_of, place_of, file_from, IsEnded, IsFile, IsReached};
+
+use crate::Reason;
+use crate::fault::LineError;
+use crate::form::{Form, form_of};
+use crate::graph::{edges_line, link_line, nodes_line};
+use crate::keyword::{SectionName, section_of};
+use crate::terminals::{count_line, need_line};
+use crate::words::{has_magic, is_remark, next_word};
+use st_model::{Link, Need, VertexSet};
+use std::alloc::Global;
+
+/// What a section Graph states, or has stated so far.
+#[derive(Drop)]
+pub struct GraphPart {
+    pub vertices: u32,
+    pub links: Vec<Link>,
+}
+
+/// What a section Terminals has stated so far, and the graph before it.
+#[derive(Drop)]
+pub struct NeedsPart {
+    pub graph: GraphPart,
+    /// How many terminals there are to be.
+    pub count: u64,
+    pub needs: Vec<(u32, Need)>,
+    /// The vertices that have a prize.
+    pub paid: VertexSet,
+    pub root: Option<u32>,
+}
+
+/// What a whole file states.
+#[derive(Drop)]
+pub struct FilePart {
+    pub vertices: u32,
+    pub links: Vec<Link>,
+    pub needs: Vec<(u32, Need)>,
+}
+
+/// What the sections that have ended state.
+#[derive(Drop)]
+pub enum Ended {
+    Nothing,
+    OneGraph(GraphPart),
+    Whole(FilePart),
+}
+
+/// What has been read, and so what may stand on the next line.
+#[derive(Drop)]
+pub enum Stage {
+    AtHeader,
+    Outside(Ended),
+    PassedOver(Ended),
+    AtNodes,
+    AtEdges(u32),
+    AtLinks(GraphPart, u64),
+    AtCount(GraphPart, Option<u32>),
+    AtNeeds(NeedsPart),
+    BehindEnd(FilePart),
+}
+
+// Behind the line that opens a section.
+fn opened(ended: Ended, name: SectionName) -> Result<Stage, Reason>
+    requires { IsEnded ended }
+    ensures place { Says place_of result (judge_opening (stated_of ended) name) }
+    ensures reached { IfOk result IsReached }
+{
+    match name {
+        SectionName::Passed => Ok(Stage::PassedOver(ended)),
+        SectionName::Unknown => Err(Reason::UnknownSection),
+        SectionName::Graph => match ended {
+            Ended::Nothing => Ok(Stage::AtNodes),
+            _ => Err(Reason::RepeatedSection),
+        },
+        SectionName::Terminals => match ended {
+            Ended::Nothing => Err(Reason::GraphFirst),
+            Ended::OneGraph(graph) => Ok(Stage::AtCount(graph, None)),
+            Ended::Whole(_) => Err(Reason::RepeatedSection),
+        },
+    }
+}
+
+// All that is stated, where both sections have stood.
+fn file_of(ended: Ended) -> Result<FilePart, Reason>
+    requires { IsEnded ended }
+    ensures file { Says file_from result (file_of (stated_of ended)) }
+    ensures reached { IfOk result IsFile }
+{
+    match ended {
+        Ended::Nothing => Err(Reason::NoGraph),
+        Ended::OneGraph(_) => Err(Reason::NoTerminals),
+        Ended::Whole(file) => Ok(file),
+    }
+}
+
+// Behind a line between sections.
+fn outside_line(ended: Ended, form: Form) -> Result<Stage, Reason>
+    requires { IsEnded ended }
+    ensures place { Says place_of result (judge_outside (stated_of ended) (form_seen form.entry)) }
+    ensures reached { IfOk result IsReached }
+{
+    match form {
+        Form::Section(name) => opened(ended, section_of(name)),
+        Form::Eof => Ok(Stage::BehindEnd(file_of(ended)?)),
+        _ => Err(Reason::BadLine),
+    }
+}
+
+// Behind the first line that says something, where it is no header.
+fn no_header(form: Form) -> Result<Stage, Reason>
+    ensures place { Says place_of result (judge_no_header (form_seen form.entry)) }
+    ensures reached { IfOk result IsReached }
+{
+    match form {
+        Form::Section(name) => opened(Ended::Nothing, section_of(name)),
+        Form::Nameless => Err(Reason::BadLine),
+        _ => Err(Reason::NoHeader),
+    }
+}
+
+// Behind a line of a section that is passed over.
+fn passed_line(ended: Ended, form: Form) -> Stage
+    requires { IsEnded ended }
+    ensures place { place_of result ≡ judge_passed (stated_of ended) (form_seen form.entry) }
+    ensures reached { IsReached result }
+{
+    match form {
+        Form::End => Stage::Outside(ended),
+        _ => Stage::PassedOver(ended),
+    }
+}
+
+// Behind a line that isn't skipped.
+#[tactic(auto, unfolding(crate::specs::Judging::judge_line))]
+fn behind_said(
+    alloc: Global,
+    stage: Stage,
+    line: &[u8],
+    word: &[u8],
+    args: &[u8],
+) -> Result<Stage, LineError>
+    requires reached { IsReached stage }
+    requires words { words line.now ≡ word.now ∷ words args.now }
+    ensures place { Gives place_of result (judge_line (place_of stage) (words line.now)) }
+    ensures reached { IfOk result IsReached }
+{
+    let form = form_of(word, args);
+    match stage {
+        Stage::AtHeader if has_magic(line) => Ok(Stage::Outside(Ended::Nothing)),
+        Stage::AtHeader => Ok(no_header(form)?),
+        Stage::Outside(ended) => Ok(outside_line(ended, form)?),
+        Stage::PassedOver(ended) => Ok(passed_line(ended, form)),
+        Stage::AtNodes => Ok(nodes_line(form)?),
+        Stage::AtEdges(vertices) => Ok(edges_line(alloc, vertices, form)?),
+        Stage::AtLinks(graph, count) => link_line(graph, count, form),
+        Stage::AtCount(graph, root) => count_line(alloc, graph, root, form),
+        Stage::AtNeeds(needs) => need_line(needs, form),
+        Stage::BehindEnd(file) => Ok(Stage::BehindEnd(file)),
+    }
+}
+
+/// What has been read with one more line.
+#[tactic(auto, unfolding(crate::specs::Judging::judge))]
+pub fn behind(alloc: Global, stage: Stage, line: &[u8]) -> Result<Stage, LineError>
+    requires { IsReached stage }
+    ensures place { Gives place_of result (judge (place_of stage) (words line.now)) }
+    ensures reached { IfOk result IsReached }
+{
+    let Some((word, args)) = next_word(line) else {
+        return Ok(stage);
+    };
+    if is_remark(word) {
+        return Ok(stage);
+    }
+    behind_said(alloc, stage, line, word, args)
+}
+
+/// All that is stated, behind the last line.
+pub fn at_end(stage: Stage) -> Result<FilePart, Reason>
+    requires { IsReached stage }
+    ensures file { Says file_from result (at_end (place_of stage)) }
+    ensures reached { IfOk result IsFile }
+{
+    match stage {
+        Stage::AtHeader => Err(Reason::NoHeader),
+        Stage::Outside(ended) => file_of(ended),
+        Stage::BehindEnd(file) => Ok(file),
+        _ => Err(Reason::Unclosed),
+    }
+}
