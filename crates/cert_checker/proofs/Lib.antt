@@ -1,0 +1,6 @@
+pub mod Places
+pub mod Paths
+pub mod Branches
+pub mod Walls
+pub mod Judged
+pub mod Judgements
