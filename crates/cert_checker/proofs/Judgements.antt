@@ -34,7 +34,7 @@ rejected_gives I log (Err (Fault f)) law judged line kind rejects =
 rejected_gives I log (Err NoMemory) law judged line kind rejects = inr refl
 
 -- what holds is what the verdict says
-holds_concludes : (I : Network) (claim : Claim) → Holds I claim → Concludes I (verdict_of claim)
+pub holds_concludes : (I : Network) (claim : Claim) → Holds I claim → Concludes I (verdict_of claim)
 holds_concludes I (claim.Found primal dual tree proof) holds = at (dual == primal) refl
   where
     at : (b : Bool) → (dual == primal) ≡ b → Concludes I (cond b (Optimal primal) (Bound dual primal))

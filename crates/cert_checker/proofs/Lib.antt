@@ -4,3 +4,4 @@ pub mod Branches
 pub mod Walls
 pub mod Judged
 pub mod Judgements
+pub mod Checks

@@ -1,19 +1,23 @@
 //! An independent checker of certificate logs.
 //!
-//! `judge` says what may be concluded of an instance from a log, or names the first check that
-//! fails. A caller may rely on both directions: a verdict comes exactly where the log is accepted,
-//! and what it says of trees, costs and bounds holds. It shares no code with the search for a tree.
+//! `check` reads an STP file and a log, and says what may be concluded; `judge` does so of an
+//! instance and a log that are read. A caller may rely on both directions, a verdict exactly where
+//! the log is accepted and else the first fault, and on the verdict, which is true of all trees.
 #![tactic(auto)]
 
+mod checking;
 mod fault;
 mod judging;
 mod line;
 mod path;
 mod proof;
+#[cfg(test)]
+mod tests;
 mod turn;
 mod verdict;
 mod wall;
 
-pub use fault::JudgeError;
+pub use checking::check;
+pub use fault::{CheckFault, JudgeError};
 pub use judging::judge;
 pub use verdict::Verdict;

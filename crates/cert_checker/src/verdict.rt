@@ -16,7 +16,7 @@ pub enum Verdict {
 
 impl Verdict {
     // The verdict on a claim that is accepted.
-    pub fn on(claim: &Claim) -> Self
+    pub(crate) fn on(claim: &Claim) -> Self
         ensures { result ≡ verdict_of claim.now }
     {
         match claim {
