@@ -1,15 +1,15 @@
 -- What splits lead to is a branch.
-use Rattle.std.proofs.Common.{◌≡◌, ℕ, zero, suc, ◌+◌, ◌<◌, ◌≤◌, Bool, true, false, cond, not, ◌&&◌, ◌||◌, List, [], ◌∷◌, length, ◌⊎◌, inl, inr, refl, sym, ap, subst, ◌∙◌, arith}
-use Rattle.std.specs.Prelude.{◌==◌, nat_lt, slice_index, IsTrue, IsFalse, All}
+use Rattle.std.proofs.Common.{◌≡◌, ℕ, zero, suc, ◌+◌, ◌<◌, Bool, true, false, cond, not, ◌&&◌, ◌||◌, List, [], ◌∷◌, length, ◌⊎◌, inl, inr, refl, sym, subst, ◌∙◌, arith}
+use Rattle.std.specs.Prelude.{◌==◌, nat_lt, slice_index, IsTrue, IsFalse}
 use Rattle.std.specs.List.{AllByRecursion}
 use Rattle.std.specs.List.Sorted.{IsStrictlyIncreasing}
-use Rattle.std.proofs.lemmas.Bool.{or_cases, eqb-true, both_ways, cases_Bool}
+use Rattle.std.proofs.lemmas.Bool.{or_cases, eqb-true, both_ways}
 use Rattle.std.proofs.lemmas.Bool.Decides.{nat_tests}
 use Rattle.std.proofs.lemmas.List.Elements.{recursion_from_All, All-from_recursion, All-nil}
 use Rattle.st_model.specs.declared.branch.Branch.{Branch}
 use Rattle.st_model.specs.Lists.{has}
 use Rattle.st_model.specs.Network.{Network, IsVertex}
-use Rattle.st_model.specs.Branch.{IsVertexSet, IsBranch, is_undecided, with_vertex, with_inside, with_outside}
+use Rattle.st_model.specs.Branch.{IsVertexSet, IsBranch, with_vertex, with_inside, with_outside}
 use Rattle.st_model.proofs.Halves.{has-with_vertex}
 use Rattle.cut_packing.specs.ProofTree.{IsSplit}
 use Rattle.log_format.specs.Accepts.{all_trees}
@@ -60,7 +60,7 @@ rises-with_vertex (x ∷ xs) v new h = at (nat_lt x v) refl (rises-with_vertex x
         rises-cons v (x ∷ xs) (λ some. grind (arith, nat_tests, e, other)) h
 
 -- what holds of all holds of them with a vertex of which it holds
-all-with_vertex : (P : ℕ → Type 0) (xs : List ℕ) (v : ℕ) → P v → AllByRecursion P xs → AllByRecursion P (with_vertex xs v)
+pub all-with_vertex : (P : ℕ → Type 0) (xs : List ℕ) (v : ℕ) → P v → AllByRecursion P xs → AllByRecursion P (with_vertex xs v)
 all-with_vertex P [] v here h = (here, tt)
 all-with_vertex P (x ∷ xs) v here h = at (nat_lt x v) (all-with_vertex P xs v here h.1)
   where

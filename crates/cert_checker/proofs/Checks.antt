@@ -1,5 +1,5 @@
 -- What is answered of a file and a log, by the laws of both.
-use Rattle.std.proofs.Common.{◌≡◌, ℕ, suc, ◌+◌, ◌^◌, ◌<◌, ◌≤◌, List, [], ◌∷◌, ◌++◌, ◌⊎◌, inl, inr, length, Result, Ok, Err, refl, sym, ap, subst, ◌∙◌, arith, length-append}
+use Rattle.std.proofs.Common.{◌≡◌, ℕ, ◌^◌, ◌<◌, ◌≤◌, List, [], ◌∷◌, inl, inr, length, Result, Ok, Err, refl, sym, ap, subst, ◌∙◌, arith, length-append}
 use Rattle.std.specs.Prelude.{IfOk, IsErrAnd}
 use Rattle.std.specs.List.{flat_map}
 use Rattle.st_model.specs.Network.{Network}
@@ -8,10 +8,9 @@ use Rattle.stp_reader.specs.Reads.{Reads, Refused}
 use Rattle.stp_reader.specs.Laws as file
 use Rattle.log_format.specs.declared.kind.Kind.{Kind}
 use Rattle.log_format.specs.declared.log.Log as log_type
-use Rattle.log_format.specs.Accepts.{Accepts, Rejects, AcceptedHolds}
+use Rattle.log_format.specs.Accepts.{Rejects, AcceptedHolds}
 use Rattle.log_format.specs.Laws.{OneSpelling, RefusedExactly, RejectedExactly}
-use Rattle.log_format.specs.Refused.{LogRefused}
-use Rattle.log_format.specs.Text.{IsLog, log_text, log_lines, ended}
+use Rattle.log_format.specs.Text.{log_text, log_lines, ended}
 use Rattle.cert_checker.specs.declared.fault.CheckFault.{CheckFault}
 use Rattle.cert_checker.specs.declared.fault.CheckFault.TheVariants.{Stp, Log, NoMemory}
 use Rattle.cert_checker.specs.declared.fault.JudgeError.{JudgeError}

@@ -1,17 +1,16 @@
 -- How far the lines of a proof are judged.
-use Rattle.std.proofs.Common.{◌≡◌, ℕ, zero, suc, ◌+◌, ◌<◌, ◌≤◌, Bool, true, List, [], ◌∷◌, ◌++◌, get_or, drop, drop-cons, add-one, Option, Some, None, inl, inr, length, map, refl, sym, ap, subst, ◌∙◌, arith, length-append}
+use Rattle.std.proofs.Common.{◌≡◌, ℕ, suc, ◌+◌, ◌<◌, true, List, [], ◌∷◌, get_or, drop, drop-cons, add-one, Some, None, inl, inr, length, refl, sym, ap, subst, ◌∙◌, arith, length-append}
 use Rattle.std.proofs.lemmas.List.{length-map}
 use Rattle.std.specs.List.{flat_map}
 use Rattle.st_model.specs.declared.branch.Branch.{Branch}
 use Rattle.st_model.specs.Network.{Network}
 use Rattle.cut_packing.specs.declared.packing.Packing.{Packing}
 use Rattle.cut_packing.specs.Packing.{Fits, weight}
-use Rattle.cut_packing.specs.ProofTree.{IsSplit, Closes}
 use Rattle.log_format.specs.declared.kind.Kind.{Kind}
 use Rattle.log_format.specs.declared.kind.Kind.TheVariants.{TooLight}
 use Rattle.log_format.specs.declared.proof_line.ProofLine.{ProofLine}
 use Rattle.log_format.specs.declared.proof_line.ProofLine.TheVariants.{Split, Close}
-use Rattle.log_format.specs.Accepts.{all_trees, ProvesAll, IsFirstWrong, FailsFirst}
+use Rattle.log_format.specs.Accepts.{all_trees, ProvesAll, IsFirstWrong}
 use Rattle.log_format.specs.Preorder.{are_proofs, IsOneProof}
 use Rattle.log_format.specs.Text.{lines_of, cut_line}
 use Rattle.log_format.proofs.Preorders.{one_passes}

@@ -1,10 +1,10 @@
 -- What a judgement tells of a log, by the laws of logs.
-use Rattle.std.proofs.Common.{◌≡◌, ℕ, ◌+◌, ◌≤◌, Bool, true, false, cond, List, [], ◌∷◌, length, inl, inr, Result, Ok, Err, refl, sym, ap, subst, ◌∙◌, arith}
+use Rattle.std.proofs.Common.{◌≡◌, ℕ, Bool, true, false, cond, List, [], ◌∷◌, inl, inr, Result, Ok, Err, refl, sym, ap, subst}
 use Rattle.std.specs.Prelude.{◌==◌, IfOk, IfErr}
 use Rattle.std.proofs.lemmas.Bool.{eqb-true}
 use Rattle.st_model.specs.declared.tree.Tree.{Tree}
 use Rattle.st_model.specs.Network.{Network}
-use Rattle.st_model.specs.Arborescence.{IsBound, cost}
+use Rattle.st_model.specs.Arborescence.{IsBound}
 use Rattle.log_format.specs.declared.kind.Kind.{Kind}
 use Rattle.log_format.specs.declared.log.Log.{Log}
 use Rattle.log_format.specs.declared.log.Claim.{Claim}

@@ -1,6 +1,7 @@
 -- The way from the branch of all trees to one of the open branches. Helpers' clauses cite this, and no public one.
 use Rattle.std.specs.Prelude.{ℕ, nat_lt, if◌then◌else◌, List, [], ◌∷◌, Option, Some, None}
 use Rattle.std.specs.List.{prefix_len}
+use Rattle.std.specs.List.Sorted.{IsNonDecreasing}
 use Rattle.st_model.specs.declared.branch.Branch.{Branch}
 use Rattle.st_model.specs.Network.{Network}
 use Rattle.st_model.specs.Branch.{with_inside, with_outside}
@@ -46,6 +47,11 @@ next_path (Outside v ∷ path) = next_path path
 abbrev pub AreSplits : Network → List Turn → Type 0
 AreSplits I [] = Unit {0}
 AreSplits I (turn ∷ path) = IsSplit I (branch_of path) (vertex_of turn) × AreSplits I path
+
+-- both sets are written in order
+pub record IsInOrder (B : Branch) : Type 0 where
+  pub inside : IsNonDecreasing B.inside
+  pub outside : IsNonDecreasing B.outside
 
 -- how many vertices stand before the first one that isn't below v
 abbrev pub place_of : List ℕ → ℕ → ℕ

@@ -1,7 +1,9 @@
 ghost use Rattle.std.specs.Prelude.{◌≡◌, ◌↔◌, ◌∷◌, length, IsTrue, IfOk, OnOk, IfErr};
+ghost use Rattle.std.specs.List.Sorted.{IsNonDecreasing};
+ghost use Rattle.st_model.specs.Lists.{has};
 ghost use Rattle.cut_packing.specs.ProofTree.{IsSplit, Closes};
 ghost use Rattle.log_format.specs.Text.{lines_of};
-ghost use Rattle.cert_checker.specs.Path.{branch_of, next_path, path_after, AreSplits};
+ghost use Rattle.cert_checker.specs.Path.{IsInOrder, branch_of, next_path, path_after, AreSplits};
 ghost use Rattle.cert_checker.specs.Judging.{IfFault, IsRightLine, IsWrongLine};
 
 use crate::JudgeError;
@@ -64,6 +66,7 @@ fn judge_split(
 
 // Whether a branch can be split at a vertex.
 fn is_split(instance: &Instance, branch: &Branch, vertex: u32) -> bool
+    requires { IsInOrder branch.now }
     ensures { IsTrue result ↔ IsSplit instance.now branch.now vertex }
 {
     if vertex < 1 || instance.vertices() < vertex {
@@ -72,10 +75,18 @@ fn is_split(instance: &Instance, branch: &Branch, vertex: u32) -> bool
     if instance.need(vertex) == Need::Required {
         return false;
     }
-    if branch.inside.as_slice().contains(&vertex) {
+    if holds(branch.inside.as_slice(), vertex) {
         return false;
     }
-    !branch.outside.as_slice().contains(&vertex)
+    !holds(branch.outside.as_slice(), vertex)
+}
+
+// Whether an ascending list has a vertex.
+fn holds(vertices: &[u32], vertex: u32) -> bool
+    requires { IsNonDecreasing vertices.now }
+    ensures { result ≡ has vertices.now vertex }
+{
+    vertices.binary_search(&vertex).is_ok()
 }
 
 // Judges a close. Where it is right, the path to the next branch that waits.

@@ -1,6 +1,7 @@
 ghost use Rattle.std.specs.Prelude.{◌≡◌, ◌+◌, ◌≤◌, [], ◌∷◌, length, IfOk, MatchOption};
+ghost use Rattle.std.specs.List.Sorted.{IsNonDecreasing};
 ghost use Rattle.st_model.specs.Branch.{with_vertex};
-ghost use Rattle.cert_checker.specs.Path.{branch_of, next_path, turned, turned_back, place_of, without};
+ghost use Rattle.cert_checker.specs.Path.{IsInOrder, branch_of, next_path, turned, turned_back, place_of, without};
 
 use crate::turn::Turn;
 use st_model::{Branch, Listed};
@@ -89,6 +90,7 @@ impl Path {
 
 // The half of a branch that a turn goes into.
 fn turned(branch: Branch, turn: Turn) -> Result<Branch, AllocError>
+    requires { IsInOrder branch }
     ensures { IfOk result (λ half. half ≡ turned branch turn) }
 {
     match turn {
@@ -105,6 +107,7 @@ fn turned(branch: Branch, turn: Turn) -> Result<Branch, AllocError>
 
 // The branch whose half a turn went into.
 fn turned_back(branch: Branch, turn: Turn) -> Branch
+    requires { IsInOrder branch }
     ensures { result ≡ turned_back branch turn }
 {
     match turn {
@@ -121,14 +124,16 @@ fn turned_back(branch: Branch, turn: Turn) -> Branch
 
 // How many vertices an ascending list has below one.
 fn place_of(vertices: &[u32], vertex: u32) -> usize
+    requires { IsNonDecreasing vertices.now }
     ensures value { result ≡ place_of vertices.now vertex }
     ensures in_range { result ≤ length vertices.now }
 {
-    vertices.iter().take_while(|other| **other < vertex).count()
+    vertices.partition_point(|other| *other < vertex)
 }
 
 // The list with a vertex in its place.
 fn with(list: Listed<u32>, vertex: u32) -> Result<Listed<u32>, AllocError>
+    requires { IsNonDecreasing list }
     ensures { IfOk result (λ more. more ≡ with_vertex list vertex) }
 {
     let mut vertices = list.into_vec();
@@ -139,6 +144,7 @@ fn with(list: Listed<u32>, vertex: u32) -> Result<Listed<u32>, AllocError>
 
 // The list but for the vertex in this one's place.
 fn without(list: Listed<u32>, vertex: u32) -> Listed<u32>
+    requires { IsNonDecreasing list }
     ensures { result ≡ without list vertex }
 {
     let mut vertices = list.into_vec();

@@ -1,4 +1,4 @@
-use Rattle.std.proofs.Common.{◌≡◌, List, [], ◌∷◌, subst}
+use Rattle.std.proofs.Common.{List, [], ◌∷◌, subst}
 use Rattle.std.specs.Prelude.{IfErr}
 use Rattle.log_format.specs.declared.proof_line.ProofLine.{ProofLine}
 use Rattle.log_format.specs.Accepts.{all_trees, IsFirstWrong}

@@ -1,4 +1,4 @@
-use Rattle.std.proofs.Common.{◌≡◌, ◌<◌, sym, subst, arith}
+use Rattle.std.proofs.Common.{◌≡◌, ◌<◌, subst, arith}
 use Rattle.st_model.specs.declared.branch.Branch.{Branch}
 use Rattle.cut_packing.specs.Packing.{Fits, weight}
 use Rattle.cert_checker.specs.Path.{branch_of}

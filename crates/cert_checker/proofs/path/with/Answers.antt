@@ -1,4 +1,3 @@
-use Rattle.std.proofs.Common.{sym, ◌∙◌}
 use Rattle.cert_checker.proofs.Places.{with_vertex-insert}
 use Rattle.cert_checker.proofs.path.with.Goals as goal
 

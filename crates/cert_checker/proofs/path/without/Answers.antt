@@ -1,4 +1,4 @@
-use Rattle.std.proofs.Common.{◌≡◌, ◌≤◌, sym, ◌∙◌, length, List, ℕ, subst, arith}
+use Rattle.std.proofs.Common.{◌≡◌, ◌≤◌, length, List, ℕ, subst, arith}
 use Rattle.cert_checker.specs.Path.{place_of}
 use Rattle.cert_checker.proofs.Places.{without-remove, remove_past}
 use Rattle.cert_checker.proofs.path.without.Goals as goal
