@@ -1,4 +1,4 @@
-ghost use Rattle.std.specs.Prelude.{◌≡◌, ℕ, Ok, Err, IfOk};
+ghost use Rattle.std.specs.Prelude.{ℕ, IfOk};
 ghost use Rattle.st_model.specs.Network.{Network};
 ghost use Rattle.stp_reader.specs.declared.reason.Reason.{Reason};
 ghost use Rattle.stp_reader.specs.Reads.{Reads, Refused};
