@@ -14,7 +14,7 @@ use Rattle.log_format.specs.declared.proof_line.ProofLine.{ProofLine}
 use Rattle.log_format.specs.declared.proof_line.ProofLine.TheVariants.{Split, Close}
 use Rattle.log_format.specs.Preorder.{preorder, are_proofs}
 use Rattle.log_format.specs.Text.{IsProved}
-use Rattle.log_format.specs.Accepts.{all_trees, AcceptsClaim, FailsFirst, IsFirstWrong, RejectsClaim, proof_line}
+use Rattle.log_format.specs.Accepts.{all_trees, ProvesAll, AcceptsClaim, FailsFirst, IsFirstWrong, RejectsClaim, proof_line}
 use Rattle.log_format.specs.Laws.{RejectedExactly}
 use Rattle.log_format.proofs.Preorders.{preorders, one_passes}
 
@@ -35,7 +35,7 @@ passes at l is k (inr a) c others = others a.1
 -- ---- lines that are right
 
 -- each line is right, where these branches wait
-abbrev IsRight : Network → ℕ → List Branch → List ProofLine → Type 0
+abbrev pub IsRight : Network → ℕ → List Branch → List ProofLine → Type 0
 IsRight I x [] [] = Unit {0}
 IsRight I x [] (line ∷ lines) = ⊥
 IsRight I x (B ∷ Bs) [] = ⊥
@@ -82,6 +82,10 @@ proof_of : (I : Network) (x : ℕ) (B : Branch) (lines : List ProofLine) → Tre
 proof_of I x B lines ([], e, none) = absurd none
 proof_of I x B lines (p ∷ [], e, proved) = (p, e ∙ append-nil (preorder p), proved.0)
 proof_of I x B lines (p ∷ q ∷ ps, e, proved) = absurd proved.1
+
+-- lines that are right prove the bound of all trees
+pub right_proves : (I : Network) (x : ℕ) (lines : List ProofLine) → IsRight I x (all_trees ∷ []) lines → ProvesAll I x lines
+right_proves I x lines right = proof_of I x all_trees lines (trees_of I x (all_trees ∷ []) lines right)
 
 -- ---- the first line that is wrong
 
@@ -142,7 +146,7 @@ no_escape I (Found primal dual tree proof) one not_accepted none =
                 (λ is_below.
                     all_right I dual (all_trees ∷ []) (proof_line tree) proof (one_passes proof one)
                     (λ l k wrong. none l k (inr (is_tree, inr (is_cost, inr (is_below, wrong)))))
-                    (λ right. not_accepted (record { is_tree = is_tree; is_cost = is_cost; is_below = is_below; is_proved = proof_of I dual all_trees proof (trees_of I dual (all_trees ∷ []) proof right) }))
+                    (λ right. not_accepted (record { is_tree = is_tree; is_cost = is_cost; is_below = is_below; is_proved = right_proves I dual proof right }))
                     ),
                 refl,
                 refl,

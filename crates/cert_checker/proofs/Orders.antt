@@ -1,0 +1,99 @@
+-- The sets of a branch are written in order, and are searched by halves.
+use Rattle.std.proofs.Common.{◌≡◌, ℕ, zero, suc, ◌<◌, ◌≤◌, Bool, true, false, cond, ◌||◌, List, [], ◌∷◌, ◌⊎◌, inl, inr, length, get_or, Result, Ok, Err, refl, sym, arith}
+use Rattle.std.specs.Prelude.{◌==◌, nat_lt, IsTrue, IsFalse, is_ok, MatchResult}
+use Rattle.std.specs.Ordering.{nat_cmp}
+use Rattle.std.specs.List.{AllByRecursion, prefix_len}
+use Rattle.std.specs.List.Sorted.{IsNonDecreasing, IsPartitionPoint, IsBinarySearchResult}
+use Rattle.std.proofs.lemmas.Bool.{both_ways, cases_lt, cases_order}
+use Rattle.std.proofs.lemmas.Bool.Decides.{nat_tests}
+use Rattle.std.proofs.lemmas.List.Sums.{prefix_len_passes, prefix_len_stops, prefix_len-le-length}
+use Rattle.std.proofs.lemmas.List.Sorted.{searched}
+use Rattle.st_model.specs.Lists.{has}
+use Rattle.st_model.specs.Branch.{with_vertex}
+use Rattle.cert_checker.specs.declared.turn.Turn.{Turn}
+use Rattle.cert_checker.specs.declared.turn.Turn.TheVariants.{Inside, Outside}
+use Rattle.cert_checker.specs.Path.{IsInOrder, branch_of}
+use Rattle.cert_checker.proofs.Branches.{all-with_vertex}
+
+-- no number is above a later one
+abbrev Rises : List ℕ → Type 0
+Rises [] = Unit {0}
+Rises (x ∷ xs) = AllByRecursion (λ y. x ≤ y) xs × Rises xs
+
+-- what is below one is below what that one is below
+all_above : (x y : ℕ) (xs : List ℕ) → x ≤ y → AllByRecursion (λ z. y ≤ z) xs → AllByRecursion (λ z. x ≤ z) xs
+all_above x y [] low h = tt
+all_above x y (z ∷ xs) low h = let here : y ≤ z = h.0 in (omega arith, all_above x y xs low h.1)
+
+-- in order with one more
+rises_with : (xs : List ℕ) (v : ℕ) → Rises xs → Rises (with_vertex xs v)
+rises_with [] v h = (tt, tt)
+rises_with (x ∷ xs) v h = at (nat_lt x v) refl (rises_with xs v h.1)
+  where
+    at : (b : Bool) → nat_lt x v ≡ b → Rises (with_vertex xs v) → Rises (cond b (x ∷ with_vertex xs v) (v ∷ x ∷ xs))
+    at true e rest = (all-with_vertex (λ y. x ≤ y) xs v (grind (arith, nat_tests, e)) h.0, rest)
+    at false e rest = let low : v ≤ x = grind (arith, nat_tests, e) in ((low, all_above v x xs low h.0), h)
+
+-- by places
+at_place : (x : ℕ) (xs : List ℕ) (j d : ℕ) → j < length xs → AllByRecursion (λ y. x ≤ y) xs → x ≤ get_or xs j d
+at_place x [] j d below h = absurd (omega arith)
+at_place x (y ∷ ys) zero d below h = h.0
+at_place x (y ∷ ys) (suc j) d below h = at_place x ys j d (omega arith) h.1
+
+in_order : (xs : List ℕ) → Rises xs → IsNonDecreasing xs
+in_order [] h i j d low below = absurd (omega arith)
+in_order (x ∷ xs) h zero zero d low below = omega arith
+in_order (x ∷ xs) h zero (suc j) d low below = at_place x xs j d (omega arith) h.0
+in_order (x ∷ xs) h (suc i) zero d low below = absurd (omega arith)
+in_order (x ∷ xs) h (suc i) (suc j) d low below = in_order xs h.1 i j d (omega arith) (omega arith)
+
+both_rise : (path : List Turn) → Rises (branch_of path).inside × Rises (branch_of path).outside
+both_rise [] = (tt, tt)
+both_rise (Inside v ∷ path) = let before = both_rise path in (rises_with (branch_of path).inside v before.0, before.1)
+both_rise (Outside v ∷ path) = let before = both_rise path in (before.0, rises_with (branch_of path).outside v before.1)
+
+-- turns lead to sets in order
+pub branch_of-in_order : (path : List Turn) → IsInOrder (branch_of path)
+branch_of-in_order path =
+    let rise = both_rise path in
+    record { inside = in_order (branch_of path).inside rise.0; outside = in_order (branch_of path).outside rise.1 }
+
+-- a partition point is how many pass
+pub partition_is : (p : ℕ → Bool) (xs : List ℕ) (r : ℕ) → r ≤ length xs → IsPartitionPoint (λ y. p y ≡ true) (λ y. p y ≡ false) xs r → r ≡ prefix_len p xs
+partition_is p xs r bound point = at (cases_order r (prefix_len p xs))
+  where
+    at : (r ≡ prefix_len p xs) ⊎ ((r < prefix_len p xs) ⊎ (prefix_len p xs < r)) → r ≡ prefix_len p xs
+    at (inl same) = same
+    at (inr (inl less)) = absurd (both_ways (p (get_or xs r 0)) (point.1 r 0 (omega arith) (omega (arith, prefix_len-le-length p xs))) (prefix_len_passes p xs r 0 less))
+    at (inr (inr more)) = absurd (both_ways (p (get_or xs (prefix_len p xs) 0)) (prefix_len_stops p xs 0 (omega arith)) (point.0 (prefix_len p xs) 0 (omega arith) more))
+
+-- what is at no place isn't there
+none_has : (xs : List ℕ) (v : ℕ) → ((k : ℕ) → k < length xs → get_or xs k 0 ≡ v → ⊥) → IsFalse (has xs v)
+none_has [] v none = refl
+none_has (x ∷ xs) v none = at (x == v) refl (none_has xs v (λ k below same. none (suc k) (omega arith) same))
+  where
+    at : (b : Bool) → (x == v) ≡ b → IsFalse (has xs v) → (b || has xs v) ≡ false
+    at true e rest = absurd (none 0 (omega arith) (grind (arith, nat_tests, e)))
+    at false e rest = rest
+
+-- what is at a place is there
+some_has : (xs : List ℕ) (v i : ℕ) → i < length xs → get_or xs i 0 ≡ v → IsTrue (has xs v)
+some_has [] v i below same = absurd (omega arith)
+some_has (x ∷ xs) v zero below same = let e : (x == v) ≡ true = grind (arith, nat_tests, same) in rw e refl
+some_has (x ∷ xs) v (suc i) below same = at (x == v) (some_has xs v i (omega arith) same)
+  where
+    at : (b : Bool) → IsTrue (has xs v) → IsTrue (b || has xs v)
+    at true rest = refl
+    at false rest = rest
+
+-- a search by halves tells whether it is there
+pub search_has : (xs : List ℕ) (v : ℕ) (r : Result ℕ ℕ) → IsNonDecreasing xs → IsBinarySearchResult (λ y. nat_cmp y v) xs r → is_ok r ≡ has xs v
+search_has xs v r order found = at r (searched xs v r found (λ i j low below. order i j 0 low below))
+  where
+    at : (r : Result ℕ ℕ) → MatchResult r (λ i. (i < length xs) × (get_or xs i 0 ≡ v)) (λ i. (i ≤ length xs) × ((k : ℕ) → k < i → get_or xs k 0 < v) × ((k : ℕ) → i ≤ k → k < length xs → v < get_or xs k 0)) → is_ok r ≡ has xs v
+    at (Ok i) here = sym (some_has xs v i here.0 here.1)
+    at (Err i) here = sym (none_has xs v (λ k below same. differs k below same i here.1 here.2 (cases_lt k i)))
+      where
+        differs : (k : ℕ) → k < length xs → get_or xs k 0 ≡ v → (i : ℕ) → ((k : ℕ) → k < i → get_or xs k 0 < v) → ((k : ℕ) → i ≤ k → k < length xs → v < get_or xs k 0) → (k < i) ⊎ (i ≤ k) → ⊥
+        differs k below same i low high (inl side) = omega (arith, low k side)
+        differs k below same i low high (inr side) = omega (arith, high k side below)

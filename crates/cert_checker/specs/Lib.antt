@@ -1,0 +1,5 @@
+pub mod Path
+pub mod Verdict
+pub mod Judging
+pub mod Fault
+pub mod Checking

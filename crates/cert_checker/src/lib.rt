@@ -1,0 +1,23 @@
+//! An independent checker of certificate logs.
+//!
+//! `check` reads an STP file and a log, and says what may be concluded; `judge` does so of an
+//! instance and a log that are read. A caller may rely on both directions, a verdict exactly where
+//! the log is accepted and else the first fault, and on the verdict, which is true of all trees.
+#![tactic(auto)]
+
+mod checking;
+mod fault;
+mod judging;
+mod line;
+mod path;
+mod proof;
+#[cfg(test)]
+mod tests;
+mod turn;
+mod verdict;
+mod wall;
+
+pub use checking::check;
+pub use fault::{CheckFault, JudgeError};
+pub use judging::judge;
+pub use verdict::Verdict;

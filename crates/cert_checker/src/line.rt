@@ -1,0 +1,114 @@
+ghost use Rattle.std.specs.Prelude.{◌≡◌, ◌↔◌, ◌∷◌, length, IsTrue, IfOk, OnOk, IfErr};
+ghost use Rattle.std.specs.List.Sorted.{IsNonDecreasing};
+ghost use Rattle.st_model.specs.Lists.{has};
+ghost use Rattle.cut_packing.specs.ProofTree.{IsSplit, Closes};
+ghost use Rattle.log_format.specs.Text.{lines_of};
+ghost use Rattle.cert_checker.specs.Path.{IsInOrder, branch_of, next_path, path_after, AreSplits};
+ghost use Rattle.cert_checker.specs.Judging.{IfFault, IsRightLine, IsWrongLine};
+
+use crate::JudgeError;
+use crate::path::Path;
+use crate::turn::Turn;
+use cut_packing::{Packing, fits, weight};
+use log_format::{Kind, ProofLine};
+use st_model::{Branch, Instance, Need};
+use std::alloc::Global;
+
+// How many lines of the text a line of a proof takes.
+pub fn line_count(line: &ProofLine) -> u64
+    ensures { result ≡ length (lines_of line.now) }
+{
+    match line {
+        ProofLine::Split(_) => 1,
+        ProofLine::Close(packing) => 1 + packing.cuts.as_slice().len() as u64,
+    }
+}
+
+// Judges a line of a proof in the branch at the end of a path. Where it is right, the path to the
+// branch that the next line is of.
+pub fn judge_line(
+    alloc: Global,
+    instance: &Instance,
+    dual: u64,
+    number: u64,
+    path: Path,
+    line: &ProofLine,
+) -> Result<Option<Path>, JudgeError>
+    requires { AreSplits instance.now path }
+    ensures right { OnOk result (IsRightLine instance.now dual (branch_of path) line.now) }
+    ensures next { IfOk result (λ next. next ≡ path_after path line.now) }
+    ensures wrong { IfErr result (λ e. IfFault e
+        (IsWrongLine instance.now dual (branch_of path) number line.now)) }
+{
+    match line {
+        ProofLine::Split(vertex) => judge_split(instance, number, path, *vertex),
+        ProofLine::Close(packing) => judge_close(alloc, instance, dual, number, path, packing),
+    }
+}
+
+// Judges a split. Where it is right, the path to its half with the vertex inside.
+fn judge_split(
+    instance: &Instance,
+    number: u64,
+    path: Path,
+    vertex: u32,
+) -> Result<Option<Path>, JudgeError>
+    ensures right { OnOk result (IsSplit instance.now (branch_of path) vertex) }
+    ensures next { IfOk result (λ next. next ≡ Some (Turn.Inside vertex ∷ path)) }
+    ensures wrong { IfErr result (λ e. IfFault e
+        (IsWrongLine instance.now 0 (branch_of path) number (ProofLine.Split vertex))) }
+{
+    if !is_split(instance, path.branch(), vertex) {
+        return Err(JudgeError::at(number, Kind::BadSplit));
+    }
+    Ok(Some(path.push(Turn::Inside(vertex))?))
+}
+
+// Whether a branch can be split at a vertex.
+fn is_split(instance: &Instance, branch: &Branch, vertex: u32) -> bool
+    requires { IsInOrder branch.now }
+    ensures { IsTrue result ↔ IsSplit instance.now branch.now vertex }
+{
+    if vertex < 1 || instance.vertices() < vertex {
+        return false;
+    }
+    if instance.need(vertex) == Need::Required {
+        return false;
+    }
+    if holds(branch.inside.as_slice(), vertex) {
+        return false;
+    }
+    !holds(branch.outside.as_slice(), vertex)
+}
+
+// Whether an ascending list has a vertex.
+fn holds(vertices: &[u32], vertex: u32) -> bool
+    requires { IsNonDecreasing vertices.now }
+    ensures { result ≡ has vertices.now vertex }
+{
+    vertices.binary_search(&vertex).is_ok()
+}
+
+// Judges a close. Where it is right, the path to the next branch that waits.
+fn judge_close(
+    alloc: Global,
+    instance: &Instance,
+    dual: u64,
+    number: u64,
+    path: Path,
+    packing: &Packing,
+) -> Result<Option<Path>, JudgeError>
+    requires { AreSplits instance.now path }
+    ensures right { OnOk result (Closes instance.now (branch_of path) dual packing.now) }
+    ensures next { IfOk result (λ next. next ≡ next_path path) }
+    ensures wrong { IfErr result (λ e. IfFault e
+        (IsWrongLine instance.now dual (branch_of path) number (ProofLine.Close packing.now))) }
+{
+    if !fits(alloc, instance, path.branch(), packing)? {
+        return Err(JudgeError::at(number, Kind::BadPacking));
+    }
+    if weight(instance, path.branch(), packing) < u128::from(dual) {
+        return Err(JudgeError::at(number, Kind::TooLight));
+    }
+    Ok(path.close()?)
+}

@@ -1,0 +1,213 @@
+use super::*;
+use log_format::{Claim, Kind, Log, LogFault};
+use st_model::{Instance, Link, Listed, Need};
+use std::test::Fail;
+use stp_reader::{Reason, StpFault};
+
+/// A triangle of terminals whose sides cost 4, around a centre at 2 from each.
+const TRIANGLE: &str =
+    "33D32945 STP File, STP Format Version 1.0\nSECTION Graph\nNodes 4\nEdges 6\n\
+    E 1 4 2\nE 2 4 2\nE 3 4 2\nE 1 2 4\nE 2 3 4\nE 1 3 4\nEND\nSECTION Terminals\nTerminals 3\n\
+    T 1\nT 2\nT 3\nEND\nEOF\n";
+
+/// Its best tree, with a packing of the same value.
+const STAR: &str = "STEINERLOG 1\nCLAIM TREE 6 6\nTREE 1 3\nA 1 4\nA 4 2\nA 4 3\nSTEPS 0\nPROOF\n\
+    C 1 3\nU 2 2 1 2\nU 3 2 1 3\nU 2 2 3 2 3 4\nEND\n";
+
+/// The close of that log.
+const CLOSE: &str = "C 1 3\nU 2 2 1 2\nU 3 2 1 3\nU 2 2 3 2 3 4\n";
+
+/// Two vertices that may be left out for 3 and 4, joined at 5.
+const PRIZES: &str = "33D32945 STP File, STP Format Version 1.0\nSECTION Graph\nNodes 2\nEdges 1\n\
+    E 1 2 5\nEND\nSECTION Terminals\nTerminals 2\nTP 1 3\nTP 2 4\nEND\nEOF\n";
+
+/// The best tree stays at the second of them, as a split there shows.
+const STAYS: &str =
+    "STEINERLOG 1\nCLAIM TREE 3 3\nTREE 2 0\nSTEPS 0\nPROOF\nS 2\nC 2 1\nU 1 3 1 1\n\
+    C 0 0\nEND\n";
+
+/// Two terminals that aren't joined.
+const APART: &str = "33D32945 STP File, STP Format Version 1.0\nSECTION Graph\nNodes 3\nEdges 1\n\
+    E 1 2 7\nEND\nSECTION Terminals\nTerminals 2\nT 1\nT 3\nEND\nEOF\n";
+
+/// What is answered of a file and a log in which one part is changed.
+fn answer_of(
+    rt: &impl AllocGlobal,
+    stp: &str,
+    log: &str,
+    right: &str,
+    wrong: &str,
+) -> Result<Result<Verdict, CheckFault>, Fail> {
+    let (before, after) = log.split_once(right).ok_or("the log has no such part")?;
+    let text = format!(in rt.alloc(); "{before}{wrong}{after}")?;
+    Ok(check(rt.alloc(), stp.as_bytes(), text.as_bytes()))
+}
+
+/// A file, a log, a part of it and what stands there instead, and the verdict.
+const CONCLUDED: [(&str, &str, &str, &str, Verdict); 8] = [
+    (TRIANGLE, STAR, "END", "END", Verdict::Optimal(6)),
+    (
+        TRIANGLE,
+        STAR,
+        "6 6",
+        "6 5",
+        Verdict::Bound { dual: 5, primal: 6 },
+    ),
+    (
+        TRIANGLE,
+        STAR,
+        CLOSE,
+        "S 4\nC 1 3\nU 2 2 1 2\nU 3 2 1 3\nU 2 2 3 2 3 4\nC 1 2\nU 2 4 1 2\nU 3 4 1 3\n",
+        Verdict::Optimal(6),
+    ),
+    (PRIZES, STAYS, "END", "END", Verdict::Optimal(3)),
+    (
+        PRIZES,
+        STAYS,
+        "C 2 1\nU 1 3 1 1\n",
+        "S 1\nC 2 1\nU 1 5 1 1\nC 0 0\n",
+        Verdict::Optimal(3),
+    ),
+    (
+        PRIZES,
+        STAYS,
+        "C 0 0\n",
+        "S 1\nC 0 0\nC 0 0\n",
+        Verdict::Optimal(3),
+    ),
+    (
+        APART,
+        "STEINERLOG 1\nCLAIM NONE\nWALL 2 1 2\nEND\n",
+        "END",
+        "END",
+        Verdict::NoTree,
+    ),
+    (
+        APART,
+        "STEINERLOG 1\nCLAIM NONE\nWALL 2 1 2\nEND\n",
+        "2 1 2",
+        "1 3",
+        Verdict::NoTree,
+    ),
+];
+
+#[test]
+fn concludes(rt: HostRuntime) -> Result<(), Fail> {
+    for (stp, log, right, wrong, verdict) in CONCLUDED {
+        let answer = answer_of(&rt, stp, log, right, wrong)?;
+        assert_eq!(rt; answer, Ok(verdict), "at {wrong}");
+    }
+    Ok(())
+}
+
+/// A part of the star's log, what stands there instead, and the fault.
+const CHANGES: [(&str, &str, u64, Kind); 20] = [
+    ("6 6", "6 7", 2, Kind::DualAbovePrimal),
+    ("6 6", "7 6", 2, Kind::WrongCost),
+    ("6 6", "7 8", 2, Kind::WrongCost),
+    (
+        "TREE 1 3\nA 1 4\nA 4 2\nA 4 3\n",
+        "TREE 1 2\nA 1 4\nA 4 2\n",
+        3,
+        Kind::NotTree,
+    ),
+    ("TREE 1 3\nA 1 4\n", "TREE 5 3\nA 1 4\n", 3, Kind::NotTree),
+    ("U 2 2 1 2", "U 2 3 1 2", 9, Kind::BadPacking),
+    ("U 2 2 1 2", "U 3 2 1 2", 9, Kind::BadPacking),
+    ("U 2 2 1 2", "U 2 1 1 2", 9, Kind::TooLight),
+    ("C 1 3\n", "C 1 3\nC 1 3\n", 10, Kind::BadLine),
+    (
+        "END",
+        "C 1 3\nU 2 2 1 2\nU 3 2 1 3\nU 2 2 3 2 3 4\nEND",
+        13,
+        Kind::BadLine,
+    ),
+    ("END\n", "", 13, Kind::EndsEarly),
+    (
+        CLOSE,
+        "S 1\nC 1 3\nU 2 2 1 2\nU 3 2 1 3\nU 2 2 3 2 3 4\nC 0 0\n",
+        9,
+        Kind::BadSplit,
+    ),
+    ("STEINERLOG 1", "STEINERLOG 9", 1, Kind::BadLine),
+    ("6 6", "06 6", 2, Kind::BadLine),
+    (
+        "TREE 1 3\nA 1 4\nA 4 2\n",
+        "TREE 1 4\nA 1 4\nA 4 2\nA 4 2\n",
+        3,
+        Kind::NotTree,
+    ),
+    ("C 1 3", "C 1 4", 13, Kind::BadLine),
+    (
+        "U 2 2 1 2",
+        "U 2 18446744073709551615 1 2",
+        9,
+        Kind::BadPacking,
+    ),
+    ("U 2 2 1 2", "U 2 2 2 2 9", 9, Kind::BadPacking),
+    (CLOSE, "S 4\nS 4\nC 0 0\nC 0 0\nC 0 0\n", 10, Kind::BadSplit),
+    (
+        CLOSE,
+        "S 4\nC 1 3\nU 2 2 1 2\nU 3 2 1 3\nU 2 2 3 2 3 4\nC 0 0\n",
+        14,
+        Kind::TooLight,
+    ),
+];
+
+#[test]
+fn refuses_each_change(rt: HostRuntime) -> Result<(), Fail> {
+    for (right, wrong, line, kind) in CHANGES {
+        let answer = answer_of(&rt, TRIANGLE, STAR, right, wrong)?;
+        let fault = LogFault { line, kind };
+        assert_eq!(rt; answer, Err(CheckFault::Log(fault)), "at {wrong}");
+    }
+    Ok(())
+}
+
+#[test]
+fn names_the_fault_of_the_file_first(rt: HostRuntime) {
+    let stp = "33D32945 STP File, STP Format Version 1.0\nSECTION Graph\n";
+    let fault = StpFault {
+        line: 3,
+        reason: Reason::Unclosed,
+    };
+    let answer = check(rt.alloc(), stp.as_bytes(), b"");
+    assert_eq!(rt; answer, Err(CheckFault::Stp(fault)));
+    let fault = LogFault {
+        line: 1,
+        kind: Kind::EndsEarly,
+    };
+    let answer = check(rt.alloc(), TRIANGLE.as_bytes(), b"");
+    assert_eq!(rt; answer, Err(CheckFault::Log(fault)));
+}
+
+/// What is judged of a wall in the file of two terminals that aren't joined.
+fn judgement_of(rt: &impl AllocGlobal, wall: &[u32]) -> Result<Result<Verdict, JudgeError>, Fail> {
+    let links = [Link {
+        a: 1,
+        b: 2,
+        cost: 7,
+    }];
+    let needs = [(1, Need::Required), (3, Need::Required)];
+    let instance = Instance::build(rt.alloc(), 3, &links, &needs)?;
+    let log = Log {
+        claim: Claim::NoTree {
+            wall: Listed::of(Vec::from_slice(rt.alloc(), wall)?),
+        },
+    };
+    Ok(judge(rt.alloc(), &instance, &log))
+}
+
+#[test]
+fn judges_walls(rt: HostRuntime) -> Result<(), Fail> {
+    let bad = JudgeError::Fault(LogFault {
+        line: 3,
+        kind: Kind::BadWall,
+    });
+    assert_eq!(rt; judgement_of(&rt, &[1, 2])?, Ok(Verdict::NoTree));
+    assert_eq!(rt; judgement_of(&rt, &[3])?, Ok(Verdict::NoTree));
+    for wall in [[1, 1], [2, 2], [1, 3], [2, 3], [3, 4], [0, 3]] {
+        assert_eq!(rt; judgement_of(&rt, &wall)?, Err(bad));
+    }
+    Ok(())
+}
