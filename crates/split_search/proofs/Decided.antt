@@ -15,7 +15,7 @@ use Rattle.cut_packing.specs.Packing.{Fits, weight}
 use Rattle.cut_packing.proofs.Duality.{weak_duality_lem, certain_reached}
 use Rattle.level_packing.specs.Forest.{IsPresent}
 use Rattle.level_packing.specs.Spanning.{IsSpanning}
-use Rattle.split_search.specs.Open.{IsDecided}
+use Rattle.split_search.specs.Node.{IsDecided}
 
 -- a present vertex that isn't free is required or inside
 pub certain_where_decided : (I : Network) (B : Branch) → IsDecided I B → (v : ℕ) → IsPresent I B v → IsTrue (is_certain I B v)

@@ -1,7 +1,7 @@
 use Rattle.std.specs.Prelude.{ℕ, IsFalse}
 use Rattle.st_model.specs.Network.{IsVertex}
-use Rattle.split_search.specs.Open.{is_free}
-use Rattle.split_search.proofs.deciding.first_in_neither.Given as goal
+use Rattle.split_search.specs.Node.{is_free}
+use Rattle.split_search.proofs.deciding.first_free.Given as goal
 
 -- none of the vertices so far is free
 abbrev pub invariant-loop-before : goal.invariant-loop-before
