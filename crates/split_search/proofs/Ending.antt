@@ -15,6 +15,7 @@ use Rattle.level_packing.specs.Forest.{IsPresent}
 use Rattle.cut_packing.specs.declared.cut.Cut.{Cut}
 use Rattle.cut_packing.specs.declared.packing.Packing.{Packing}
 use Rattle.cut_packing.specs.Packing.{CutFits, outside_pays, weight}
+use Rattle.cut_packing.specs.ProofTree.{ProofTree, Proves}
 use Rattle.log_format.specs.declared.proof_line.ProofLine.{ProofLine}
 use Rattle.log_format.specs.Accepts.{AcceptsFound, all_trees}
 use Rattle.log_format.specs.Text.{IsWritableCut, IsWritableLine, IsWritableFound}
@@ -22,10 +23,12 @@ use Rattle.split_search.specs.declared.node.Node.{Node}
 use Rattle.split_search.specs.declared.searched.Searched.{Searched}
 use Rattle.std.specs.declared.alloc.AllocError.{AllocError}
 use Rattle.split_search.specs.Node.{IsNode, free_count, turns, turns_of}
-use Rattle.split_search.specs.Progress.{IsUnderWay, IsClosing}
-use Rattle.split_search.specs.Searched.{IsNobodyRequired, IsSpent, IsSearched, free_vertices}
+use Rattle.split_search.specs.Progress.{IsUnderWay, IsClosing, lowest}
+use Rattle.split_search.specs.Searched.{IsNobodyRequired, IsSpent, IsGreatestBound, IsSearched, free_vertices}
 use Rattle.split_search.proofs.Turns.{free_at_first, turns_below}
 use Rattle.split_search.proofs.Continuing.{continues_at_first, continues_at_last}
+use Rattle.split_search.proofs.Steps.{lowest_below}
+use Rattle.split_search.proofs.Proved.{one_proof, proved_below}
 use Rattle.split_search.proofs.Writing.{writable_tree}
 
 -- all trees, with no cut
@@ -71,13 +74,21 @@ begins I root start least is_all is_empty instance tree is_cost cheap = record {
 
 pub ends_accepted : (I : Network) (best : Tree) (least : ℕ) (first : List ProofLine) (left : List Node) (lines : List ProofLine) (dual : ℕ) → IsTree I best → least ≡ cost I best → IsClosing I least first left lines [] dual → AcceptsFound I least dual best lines
 ends_accepted I best least first left lines dual tree is_cost k =
-    let p = continues_at_last I dual least k.closed lines k.continues in
-    record { is_tree = tree; is_cost = is_cost; is_below = k.low; is_proved = (p.proof, p.written, p.proves) }
+    let p = continues_at_last I dual least k.light lines k.continues in
+    record { is_tree = tree; is_cost = is_cost; is_below = omega (arith, k.low, lowest_below least k.light); is_proved = (p.proof, p.written, p.proves) }
+
+-- where the lines prove x, so does the one proof tree that they are
+pub ends_greatest : (I : Network) (least : ℕ) (first : List ProofLine) (left : List Node) (lines : List ProofLine) (dual : ℕ) → IsClosing I least first left lines [] dual → IsGreatestBound I least dual lines
+ends_greatest I least first left lines dual k x below (q, written, proves) =
+    let p = continues_at_last I dual least k.light lines k.continues in
+    let same : q ≡ p.proof = one_proof q p.proof (sym written ∙ p.written) in
+    let low = proved_below I all_trees x least least p.proof below (subst (λ (t : ProofTree). Proves I all_trees x t) same proves) in
+    omega (arith, low, ap (lowest least) p.weigh, k.low)
 
 pub ends_spent : (I : Network) (least : ℕ) (first : List ProofLine) (left : List Node) (lines : List ProofLine) (dual : ℕ) → IsClosing I least first left lines [] dual → IsSpent (length first) I least lines
 ends_spent I least first left lines dual k =
-    let p = continues_at_last I dual least k.closed lines k.continues in
-    (p.proof, p.written, omega (arith, p.few, k.more))
+    let p = continues_at_last I dual least k.light lines k.continues in
+    (p.proof, p.written, omega (arith, ap length p.weigh, k.few, k.more))
 
 -- what a tree costs is below all that could be paid
 cost_fits : (I : Network) (t : Tree) → IsInstance I → IsArborescence I t → cost I t < 2 ^ 63
@@ -89,7 +100,7 @@ cost_fits I t instance arborescence =
 pub ends_writable : (I : Network) (best : Tree) (least : ℕ) (first : List ProofLine) (left : List Node) (lines : List ProofLine) (dual : ℕ) → IsInstance I → IsTree I best → least ≡ cost I best → IsClosing I least first left lines [] dual → IsWritableFound least dual best lines
 ends_writable I best least first left lines dual instance tree is_cost k = record {
   primal_fits = omega (arith, is_cost, cost_fits I best instance tree.arborescence);
-  dual_fits = omega (arith, is_cost, cost_fits I best instance tree.arborescence, k.low);
+  dual_fits = omega (arith, is_cost, cost_fits I best instance tree.arborescence, k.low, lowest_below least k.light);
   tree_fits = writable_tree I best instance tree.arborescence;
   lines_fit = k.written;
 }
@@ -101,12 +112,13 @@ none_left I lines waiting best least budget u (inr spent) enough = absurd (omega
 
 -- where nothing is left, or else the budget is spent, the end is that of a search
 pub searched : (I : Network) (start : Tree) (budget : ℕ) (lines : List ProofLine) (waiting : List Node) (best : Tree) (least : ℕ) (r : Result Searched AllocError) → IsUnderWay I lines waiting best least → least ≤ cost I start → (waiting ≡ []) ⊎ (length lines ≡ budget)
-    → IfOk r (λ s. AcceptsFound I s.primal s.dual s.tree s.proof) → IfOk r (λ s. s.primal ≡ least) → (waiting ≡ [] → IfOk r (λ s. s.dual ≡ s.primal)) → IfOk r (λ s. IsSpent (length lines) I s.primal s.proof) → IfOk r (λ s. IsWritableFound s.primal s.dual s.tree s.proof)
+    → IfOk r (λ s. AcceptsFound I s.primal s.dual s.tree s.proof) → IfOk r (λ s. s.primal ≡ least) → IfOk r (λ s. IsGreatestBound I s.primal s.dual s.proof) → (waiting ≡ [] → IfOk r (λ s. s.dual ≡ s.primal)) → IfOk r (λ s. IsSpent (length lines) I s.primal s.proof) → IfOk r (λ s. IsWritableFound s.primal s.dual s.tree s.proof)
     → IfOk r (IsSearched I start budget)
-searched I start budget lines waiting best least (Err e) u no_worse ended accepted primal whole spent writable = tt
-searched I start budget lines waiting best least (Ok s) u no_worse ended accepted primal whole spent writable = record {
+searched I start budget lines waiting best least (Err e) u no_worse ended accepted primal greatest whole spent writable = tt
+searched I start budget lines waiting best least (Ok s) u no_worse ended accepted primal greatest whole spent writable = record {
   accepted = accepted;
   no_worse = omega (arith, primal, no_worse);
+  greatest = greatest;
   spent = λ below. by_case ended below;
   whole = λ enough. whole (none_left I lines waiting best least budget u ended enough);
   writable = writable;

@@ -6,4 +6,5 @@ pub mod Turns
 pub mod Continuing
 pub mod Writing
 pub mod Steps
+pub mod Proved
 pub mod Ending

@@ -1,5 +1,5 @@
 -- Each step of a search keeps what holds between two nodes.
-use Rattle.std.proofs.Common.{◌≡◌, ℕ, ◌+◌, ◌*◌, ◌^◌, ◌<◌, ◌≤◌, Bool, true, false, cond, not, ◌&&◌, ltb, List, [], ◌∷◌, ◌++◌, length, min, refl, sym, ap, subst, ◌∙◌, length-append, arith}
+use Rattle.std.proofs.Common.{◌≡◌, ℕ, ◌+◌, ◌*◌, ◌^◌, ◌<◌, ◌≤◌, Bool, true, false, cond, not, ◌&&◌, ltb, List, [], ◌∷◌, ◌++◌, length, min, append-nil, refl, sym, ap, subst, ◌∙◌, length-append, arith}
 use Rattle.std.specs.Prelude.{IsTrue, IsFalse, All}
 use Rattle.std.proofs.lemmas.Bool.{and_parts, false≢true}
 use Rattle.std.proofs.lemmas.Bool.Decides.{nat_tests}
@@ -18,11 +18,11 @@ use Rattle.log_format.specs.declared.proof_line.ProofLine.TheVariants.{Split, Cl
 use Rattle.log_format.specs.Text.{IsWritableLine, IsWritablePacking}
 use Rattle.split_search.specs.declared.node.Node.{Node}
 use Rattle.split_search.specs.Node.{IsNode, IsChoice, inside_half, outside_half, is_free}
-use Rattle.split_search.specs.Progress.{IsUnderWay, IsClosing}
+use Rattle.split_search.specs.Progress.{Continues, IsUnderWay, IsClosing, lowest}
 use Rattle.split_search.specs.Searched.{IsNobodyRequired}
 use Rattle.split_search.proofs.Halving.{inside_node, outside_node}
 use Rattle.split_search.proofs.Turns.{split_turns, close_turns}
-use Rattle.split_search.proofs.Continuing.{continues_closed, continues_split}
+use Rattle.split_search.proofs.Continuing.{light_of, continues_closed, continues_split}
 use Rattle.split_search.proofs.Writing.{any_vertex}
 
 all_front : {X : Type 0} (P : X → Type 0) (xs : List X) (x : X) → All P (xs ++ x ∷ []) → All P xs
@@ -37,16 +37,38 @@ all_push : {X : Type 0} (P : X → Type 0) (xs : List X) (x : X) → All P xs �
 all_push P xs x h last = All-append P xs (x ∷ []) h (All-cons P x [] last (All-nil P))
 
 -- a close of at least this weight isn't light
-not_light : (weighs primal : ℕ) → primal ≤ weighs → cond (ltb weighs primal) 1 0 ≤ 0
+not_light : (weighs primal : ℕ) → primal ≤ weighs → light_of weighs primal ≡ []
 not_light weighs primal le = by_case (ltb weighs primal) refl
   where
-    by_case : (b : Bool) → ltb weighs primal ≡ b → cond b 1 0 ≤ 0
+    by_case : (b : Bool) → ltb weighs primal ≡ b → cond b (weighs ∷ []) [] ≡ []
     by_case true is = absurd (grind (arith, nat_tests))
-    by_case false is = omega arith
+    by_case false is = refl
 
-one_at_most : (b : Bool) → cond b 1 0 ≤ 1
-one_at_most true = omega arith
-one_at_most false = omega arith
+lowest-append : (top w : ℕ) (ws : List ℕ) → lowest top (ws ++ w ∷ []) ≡ min (lowest top ws) w
+lowest-append top w [] = refl
+lowest-append top w (v ∷ ws) = lowest-append (min top v) w ws
+
+pub lowest_below : (top : ℕ) (ws : List ℕ) → lowest top ws ≤ top
+lowest_below top [] = omega arith
+lowest_below top (w ∷ ws) = omega (arith, lowest_below (min top w) ws)
+
+-- a weight that isn't light changes nothing
+lowest_with : (top w : ℕ) (ws : List ℕ) → min (lowest top ws) w ≡ lowest top (ws ++ light_of w top)
+lowest_with top w ws = by_case (ltb w top) refl
+  where
+    by_case : (b : Bool) → ltb w top ≡ b → min (lowest top ws) w ≡ lowest top (ws ++ cond b (w ∷ []) [])
+    by_case true is = sym (lowest-append top w ws)
+    by_case false is =
+        let above : top ≤ w = grind (arith, nat_tests) in
+        let low : min (lowest top ws) w ≡ lowest top ws = omega (arith, lowest_below top ws) in
+        low ∙ ap (lowest top) (sym (append-nil ws))
+
+few_light : (w top : ℕ) → length (light_of w top) ≤ 1
+few_light w top = by_case (ltb w top)
+  where
+    by_case : (b : Bool) → length (cond b (w ∷ []) []) ≤ 1
+    by_case true = omega arith
+    by_case false = omega arith
 
 -- a free vertex can be split at
 pub choice_splits : (I : Network) (B : Branch) (v : ℕ) → IsChoice I B v → IsSplit I B v
@@ -67,7 +89,7 @@ closed I lines Ns N best better least price P tree is_cost lower closes writable
   is_cost = is_cost;
   cheap = λ nobody. omega (arith, u.cheap nobody);
   nodes = all_front (IsNode I) Ns N u.nodes;
-  continues = λ primal below. continues_closed I primal primal 0 lines Ns N P primal 0 0 closes.fits (omega arith) (omega (arith, closes.weighs)) (not_light (weight I N.branch P) primal (omega (arith, closes.weighs))) refl (u.continues primal (omega arith));
+  continues = λ primal below. subst (λ (light : List ℕ). Continues I primal primal light (lines ++ Close P ∷ []) Ns) (not_light (weight I N.branch P) primal (omega (arith, closes.weighs))) (continues_closed I primal primal [] lines Ns N P primal closes.fits (omega arith) (omega (arith, closes.weighs)) (u.continues primal (omega arith)));
   turns_left = omega (arith, u.turns_left, close_turns I Ns N, length-append lines (Close P ∷ []));
   written = all_push IsWritableLine lines (Close P) u.written writable;
 }
@@ -99,7 +121,7 @@ split_keeps I lines Ns N M best least v h u =
       cheap = u.cheap;
       nodes = All-append (IsNode I) Ns (outside_half M v ∷ inside_half M v ∷ []) (all_front (IsNode I) Ns N u.nodes)
         (All-cons (IsNode I) (outside_half M v) (inside_half M v ∷ []) (outside_node I M v h.1 of_half) (All-cons (IsNode I) (inside_half M v) [] (inside_node I M v h.1 of_half) (All-nil (IsNode I))));
-      continues = λ primal below. continues_split I primal primal 0 lines Ns N (inside_half M v) (outside_half M v) v inner outer is_split (u.continues primal below);
+      continues = λ primal below. continues_split I primal primal [] lines Ns N (inside_half M v) (outside_half M v) v inner outer is_split (u.continues primal below);
       turns_left = omega (arith, u.turns_left, split_turns I Ns N (inside_half M v) (outside_half M v) v inner outer h.2.vertex h.2.free, length-append lines (Split v ∷ []));
       written = all_push IsWritableLine lines (Split v) u.written (any_vertex I v u.instance h.2.vertex);
     }
@@ -116,10 +138,11 @@ left_closes I least first left lines Ns N dual k =
       closed = k.closed + 1;
       count = omega (arith, k.count, length-append Ns (N ∷ []));
       more = omega (arith, k.more, length-append lines (Close N.packing ∷ []));
-      low = omega (arith, k.low, lower);
-      whole = λ none. absurd (omega (arith, none));
+      light = k.light ++ light_of weighs least;
+      few = omega (arith, k.few, few_light weighs least, length-append k.light (light_of weighs least));
+      low = ap (λ d. min d weighs) k.low ∙ lowest_with least weighs k.light;
       nodes = all_front (IsNode I) Ns N k.nodes;
-      continues = continues_closed I dual least k.closed lines Ns N N.packing (min dual weighs) 1 (k.closed + 1) node.fits lower lighter (one_at_most (ltb weighs least)) refl k.continues;
+      continues = continues_closed I dual least k.light lines Ns N N.packing (min dual weighs) node.fits lower lighter k.continues;
       written = all_push IsWritableLine lines (Close N.packing) k.written node.writable;
     }
 
@@ -129,8 +152,9 @@ none_closed I lines waiting best least u = record {
   closed = 0;
   count = omega arith;
   more = omega arith;
-  low = omega arith;
-  whole = λ none. refl;
+  light = [];
+  few = omega arith;
+  low = refl;
   nodes = u.nodes;
   continues = u.continues least (omega arith);
   written = u.written;

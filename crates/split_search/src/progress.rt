@@ -6,7 +6,7 @@ ghost use Rattle.log_format.specs.Accepts.{AcceptsFound};
 ghost use Rattle.log_format.specs.Text.{IsWritableFound};
 ghost use Rattle.split_search.specs.Node.{inside_half, outside_half};
 ghost use Rattle.split_search.specs.Progress.{IsUnderWay, IsClosing};
-ghost use Rattle.split_search.specs.Searched.{IsNobodyRequired, IsSpent};
+ghost use Rattle.split_search.specs.Searched.{IsGreatestBound, IsNobodyRequired, IsSpent};
 
 use crate::expanding::{Step, expand};
 use crate::node::{Node, halves, root};
@@ -119,6 +119,7 @@ impl Progress {
         requires { IsUnderWay instance.now self.lines.items self.waiting.items self.best self.least }
         ensures accepted { IfOk result (λ s. AcceptsFound instance.now s.primal s.dual s.tree s.proof) }
         ensures primal { IfOk result (λ s. s.primal ≡ self.least) }
+        ensures greatest { IfOk result (λ s. IsGreatestBound instance.now s.primal s.dual s.proof) }
         ensures whole { self.waiting.items ≡ [] → IfOk result (λ s. s.dual ≡ s.primal) }
         ensures spent { IfOk result (λ s. IsSpent (length self.lines.items) instance.now s.primal s.proof) }
         ensures writable { IfOk result (λ s. IsWritableFound s.primal s.dual s.tree s.proof) }
