@@ -72,9 +72,9 @@ at_last I x primal (M ∷ Ns) N lines light h =
 pub continues_at_first : (I : Network) (bound primal : ℕ) (root : Node) → root.branch ≡ all_trees → Continues I bound primal [] [] (root ∷ [])
 continues_at_first I bound primal root is_root x more light low rest =
     same_proof I all_trees x primal rest.lower more rest.lower_light light
-      (rest.joined ∙ ap (λ (r : List ProofLine). r ++ rest.lower) rest.first.0)
-      (rest.weights ∙ ap (λ (r : List ℕ). r ++ rest.lower_light) rest.first.1)
-      (subst (λ (B : Branch). IsProofOf I B x primal rest.lower rest.lower_light) is_root rest.second)
+    (rest.joined ∙ ap (λ (r : List ProofLine). r ++ rest.lower) rest.first.0)
+    (rest.weights ∙ ap (λ (r : List ℕ). r ++ rest.lower_light) rest.first.1)
+    (subst (λ (B : Branch). IsProofOf I B x primal rest.lower rest.lower_light) is_root rest.second)
 
 -- what a close weighs, where it is light
 abbrev pub light_of : ℕ → ℕ → List ℕ
@@ -87,7 +87,7 @@ continues_closed I bound primal light lines Ns N P lower fits below weighs h x m
     let extra = light_of (weight I N.branch P) primal in
     let here : IsProofOf I N.branch x primal (Close P ∷ []) extra = record { proof = close P; written = refl; proves = record { fits = fits; weighs = omega arith }; weigh = refl } in
     same_proof I all_trees x primal (lines ++ Close P ∷ more) ((lines ++ Close P ∷ []) ++ more) (light ++ (extra ++ more_light)) ((light ++ extra) ++ more_light) (append_assoc lines (Close P ∷ []) more) (append_assoc light extra more_light)
-      (h x (Close P ∷ more) (extra ++ more_light) (omega arith) (with_last I x primal Ns N (Close P ∷ []) more extra more_light here rest))
+    (h x (Close P ∷ more) (extra ++ more_light) (omega arith) (with_last I x primal Ns N (Close P ∷ []) more extra more_light here rest))
 
 -- a split of the last node
 pub continues_split : (I : Network) (bound primal : ℕ) (light : List ℕ) (lines : List ProofLine) (Ns : List Node) (N inner outer : Node) (v : ℕ) → inner.branch ≡ with_inside N.branch v → outer.branch ≡ with_outside N.branch v → IsSplit I N.branch v
@@ -107,7 +107,7 @@ continues_split I bound primal light lines Ns N inner outer v is_inner is_outer 
     let same : more ≡ (first.upper ++ second.upper) ++ second.lower = first.joined ∙ (ap (λ (r : List ProofLine). first.upper ++ r) second.joined ∙ sym (append_assoc first.upper second.upper second.lower)) in
     let same_light : more_light ≡ (first.upper_light ++ second.upper_light) ++ second.lower_light = first.weights ∙ (ap (λ (r : List ℕ). first.upper_light ++ r) second.weights ∙ sym (append_assoc first.upper_light second.upper_light second.lower_light)) in
     same_proof I all_trees x primal (lines ++ Split v ∷ ((first.upper ++ second.upper) ++ second.lower)) ((lines ++ Split v ∷ []) ++ more) (light ++ ((first.upper_light ++ second.upper_light) ++ second.lower_light)) (light ++ more_light)
-      (append_assoc lines (Split v ∷ []) more ∙ ap (λ (r : List ProofLine). lines ++ Split v ∷ r) same) (ap (λ (r : List ℕ). light ++ r) same_light) whole
+    (append_assoc lines (Split v ∷ []) more ∙ ap (λ (r : List ProofLine). lines ++ Split v ∷ r) same) (ap (λ (r : List ℕ). light ++ r) same_light) whole
 
 -- where nothing waits, the lines are a proof
 pub continues_at_last : (I : Network) (bound primal : ℕ) (light : List ℕ) (lines : List ProofLine) → Continues I bound primal light lines [] → IsProofOf I all_trees bound primal lines light

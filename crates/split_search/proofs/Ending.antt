@@ -68,6 +68,7 @@ begins I root start least is_all is_empty instance tree is_cost cheap = record {
   cheap = λ nobody. omega (arith, cheap nobody, is_cost);
   nodes = All-cons (IsNode I) root [] (subst (λ (P : Packing). IsNode I (record { branch = root.branch; packing = P })) (sym is_empty) (subst (λ (B : Branch). IsNode I (record { branch = B; packing = record { root = None; cuts = [] } })) (sym is_all) (first_is_node I))) (All-nil (IsNode I));
   continues = λ primal below. continues_at_first I primal primal root is_all;
+  few_waiting = omega arith;
   turns_left = let e : turns_of (free_count I root.branch) ≡ turns_of (free_vertices I) = ap (λ B. turns_of (free_count I B)) is_all ∙ ap turns_of (free_at_first I) in omega (arith, e);
   written = All-nil IsWritableLine;
 }
@@ -111,22 +112,23 @@ none_left I lines waiting best least budget u (inl none) enough = none
 none_left I lines waiting best least budget u (inr spent) enough = absurd (omega (arith, spent, enough, u.turns_left, turns_below (free_vertices I)))
 
 -- where nothing is left, or else the budget is spent, the end is that of a search
-pub searched : (I : Network) (start : Tree) (budget : ℕ) (lines : List ProofLine) (waiting : List Node) (best : Tree) (least : ℕ) (r : Result Searched AllocError) → IsUnderWay I lines waiting best least → least ≤ cost I start → (waiting ≡ []) ⊎ (length lines ≡ budget)
-    → IfOk r (λ s. AcceptsFound I s.primal s.dual s.tree s.proof) → IfOk r (λ s. s.primal ≡ least) → IfOk r (λ s. IsGreatestBound I s.primal s.dual s.proof) → (waiting ≡ [] → IfOk r (λ s. s.dual ≡ s.primal)) → IfOk r (λ s. IsSpent (length lines) I s.primal s.proof) → IfOk r (λ s. IsWritableFound s.primal s.dual s.tree s.proof)
+pub searched : (I : Network) (start : Tree) (budget : ℕ) (lines : List ProofLine) (waiting : List Node) (best : Tree) (least : ℕ) (r : Result Searched AllocError) → IsUnderWay I lines waiting best least → least ≤ cost I start → length lines ≤ budget → (waiting ≡ []) ⊎ (length lines ≡ budget)
+    → IfOk r (λ s. AcceptsFound I s.primal s.dual s.tree s.proof) → IfOk r (λ s. s.primal ≡ least) → IfOk r (λ s. IsGreatestBound I s.primal s.dual s.proof) → (waiting ≡ [] → IfOk r (λ s. s.dual ≡ s.primal)) → IfOk r (λ s. IsSpent (length lines) I s.primal s.proof) → IfOk r (λ s. length s.proof ≡ length lines + length waiting) → IfOk r (λ s. IsWritableFound s.primal s.dual s.tree s.proof)
     → IfOk r (IsSearched I start budget)
-searched I start budget lines waiting best least (Err e) u no_worse ended accepted primal greatest whole spent writable = tt
-searched I start budget lines waiting best least (Ok s) u no_worse ended accepted primal greatest whole spent writable = record {
+searched I start budget lines waiting best least (Err e) u no_worse paid ended accepted primal greatest whole spent all writable = tt
+searched I start budget lines waiting best least (Ok s) u no_worse paid ended accepted primal greatest whole spent all writable = record {
   accepted = accepted;
   no_worse = omega (arith, primal, no_worse);
   greatest = greatest;
   spent = λ below. by_case ended below;
+  within = omega (arith, all, paid, u.few_waiting);
   whole = λ enough. whole (none_left I lines waiting best least budget u ended enough);
   writable = writable;
 }
   where
     by_case : (waiting ≡ []) ⊎ (length lines ≡ budget) → s.dual < s.primal → IsSpent budget I s.primal s.proof
     by_case (inl none) below = absurd (omega (arith, whole none, below))
-    by_case (inr all) below = (spent.0, spent.1, omega (arith, spent.2, all))
+    by_case (inr taken) below = (spent.0, spent.1, omega (arith, spent.2, taken))
 
 -- a branch of which every vertex is outside closes by its weight
 pub none_present : (I : Network) (B : Branch) (P : Packing) (least : ℕ) → LeavesRequired I B → ((v : ℕ) → IsPresent I B v → ⊥) → (IsNobodyRequired I → least ≤ sum_to (pays I) I.n) → least ≤ weight I B P

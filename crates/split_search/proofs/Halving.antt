@@ -71,6 +71,7 @@ outside_node I N v node is_split = record {
 }
 
 pub halves_are_no_lighter_lem : HalvesAreNoLighter
-halves_are_no_lighter_lem I N v node is_split =
-    (record { node = inside_node I N v node is_split; no_lighter = inside_weighs I N.branch N.packing v },
-    record { node = outside_node I N v node is_split; no_lighter = outside_weighs I N.branch N.packing v node.fits is_split })
+halves_are_no_lighter_lem I N v node is_split = (
+  record { node = inside_node I N v node is_split; no_lighter = inside_weighs I N.branch N.packing v },
+  record { node = outside_node I N v node is_split; no_lighter = outside_weighs I N.branch N.packing v node.fits is_split },
+)

@@ -90,6 +90,7 @@ closed I lines Ns N best better least price P tree is_cost lower closes writable
   cheap = λ nobody. omega (arith, u.cheap nobody);
   nodes = all_front (IsNode I) Ns N u.nodes;
   continues = λ primal below. subst (λ (light : List ℕ). Continues I primal primal light (lines ++ Close P ∷ []) Ns) (not_light (weight I N.branch P) primal (omega (arith, closes.weighs))) (continues_closed I primal primal [] lines Ns N P primal closes.fits (omega arith) (omega (arith, closes.weighs)) (u.continues primal (omega arith)));
+  few_waiting = omega (arith, u.few_waiting, length-append Ns (N ∷ []), length-append lines (Close P ∷ []));
   turns_left = omega (arith, u.turns_left, close_turns I Ns N, length-append lines (Close P ∷ []));
   written = all_push IsWritableLine lines (Close P) u.written writable;
 }
@@ -120,8 +121,9 @@ split_keeps I lines Ns N M best least v h u =
       is_cost = u.is_cost;
       cheap = u.cheap;
       nodes = All-append (IsNode I) Ns (outside_half M v ∷ inside_half M v ∷ []) (all_front (IsNode I) Ns N u.nodes)
-        (All-cons (IsNode I) (outside_half M v) (inside_half M v ∷ []) (outside_node I M v h.1 of_half) (All-cons (IsNode I) (inside_half M v) [] (inside_node I M v h.1 of_half) (All-nil (IsNode I))));
+          (All-cons (IsNode I) (outside_half M v) (inside_half M v ∷ []) (outside_node I M v h.1 of_half) (All-cons (IsNode I) (inside_half M v) [] (inside_node I M v h.1 of_half) (All-nil (IsNode I))));
       continues = λ primal below. continues_split I primal primal [] lines Ns N (inside_half M v) (outside_half M v) v inner outer is_split (u.continues primal below);
+      few_waiting = omega (arith, u.few_waiting, length-append Ns (N ∷ []), length-append Ns (outside_half M v ∷ inside_half M v ∷ []), length-append lines (Split v ∷ []));
       turns_left = omega (arith, u.turns_left, split_turns I Ns N (inside_half M v) (outside_half M v) v inner outer h.2.vertex h.2.free, length-append lines (Split v ∷ []));
       written = all_push IsWritableLine lines (Split v) u.written (any_vertex I v u.instance h.2.vertex);
     }

@@ -51,6 +51,7 @@ pub record IsUnderWay (I : Network) (lines : List ProofLine) (waiting : List Nod
   pub nodes : All (IsNode I) waiting
   -- no close so far is light, however far the cost still falls
   pub continues : (primal : ℕ) → primal ≤ least → Continues I primal primal [] lines waiting
+  pub few_waiting : length waiting ≤ length lines + 1
   pub turns_left : length lines + turns I waiting ≤ turns_of (free_vertices I)
   pub written : All IsWritableLine lines
 

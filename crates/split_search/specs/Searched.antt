@@ -1,5 +1,5 @@
 -- What a search answers.
-use Rattle.std.specs.Prelude.{◌≡◌, ℕ, ◌+◌, ◌^◌, ◌<◌, ◌≤◌, nat_lt, IsFalse, if◌then◌else◌, List, [], ◌∷◌, ◌++◌, length}
+use Rattle.std.specs.Prelude.{◌≡◌, ℕ, ◌+◌, ◌*◌, ◌^◌, ◌<◌, ◌≤◌, nat_lt, IsFalse, if◌then◌else◌, List, [], ◌∷◌, ◌++◌, length}
 use Rattle.st_model.specs.declared.branch.Branch.{Branch}
 use Rattle.st_model.specs.declared.tree.Tree.{Tree}
 use Rattle.st_model.specs.Lists.{sum_to}
@@ -41,6 +41,8 @@ pub record IsSearched (I : Network) (start : Tree) (budget : ℕ) (s : Searched)
   pub no_worse : s.primal ≤ cost I start
   pub greatest : IsGreatestBound I s.primal s.dual s.proof
   pub spent : s.dual < s.primal → IsSpent budget I s.primal s.proof
+  -- each split took a unit, and a proof has one close more than splits
+  pub within : length s.proof ≤ 2 * budget + 1
   -- a budget that is sure to suffice
   pub whole : 2 ^ (free_vertices I + 1) ≤ budget → s.dual ≡ s.primal
   -- all that the text of a log asks for

@@ -48,12 +48,7 @@ pub fn expand(
 
 // Closes a node with nothing left to decide: by its weight where no vertex is present, and else by
 // a level packing.
-fn close(
-    alloc: Global,
-    instance: &Instance,
-    node: Node,
-    least: u64,
-) -> Result<Step, AllocError>
+fn close(alloc: Global, instance: &Instance, node: Node, least: u64) -> Result<Step, AllocError>
     requires instance { IsInstance instance.now }
     requires node { IsNode instance.now node }
     requires cheap { IsNobodyRequired instance.now → least ≤ sum_to (pays instance.now) instance.now.n }

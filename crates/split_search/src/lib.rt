@@ -14,6 +14,8 @@ mod node;
 mod progress;
 mod searched;
 mod searching;
+#[cfg(test)]
+mod tests;
 
 pub use gate::{Gate, OpenGate};
 pub use searched::Searched;

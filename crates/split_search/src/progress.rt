@@ -59,6 +59,7 @@ impl Progress {
         requires lines { self.old.lines.items ≡ [] }
         ensures under_way { OnOk result (IsUnderWay instance.now self.new.lines.items self.new.waiting.items self.new.best self.new.least) }
         ensures no_worse { OnOk result (self.new.least ≤ self.old.least) }
+        ensures within { OnOk result (length self.new.lines.items ≤ budget) }
         ensures spent { OnOk result ((self.new.waiting.items ≡ []) ⊎ (length self.new.lines.items ≡ budget)) }
     {
         for taken in 0..budget {
@@ -122,6 +123,7 @@ impl Progress {
         ensures greatest { IfOk result (λ s. IsGreatestBound instance.now s.primal s.dual s.proof) }
         ensures whole { self.waiting.items ≡ [] → IfOk result (λ s. s.dual ≡ s.primal) }
         ensures spent { IfOk result (λ s. IsSpent (length self.lines.items) instance.now s.primal s.proof) }
+        ensures lines { IfOk result (λ s. length s.proof ≡ length self.lines.items + length self.waiting.items) }
         ensures writable { IfOk result (λ s. IsWritableFound s.primal s.dual s.tree s.proof) }
     {
         let dual = self.close_left(instance)?;

@@ -9,4 +9,4 @@ returns g c =
     let p = c.run.new.self in
     let e = c.finish.ensures in
     let no_worse : p.least ≤ cost I c.args.start = omega (arith, c.in_ok-run.ensures.no_worse, c.in_ok-progress.ensures.under_way.is_cost, ap (cost I) c.in_ok-progress.ensures.best) in
-    searched I c.args.start c.args.budget p.lines.items p.waiting.items p.best p.least c.finish.result c.in_ok-run.ensures.under_way no_worse c.in_ok-run.ensures.spent e.accepted e.primal e.greatest e.whole e.spent e.writable
+    searched I c.args.start c.args.budget p.lines.items p.waiting.items p.best p.least c.finish.result c.in_ok-run.ensures.under_way no_worse c.in_ok-run.ensures.within c.in_ok-run.ensures.spent e.accepted e.primal e.greatest e.whole e.spent e.lines e.writable
