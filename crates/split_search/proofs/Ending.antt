@@ -1,18 +1,17 @@
 -- What holds at the start of a search, and at its end.
-use Rattle.std.proofs.Common.{◌≡◌, ℕ, ◌+◌, ◌*◌, ◌^◌, ◌<◌, ◌≤◌, ◌⊎◌, inl, inr, Bool, true, false, cond, not, List, [], ◌∷◌, Option, Some, None, Result, Ok, Err, length, refl, sym, ap, take, take_all, subst, ◌∙◌, arith}
-use Rattle.std.specs.Prelude.{IsTrue, IsFalse, IfSome, IfOk, All}
+use Rattle.std.proofs.Common.{◌≡◌, ℕ, ◌+◌, ◌^◌, ◌<◌, ◌≤◌, ◌⊎◌, inl, inr, Bool, true, false, cond, not, List, [], ◌∷◌, Option, Some, None, Result, Ok, Err, length, refl, sym, ap, take, take_all, subst, ◌∙◌, arith}
+use Rattle.std.specs.Prelude.{IsTrue, IfSome, IfOk, All}
 use Rattle.std.proofs.lemmas.Bool.{false≢true}
 use Rattle.std.proofs.lemmas.List.Elements.{All-cons, All-nil}
 use Rattle.st_model.specs.declared.branch.Branch.{Branch}
 use Rattle.st_model.specs.declared.tree.Tree.{Tree}
 use Rattle.st_model.specs.Lists.{has, sum_to, total}
-use Rattle.st_model.specs.Network.{Network, IsInstance, IsVertex, is_required, link, pays}
+use Rattle.st_model.specs.Network.{Network, IsInstance, IsVertex, link, pays}
 use Rattle.st_model.specs.Arborescence.{IsArborescence, IsTree, cost, arc_cost, reached}
 use Rattle.st_model.proofs.Sums.{sum_to_same}
 use Rattle.st_model.proofs.Costs.{links_fit, missed_le_prizes}
-use Rattle.st_model.specs.Branch.{LeavesRequired, is_present}
+use Rattle.st_model.specs.Branch.{LeavesRequired}
 use Rattle.level_packing.specs.Forest.{IsPresent}
-use Rattle.cut_packing.specs.declared.cut.Cut.{Cut}
 use Rattle.cut_packing.specs.declared.packing.Packing.{Packing}
 use Rattle.cut_packing.specs.Packing.{CutFits, outside_pays, weight}
 use Rattle.cut_packing.specs.ProofTree.{ProofTree, Proves}
@@ -22,7 +21,7 @@ use Rattle.log_format.specs.Text.{IsWritableCut, IsWritableLine, IsWritableFound
 use Rattle.split_search.specs.declared.node.Node.{Node}
 use Rattle.split_search.specs.declared.searched.Searched.{Searched}
 use Rattle.std.specs.declared.alloc.AllocError.{AllocError}
-use Rattle.split_search.specs.Node.{IsNode, free_count, turns, turns_of}
+use Rattle.split_search.specs.Node.{IsNode, free_count, turns_of}
 use Rattle.split_search.specs.Progress.{IsUnderWay, IsClosing, lowest}
 use Rattle.split_search.specs.Searched.{IsNobodyRequired, IsSpent, IsGreatestBound, IsSearched, free_vertices}
 use Rattle.split_search.proofs.Turns.{free_at_first, turns_below}

@@ -1,18 +1,18 @@
 -- The halves of a node are nodes.
-use Rattle.std.proofs.Common.{◌≡◌, ℕ, ◌<◌, ◌≤◌, Bool, true, false, eqb, not, ◌&&◌, ◌||◌, ◌⊎◌, inl, inr, List, length, refl, sym, ap, ◌∙◌, arith}
-use Rattle.std.specs.Prelude.{IsTrue, IsFalse, filter}
-use Rattle.std.proofs.lemmas.Bool.{both_ways, or_cases, false_from_ne_true, eqb-true}
+use Rattle.std.proofs.Common.{◌≡◌, ℕ, Bool, true, false, eqb, not, ◌||◌, ◌⊎◌, inl, inr, refl, sym, ap, ◌∙◌, arith}
+use Rattle.std.specs.Prelude.{IsFalse}
+use Rattle.std.proofs.lemmas.Bool.{both_ways, or_cases, eqb-true}
 use Rattle.std.proofs.lemmas.List.Filters.{length-filter_both}
 use Rattle.std.proofs.lemmas.List.Elements.{All-filter}
 use Rattle.st_model.specs.declared.branch.Branch.{Branch}
 use Rattle.st_model.specs.Lists.{has}
 use Rattle.st_model.specs.Network.{Network, is_required}
-use Rattle.st_model.specs.Branch.{IsBranch, LeavesRequired, with_vertex, with_inside, with_outside}
+use Rattle.st_model.specs.Branch.{IsBranch, LeavesRequired, with_inside, with_outside}
 use Rattle.cut_packing.specs.ProofTree.{IsSplit}
 use Rattle.cut_packing.proofs.Members.{has-with_vertex}
-use Rattle.log_format.specs.Text.{IsWritableCut, IsWritablePacking}
+use Rattle.log_format.specs.Text.{IsWritableCut}
 use Rattle.split_search.specs.declared.node.Node.{Node}
-use Rattle.split_search.specs.Node.{IsNode, without, inside_half, outside_half}
+use Rattle.split_search.specs.Node.{IsNode, inside_half, outside_half}
 use Rattle.split_search.specs.Laws.{HalvesAreNoLighter}
 use Rattle.split_search.proofs.Sets.{set_with}
 use Rattle.split_search.proofs.Packings.{undecided_parts, inside_fits, outside_fits, inside_weighs, outside_weighs}

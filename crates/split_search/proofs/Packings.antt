@@ -1,6 +1,6 @@
 -- A packing that fits a branch fits both halves, without the cuts that name the vertex in the one, and is no lighter there.
 use Rattle.std.proofs.Common.{◌≡◌, ℕ, ◌+◌, ◌≤◌, Bool, true, false, cond, eqb, not, ◌&&◌, ◌||◌, List, [], ◌∷◌, Option, Some, None, refl, sym, ap, ◌∙◌, arith}
-use Rattle.std.specs.Prelude.{IsTrue, IsFalse, IfSome, MatchOption, All, filter}
+use Rattle.std.specs.Prelude.{IsTrue, IsFalse, IfSome, MatchOption, filter}
 use Rattle.std.specs.List.{AllByRecursion}
 use Rattle.std.proofs.lemmas.Bool.{both_ways, false≢true, false_from_ne_true}
 use Rattle.std.proofs.lemmas.Bool.Decides.{nat_tests}
@@ -8,7 +8,7 @@ use Rattle.std.proofs.lemmas.List.Elements.{recursion_from_All, All-from_recursi
 use Rattle.st_model.specs.declared.branch.Branch.{Branch}
 use Rattle.st_model.specs.Lists.{has, total, sum_to}
 use Rattle.st_model.specs.Network.{Network, IsVertex, link, is_required, pays}
-use Rattle.st_model.specs.Branch.{is_present, is_certain, is_undecided, with_inside, with_outside}
+use Rattle.st_model.specs.Branch.{is_present, is_certain, with_inside, with_outside}
 use Rattle.st_model.proofs.Sums.{sum_to_same, sum_to-add, sum_to_one, total_filter_le}
 use Rattle.cut_packing.specs.declared.cut.Cut.{Cut}
 use Rattle.cut_packing.specs.declared.packing.Packing.{Packing}

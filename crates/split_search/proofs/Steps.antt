@@ -1,13 +1,12 @@
 -- Each step of a search keeps what holds between two nodes.
-use Rattle.std.proofs.Common.{◌≡◌, ℕ, ◌+◌, ◌*◌, ◌^◌, ◌<◌, ◌≤◌, Bool, true, false, cond, not, ◌&&◌, ltb, List, [], ◌∷◌, ◌++◌, length, min, append-nil, refl, sym, ap, subst, ◌∙◌, length-append, arith}
-use Rattle.std.specs.Prelude.{IsTrue, IsFalse, All}
+use Rattle.std.proofs.Common.{◌≡◌, ℕ, ◌+◌, ◌<◌, ◌≤◌, Bool, true, false, cond, not, ltb, List, [], ◌∷◌, ◌++◌, length, min, append-nil, refl, sym, ap, subst, ◌∙◌, length-append, arith}
+use Rattle.std.specs.Prelude.{All}
 use Rattle.std.proofs.lemmas.Bool.{and_parts, false≢true}
 use Rattle.std.proofs.lemmas.Bool.Decides.{nat_tests}
 use Rattle.std.proofs.lemmas.List.Elements.{All-append, All-cons, All-nil, All-head, All-tail}
 use Rattle.st_model.specs.declared.branch.Branch.{Branch}
 use Rattle.st_model.specs.declared.tree.Tree.{Tree}
-use Rattle.st_model.specs.Lists.{sum_to}
-use Rattle.st_model.specs.Network.{Network, IsInstance, IsVertex, is_required, pays}
+use Rattle.st_model.specs.Network.{Network, is_required}
 use Rattle.st_model.specs.Arborescence.{IsTree, cost}
 use Rattle.st_model.specs.Branch.{is_undecided, with_inside, with_outside}
 use Rattle.cut_packing.specs.declared.packing.Packing.{Packing}
@@ -17,9 +16,8 @@ use Rattle.log_format.specs.declared.proof_line.ProofLine.{ProofLine}
 use Rattle.log_format.specs.declared.proof_line.ProofLine.TheVariants.{Split, Close}
 use Rattle.log_format.specs.Text.{IsWritableLine, IsWritablePacking}
 use Rattle.split_search.specs.declared.node.Node.{Node}
-use Rattle.split_search.specs.Node.{IsNode, IsChoice, inside_half, outside_half, is_free}
+use Rattle.split_search.specs.Node.{IsNode, IsNoLighter, IsChoice, inside_half, outside_half}
 use Rattle.split_search.specs.Progress.{Continues, IsUnderWay, IsClosing, lowest}
-use Rattle.split_search.specs.Searched.{IsNobodyRequired}
 use Rattle.split_search.proofs.Halving.{inside_node, outside_node}
 use Rattle.split_search.proofs.Turns.{split_turns, close_turns}
 use Rattle.split_search.proofs.Continuing.{light_of, continues_closed, continues_split}
@@ -108,7 +106,7 @@ pub improve_keeps : (I : Network) (lines : List ProofLine) (Ns : List Node) (N :
     → IsUnderWay I lines (Ns ++ N ∷ []) best least → IsUnderWay I (lines ++ Close P ∷ []) Ns better price
 improve_keeps I lines Ns N best better least price P h u = closed I lines Ns N best better least price P h.0 h.1 (omega (arith, h.2)) h.3 h.4 u
 
-pub split_keeps : (I : Network) (lines : List ProofLine) (Ns : List Node) (N M : Node) (best : Tree) (least v : ℕ) → (M.branch ≡ N.branch) × IsNode I M × IsChoice I N.branch v
+pub split_keeps : (I : Network) (lines : List ProofLine) (Ns : List Node) (N M : Node) (best : Tree) (least v : ℕ) → (M.branch ≡ N.branch) × IsNoLighter I N M × IsChoice I N.branch v
     → IsUnderWay I lines (Ns ++ N ∷ []) best least → IsUnderWay I (lines ++ Split v ∷ []) (Ns ++ outside_half M v ∷ inside_half M v ∷ []) best least
 split_keeps I lines Ns N M best least v h u =
     let is_split = choice_splits I N.branch v h.2 in
@@ -121,7 +119,7 @@ split_keeps I lines Ns N M best least v h u =
       is_cost = u.is_cost;
       cheap = u.cheap;
       nodes = All-append (IsNode I) Ns (outside_half M v ∷ inside_half M v ∷ []) (all_front (IsNode I) Ns N u.nodes)
-          (All-cons (IsNode I) (outside_half M v) (inside_half M v ∷ []) (outside_node I M v h.1 of_half) (All-cons (IsNode I) (inside_half M v) [] (inside_node I M v h.1 of_half) (All-nil (IsNode I))));
+          (All-cons (IsNode I) (outside_half M v) (inside_half M v ∷ []) (outside_node I M v h.1.node of_half) (All-cons (IsNode I) (inside_half M v) [] (inside_node I M v h.1.node of_half) (All-nil (IsNode I))));
       continues = λ primal below. continues_split I primal primal [] lines Ns N (inside_half M v) (outside_half M v) v inner outer is_split (u.continues primal below);
       few_waiting = omega (arith, u.few_waiting, length-append Ns (N ∷ []), length-append Ns (outside_half M v ∷ inside_half M v ∷ []), length-append lines (Split v ∷ []));
       turns_left = omega (arith, u.turns_left, split_turns I Ns N (inside_half M v) (outside_half M v) v inner outer h.2.vertex h.2.free, length-append lines (Split v ∷ []));

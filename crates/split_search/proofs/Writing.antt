@@ -1,8 +1,8 @@
 -- What a search answers can be written.
-use Rattle.std.proofs.Common.{◌≡◌, ℕ, zero, suc, ◌+◌, ◌*◌, ◌^◌, ◌<◌, ◌≤◌, Bool, true, false, cond, eqb, ◌||◌, ◌⊎◌, inl, inr, List, [], ◌∷◌, Option, Some, None, length, refl, sym, ap, ◌∙◌, arith}
-use Rattle.std.specs.Prelude.{IsTrue, IsFalse, IsSome, IfSome, MatchOption, All}
+use Rattle.std.proofs.Common.{◌≡◌, ℕ, zero, suc, ◌+◌, ◌^◌, ◌<◌, ◌≤◌, Bool, true, false, cond, eqb, ◌||◌, List, [], ◌∷◌, Option, Some, None, length, refl, sym, ap, ◌∙◌, arith}
+use Rattle.std.specs.Prelude.{IsFalse, IsSome, IfSome, MatchOption}
 use Rattle.std.specs.List.{AllByRecursion}
-use Rattle.std.proofs.lemmas.Bool.{false≢true, cases_Bool, both_ways, or_cases, eqb-true}
+use Rattle.std.proofs.lemmas.Bool.{false≢true, both_ways, eqb-true}
 use Rattle.std.proofs.lemmas.Bool.Decides.{nat_tests}
 use Rattle.std.proofs.lemmas.List.Elements.{recursion_from_All, All-from_recursion}
 use Rattle.st_model.specs.declared.branch.Branch.{Branch}
@@ -18,7 +18,7 @@ use Rattle.cut_packing.specs.declared.packing.Packing.{Packing}
 use Rattle.cut_packing.specs.Packing.{IsRoot, CutFits, Fits}
 use Rattle.cut_packing.proofs.Duality.{named_vertex}
 use Rattle.level_packing.specs.Spanning.{AreSets}
-use Rattle.log_format.specs.Text.{IsAnyVertex, IsWritableSet, IsWritableCut, IsWritablePacking, IsWritableTree}
+use Rattle.log_format.specs.Text.{IsAnyVertex, IsWritableCut, IsWritablePacking, IsWritableTree}
 
 pub any_vertex : (I : Network) (v : ℕ) → IsInstance I → IsVertex I.n v → IsAnyVertex v
 any_vertex I v instance vertex = (vertex.0, omega (arith, vertex.1, instance.few_vertices))

@@ -5,7 +5,7 @@ use Rattle.st_model.specs.Lists.{total, sum_to}
 use Rattle.st_model.specs.Network.{Network, IsVertex, is_required, pays}
 use Rattle.st_model.specs.Branch.{IsBranch, LeavesRequired, is_undecided, is_certain, with_inside, with_outside}
 use Rattle.cut_packing.specs.declared.packing.Packing.{Packing}
-use Rattle.cut_packing.specs.Packing.{Fits}
+use Rattle.cut_packing.specs.Packing.{Fits, weight}
 use Rattle.log_format.specs.Text.{IsWritablePacking}
 use Rattle.split_search.specs.declared.node.Node.{Node}
 
@@ -27,6 +27,11 @@ pub record IsNode (I : Network) (N : Node) : Type 0 where
   pub required : LeavesRequired I N.branch
   pub fits : Fits I N.branch N.packing
   pub writable : IsWritablePacking N.packing
+
+-- a node whose packing weighs no less than that of the other
+pub record IsNoLighter (I : Network) (N M : Node) : Type 0 where
+  pub node : IsNode I M
+  pub no_lighter : weight I N.branch N.packing ≤ weight I M.branch M.packing
 
 -- the packing without the cuts that name v
 abbrev pub without : Packing → ℕ → Packing

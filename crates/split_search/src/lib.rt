@@ -18,5 +18,6 @@ mod searching;
 mod tests;
 
 pub use gate::{Gate, OpenGate};
+pub use law::halves_are_no_lighter;
 pub use searched::Searched;
 pub use searching::search;

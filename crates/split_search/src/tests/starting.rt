@@ -21,13 +21,7 @@ pub fn bounds<G: Gate>(
             let start = grown(alloc, instance, vertex)?;
             bounds_from(alloc, instance, start, budget, gate)
         }
-        None => {
-            let start = Tree {
-                start: 1,
-                arcs: Listed::of(Vec::new(alloc)),
-            };
-            bounds_from(alloc, instance, start, budget, gate)
-        }
+        None => bounds_from(alloc, instance, lone(alloc, instance), budget, gate),
     }
 }
 
@@ -60,6 +54,17 @@ fn first_required(instance: &Instance) -> Option<u32>
         }
     }
     None
+}
+
+// Vertex 1 alone.
+fn lone(alloc: Global, instance: &Instance) -> Tree
+    ensures { cost instance.now result ≤ sum_to (pays instance.now) instance.now.n }
+{
+    prove!(1 <= instance.vertices());
+    Tree {
+        start: 1,
+        arcs: Listed::of(Vec::new(alloc)),
+    }
 }
 
 // A set of vertices as a number: vertex 1 is 2, vertex 2 is 4, and so on.

@@ -1,4 +1,4 @@
-use Rattle.std.proofs.Common.{◌+◌, ◌^◌, ◌<◌, ◌≤◌, arith}
+use Rattle.std.proofs.Common.{◌^◌, ◌<◌, arith}
 use Rattle.st_model.specs.Lists.{total}
 use Rattle.split_search.proofs.Writing.{writable_packing}
 use Rattle.split_search.proofs.expanding.spanned.Goals as goal

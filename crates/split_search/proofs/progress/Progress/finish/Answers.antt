@@ -1,4 +1,3 @@
-use Rattle.std.proofs.Common.{sym, ◌∙◌}
 use Rattle.std.proofs.lemmas.Bool.{false≢true}
 use Rattle.split_search.proofs.Continuing.{continues_at_last}
 use Rattle.split_search.proofs.Ending.{ends_accepted, ends_greatest, ends_spent, ends_writable}
