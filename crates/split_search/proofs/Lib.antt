@@ -1,4 +1,3 @@
-pub mod Decided
 pub mod Sets
 pub mod Packings
 pub mod Halving
