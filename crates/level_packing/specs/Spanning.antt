@@ -1,11 +1,12 @@
 -- Trees that reach just the vertices of a branch that are present.
-use Rattle.std.specs.Prelude.{◌≡◌, ℕ, ◌≤◌, All}
+use Rattle.std.specs.Prelude.{◌≡◌, ℕ, ◌^◌, ◌<◌, ◌≤◌, List, [], ◌∷◌, length, All}
 use Rattle.st_model.specs.declared.branch.Branch.{Branch}
 use Rattle.st_model.specs.declared.tree.Tree.{Tree}
 use Rattle.st_model.specs.Lists.{has}
 use Rattle.st_model.specs.Network.{Network, IsVertex}
 use Rattle.st_model.specs.Arborescence.{IsArborescence, reached, cost}
 use Rattle.st_model.specs.Branch.{IsVertexSet, is_present}
+use Rattle.cut_packing.specs.declared.cut.Cut.{Cut}
 use Rattle.cut_packing.specs.declared.packing.Packing.{Packing}
 use Rattle.cut_packing.specs.Packing.{Fits, weight}
 use Rattle.level_packing.specs.declared.leaf.Leaf.{Leaf}
@@ -29,3 +30,8 @@ AreSets n P = All (λ c. IsVertexSet n c.set) P.cuts
 abbrev pub HasSets : ℕ → Leaf → Type 0
 HasSets n (Spanned t P) = AreSets n P
 HasSets n (Wall P) = AreSets n P
+
+-- so few cuts that 64 bits count them; where there is no such tree just one, of the target's value
+abbrev pub HasFewCuts : ℕ → Leaf → Type 0
+HasFewCuts target (Spanned t P) = length P.cuts < 2 ^ 64
+HasFewCuts target (Wall P) = (c : Cut) × (P.cuts ≡ c ∷ []) × (c.y ≡ target)

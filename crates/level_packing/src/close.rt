@@ -3,7 +3,7 @@ ghost use Rattle.std.specs.List.Sorted.{IsNonDecreasingBy};
 ghost use Rattle.st_model.specs.Network.{IsInstance, link};
 ghost use Rattle.st_model.specs.Branch.{is_certain};
 ghost use Rattle.level_packing.specs.Forest.{IsGrown, IsPresent, IsPresentLink, IsToCome, groups, cluster_of};
-ghost use Rattle.level_packing.specs.Spanning.{Closes, HasSets};
+ghost use Rattle.level_packing.specs.Spanning.{Closes, HasFewCuts, HasSets};
 
 use crate::Leaf;
 use crate::ascending::ascending;
@@ -16,7 +16,7 @@ use std::alloc::{AllocError, Global};
 
 /// Closes a branch in which each present vertex is required or inside: by a tree that reaches
 /// exactly the present vertices with a packing that weighs what the tree costs, or, where there
-/// is no such tree, by a packing that weighs at least the target.
+/// is no such tree, by a packing that weighs at least the target: one cut of this value.
 pub fn close_all(
     alloc: Global,
     instance: &Instance,
@@ -27,6 +27,7 @@ pub fn close_all(
     requires some { (v : ℕ) × IsPresent instance.now branch.now v }
     ensures closed { IfOk result (Closes instance.now branch.now target) }
     ensures sets { IfOk result (HasSets instance.now.n) }
+    ensures few { IfOk result (HasFewCuts target) }
 {
     let places = instance.vertices() as usize + 1;
     let outside = VertexSet::of(alloc, places, branch.outside.as_slice())?;
@@ -78,6 +79,7 @@ fn spanned(
     requires one { (v : ℕ) → IsPresent instance.now branch.now v → cluster_of (groups forest) v ≡ cluster_of (groups forest) root }
     ensures closed { IfOk result (Closes instance.now branch.now target) }
     ensures sets { IfOk result (HasSets instance.now.n) }
+    ensures few { IfOk result (HasFewCuts target) }
 {
     let tree = thin(alloc, instance, &forest.chosen, root)?;
     Ok(Leaf::Tree(
@@ -106,6 +108,7 @@ fn wall(
     requires apart { cluster_of (groups forest) vertex ≢ cluster_of (groups forest) root }
     ensures closed { IfOk result (Closes instance.now branch.now target) }
     ensures sets { IfOk result (HasSets instance.now.n) }
+    ensures few { IfOk result (HasFewCuts target) }
 {
     let name = forest.cluster[vertex as usize];
     let set = ascending(alloc, &forest.members[name as usize])?;

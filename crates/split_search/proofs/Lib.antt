@@ -1,2 +1,9 @@
-pub mod Decided
-pub mod Halves
+pub mod Sets
+pub mod Packings
+pub mod Halving
+pub mod Turns
+pub mod Continuing
+pub mod Writing
+pub mod Steps
+pub mod Proved
+pub mod Ending

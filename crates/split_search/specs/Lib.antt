@@ -1,2 +1,5 @@
+pub mod Node
+pub mod Step
+pub mod Progress
 pub mod Searched
-pub mod Open
+pub mod Laws

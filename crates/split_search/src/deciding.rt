@@ -1,31 +1,86 @@
-ghost use Rattle.std.specs.Prelude.{◌≡◌, ◌≤◌, ℕ, IfOk, IfSome, IfNone, IsTrue};
+ghost use Rattle.std.specs.Prelude.{◌≡◌, ◌+◌, ◌≤◌, ◌<◌, ℕ, IfOk, IfSome, IfNone, IsTrue, IsFalse};
 ghost use Rattle.std.specs.Bool.{OnTrue, OnFalse};
 ghost use Rattle.st_model.specs.Lists.{has};
-ghost use Rattle.st_model.specs.Network.{IsVertex};
+ghost use Rattle.st_model.specs.Network.{IsInstance, IsVertex, pays};
+ghost use Rattle.st_model.specs.Branch.{is_certain};
 ghost use Rattle.level_packing.specs.Forest.{IsPresent};
-ghost use Rattle.split_search.specs.Open.{is_free, IsDecided};
+ghost use Rattle.split_search.specs.Node.{is_free, IsChoice, IsDecided, IsGreatest, HasNoCertain};
 
 use st_model::{Branch, Instance, Need, VertexSet};
 use std::alloc::{AllocError, Global};
 
-// The first vertex that is neither required nor inside nor outside.
-pub fn first_free(
+// A vertex that is neither required nor inside nor outside: one of greatest pays where no vertex
+// is required or inside, and else the first.
+pub fn choose(
     alloc: Global,
     instance: &Instance,
     branch: &Branch,
 ) -> Result<Option<u32>, AllocError>
-    ensures vertex { IfOk result (λ free. IfSome free (IsVertex instance.now.n)) }
-    ensures free { IfOk result (λ free. IfSome free (λ v. IsTrue (is_free instance.now branch.now v))) }
+    ensures some { IfOk result (λ free. IfSome free (IsChoice instance.now branch.now)) }
     ensures none { IfOk result (λ free. IfNone free (IsDecided instance.now branch.now)) }
 {
     let places = instance.vertices() as usize + 1;
     let inside = VertexSet::of(alloc, places, branch.inside.as_slice())?;
     let outside = VertexSet::of(alloc, places, branch.outside.as_slice())?;
-    Ok(first_in_neither(instance, branch, &inside, &outside))
+    if has_certain(instance, branch, &inside) {
+        Ok(first_free(instance, branch, &inside, &outside))
+    } else {
+        Ok(greatest_free(instance, branch, &inside, &outside))
+    }
 }
 
-// The first vertex in neither of the branch's sets that isn't required.
-fn first_in_neither(
+// Whether some vertex is required or inside.
+fn has_certain(instance: &Instance, branch: &Branch, inside: &VertexSet) -> bool
+    requires inside { (v : ℕ) → v ≤ instance.now.n → has inside.now.members v ≡ has branch.now.inside v }
+    ensures some { OnTrue result ((v : ℕ) × IsVertex instance.now.n v × IsTrue (is_certain instance.now branch.now v)) }
+    ensures none { OnFalse result (HasNoCertain instance.now branch.now) }
+{
+    for before in 0..instance.vertices() {
+        if is_certain(instance, branch, inside, before + 1) {
+            return true;
+        }
+    }
+    false
+}
+
+// Whether a vertex is required or inside.
+fn is_certain(instance: &Instance, branch: &Branch, inside: &VertexSet, vertex: u32) -> bool
+    requires inside { (v : ℕ) → v ≤ instance.now.n → has inside.now.members v ≡ has branch.now.inside v }
+    requires vertex { IsVertex instance.now.n vertex }
+    ensures { result ≡ is_certain instance.now branch.now vertex }
+{
+    match instance.need(vertex) {
+        Need::Required => true,
+        Need::Pays(_) => inside.contains(vertex),
+    }
+}
+
+// What a vertex pays where it is neither required nor in one of the branch's sets.
+fn free_prize(
+    instance: &Instance,
+    branch: &Branch,
+    inside: &VertexSet,
+    outside: &VertexSet,
+    vertex: u32,
+) -> Option<u64>
+    requires inside { (v : ℕ) → v ≤ instance.now.n → has inside.now.members v ≡ has branch.now.inside v }
+    requires outside { (v : ℕ) → v ≤ instance.now.n → has outside.now.members v ≡ has branch.now.outside v }
+    requires vertex { IsVertex instance.now.n vertex }
+    ensures free { IfSome result (λ _. IsTrue (is_free instance.now branch.now vertex)) }
+    ensures prize { IfSome result (λ prize. prize ≡ pays instance.now vertex) }
+    ensures none { IfNone result (IsFalse (is_free instance.now branch.now vertex)) }
+{
+    if inside.contains(vertex) || outside.contains(vertex) {
+        return None;
+    }
+    match instance.need(vertex) {
+        Need::Required => None,
+        Need::Pays(prize) => Some(prize),
+    }
+}
+
+// The first free vertex.
+fn first_free(
     instance: &Instance,
     branch: &Branch,
     inside: &VertexSet,
@@ -35,16 +90,62 @@ fn first_in_neither(
     requires outside { (v : ℕ) → v ≤ instance.now.n → has outside.now.members v ≡ has branch.now.outside v }
     ensures vertex { IfSome result (IsVertex instance.now.n) }
     ensures free { IfSome result (λ v. IsTrue (is_free instance.now branch.now v)) }
+    ensures first { IfSome result (λ v. (w : ℕ) → IsVertex instance.now.n w → IsTrue (is_free instance.now branch.now w) → v ≤ w) }
     ensures none { IfNone result (IsDecided instance.now branch.now) }
 {
     for before in 0..instance.vertices() {
-        let vertex = before + 1;
-        let decided = inside.contains(vertex) || outside.contains(vertex);
-        if !decided && instance.need(vertex) != Need::Required {
-            return Some(vertex);
+        if free_prize(instance, branch, inside, outside, before + 1).is_some() {
+            return Some(before + 1);
         }
     }
     None
+}
+
+// A free vertex of greatest pays.
+fn greatest_free(
+    instance: &Instance,
+    branch: &Branch,
+    inside: &VertexSet,
+    outside: &VertexSet,
+) -> Option<u32>
+    requires inside { (v : ℕ) → v ≤ instance.now.n → has inside.now.members v ≡ has branch.now.inside v }
+    requires outside { (v : ℕ) → v ≤ instance.now.n → has outside.now.members v ≡ has branch.now.outside v }
+    ensures vertex { IfSome result (IsVertex instance.now.n) }
+    ensures free { IfSome result (λ v. IsTrue (is_free instance.now branch.now v)) }
+    ensures greatest { IfSome result (λ v. (w : ℕ) → IsVertex instance.now.n w → IsTrue (is_free instance.now branch.now w) → pays instance.now w ≤ pays instance.now v) }
+    ensures none { IfNone result (IsDecided instance.now branch.now) }
+{
+    let mut best = None;
+    for before in 0..instance.vertices() {
+        best = with_next(instance, branch, inside, outside, before, best);
+    }
+    let (vertex, _) = best?;
+    Some(vertex)
+}
+
+// Of a best free vertex so far and the next vertex the better one, and what it pays.
+fn with_next(
+    instance: &Instance,
+    branch: &Branch,
+    inside: &VertexSet,
+    outside: &VertexSet,
+    before: u32,
+    best: Option<(u32, u64)>,
+) -> Option<(u32, u64)>
+    requires inside { (v : ℕ) → v ≤ instance.now.n → has inside.now.members v ≡ has branch.now.inside v }
+    requires outside { (v : ℕ) → v ≤ instance.now.n → has outside.now.members v ≡ has branch.now.outside v }
+    requires instance { IsInstance instance.now }
+    requires before { before < instance.now.n }
+    requires best { IsGreatest instance.now branch.now before best }
+    ensures { IsGreatest instance.now branch.now (before + 1) result }
+{
+    let Some(prize) = free_prize(instance, branch, inside, outside, before + 1) else {
+        return best;
+    };
+    match best {
+        Some((vertex, most)) if prize <= most => Some((vertex, most)),
+        _ => Some((before + 1, prize)),
+    }
 }
 
 // Whether some vertex isn't outside.

@@ -1,18 +1,23 @@
-//! The search for a least tree by splits.
+//! The search for a least tree by splits, within a budget of nodes, and the proof of its bound.
 //!
-//! `search` keeps a stack of open branches. One in which each present vertex is required or inside
-//! is closed by its least spanning tree; every other one is split at a vertex into the half with it
-//! inside and the half with it outside. Callers may rely on the answer alone: a best tree of the
-//! instance, or none exactly where it has no tree.
+//! `search` takes nodes from a stack, depth first. What `expand` finds closes a node or splits it
+//! into the half with a vertex inside and the half with it outside; each line of the proof tree is
+//! one node's. Callers may rely on the record *is searched*: a tree, a bound that the lines prove,
+//! and that both are equal unless the whole budget was spent.
 #![tactic(auto)]
 
-mod closing;
 mod deciding;
+mod expanding;
 mod gate;
-mod open;
-mod splitting;
+mod law;
+mod node;
+mod progress;
+mod searched;
+mod searching;
 #[cfg(test)]
 mod tests;
 
 pub use gate::{Gate, OpenGate};
-pub use open::search;
+pub use law::halves_are_no_lighter;
+pub use searched::Searched;
+pub use searching::search;

@@ -1,47 +1,13 @@
-ghost use Rattle.std.specs.Prelude.{◌+◌, ◌^◌, ◌<◌, ◌≤◌, All};
-ghost use Rattle.st_model.specs.declared.instance.TheConstants.{MAX_VERTICES};
-ghost use Rattle.st_model.specs.Lists.{total};
-ghost use Rattle.st_model.specs.Network.{IsVertex, prize};
-
-use crate::{Gate, OpenGate, search};
-use st_model::{Instance, Link, Need, is_tree, tree_cost};
-use std::alloc::{AllocError, Global};
+use crate::{Gate, OpenGate};
+use st_model::{Instance, Link, Need};
+use starting::bounds;
 use std::test::Fail;
 
 mod brute_force;
+mod starting;
 
-// What the best tree costs, and u64::MAX where the answer isn't a tree.
-fn best_cost<G: Gate>(
-    alloc: Global,
-    instance: &Instance,
-    gate: &G,
-) -> Result<Option<u64>, AllocError> {
-    let Some(tree) = search(alloc, instance, gate)? else {
-        return Ok(None);
-    };
-    if !is_tree(alloc, instance, &tree)? {
-        return Ok(Some(u64::MAX));
-    }
-    Ok(Some(tree_cost(instance, &tree)))
-}
-
-fn best_of(
-    alloc: Global,
-    vertices: u32,
-    links: &[Link],
-    needs: &[(u32, Need)],
-) -> Result<Option<u64>, AllocError>
-    requires some_vertex { 1 ≤ vertices }
-    requires few_vertices { vertices ≤ MAX_VERTICES }
-    requires ends { All (λ l. IsVertex vertices l.a × IsVertex vertices l.b) links.now }
-    requires needs { All (λ stated. IsVertex vertices stated.0) needs.now }
-    requires amount { total (λ l. l.cost) links.now + total (λ stated. prize stated.1) needs.now < 2 ^ 63 }
-{
-    let instance = Instance::build(alloc, vertices, links, needs)?;
-    best_cost(alloc, &instance, &OpenGate)
-}
-
-// A triangle of required vertices with sides 4, and its centre at 2 from each.
+// A triangle of required vertices with sides 4, and its centre at 2 from each: a split and two
+// closes.
 #[test]
 fn goes_through_the_centre(rt: HostRuntime) -> Result<(), Fail> {
     let links = [
@@ -81,7 +47,11 @@ fn goes_through_the_centre(rt: HostRuntime) -> Result<(), Fail> {
         (2, Need::Required),
         (3, Need::Required),
     ];
-    assert_eq!(rt; best_of(rt.alloc(), 4, &links, &needs)?, Some(6));
+    let instance = Instance::build(rt.alloc(), 4, &links, &needs)?;
+    for (budget, dual, primal) in [(0, 0, 6), (1, 0, 6), (2, 0, 6), (3, 6, 6)] {
+        let got = bounds(rt.alloc(), &instance, budget, &OpenGate)?;
+        assert_eq!(rt; got, Some((dual, primal)), "with budget {budget}");
+    }
     Ok(())
 }
 
@@ -125,16 +95,11 @@ fn ties_with_the_sides(rt: HostRuntime) -> Result<(), Fail> {
         (2, Need::Required),
         (3, Need::Required),
     ];
-    assert_eq!(rt; best_of(rt.alloc(), 4, &links, &needs)?, Some(6));
-    Ok(())
-}
-
-#[test]
-fn stays_at_one_vertex(rt: HostRuntime) -> Result<(), Fail> {
-    assert_eq!(rt;
-        best_of(rt.alloc(), 1, &[], &[(1, Need::Required)])?,
-        Some(0)
-    );
+    let instance = Instance::build(rt.alloc(), 4, &links, &needs)?;
+    for (budget, dual, primal) in [(u64::MAX, 6, 6)] {
+        let got = bounds(rt.alloc(), &instance, budget, &OpenGate)?;
+        assert_eq!(rt; got, Some((dual, primal)), "with budget {budget}");
+    }
     Ok(())
 }
 
@@ -159,58 +124,32 @@ fn takes_the_cheapest_parallel_link(rt: HostRuntime) -> Result<(), Fail> {
         },
     ];
     let needs = [(1, Need::Required), (2, Need::Required)];
-    assert_eq!(rt; best_of(rt.alloc(), 2, &links, &needs)?, Some(3));
+    let instance = Instance::build(rt.alloc(), 2, &links, &needs)?;
+    for (budget, dual, primal) in [(0, 0, 3), (1, 3, 3)] {
+        let got = bounds(rt.alloc(), &instance, budget, &OpenGate)?;
+        assert_eq!(rt; got, Some((dual, primal)), "with budget {budget}");
+    }
     Ok(())
 }
 
-#[test]
-fn finds_none_where_required_vertices_are_apart(rt: HostRuntime) -> Result<(), Fail> {
-    let needs = [(1, Need::Required), (2, Need::Required)];
-    assert_eq!(rt; best_of(rt.alloc(), 2, &[], &needs)?, None);
-    Ok(())
-}
-
-// Three required vertices with links of cost 0.
-#[test]
-fn joins_at_no_cost(rt: HostRuntime) -> Result<(), Fail> {
-    let links = [
-        Link {
-            a: 1,
-            b: 2,
-            cost: 0,
-        },
-        Link {
-            a: 2,
-            b: 3,
-            cost: 0,
-        },
-    ];
-    let needs = [
-        (1, Need::Required),
-        (2, Need::Required),
-        (3, Need::Required),
-    ];
-    assert_eq!(rt; best_of(rt.alloc(), 3, &links, &needs)?, Some(0));
-    Ok(())
-}
-
-// A hub 1 with spokes to 5, 6, 7, each of which lies on the rim between two of 2, 3, 4.
+// A hub 1 with spokes to 2, 3 and 4, and a rim on which 5, 6 and 7 lie between two of these. The start
+// has all six links of cost 2 that a tree can have, and the second leaf is the first with five.
 #[test]
 fn crosses_an_odd_wheel(rt: HostRuntime) -> Result<(), Fail> {
     let links = [
         Link {
             a: 1,
-            b: 5,
+            b: 2,
             cost: 2,
         },
         Link {
             a: 1,
-            b: 6,
+            b: 3,
             cost: 2,
         },
         Link {
             a: 1,
-            b: 7,
+            b: 4,
             cost: 2,
         },
         Link {
@@ -235,26 +174,40 @@ fn crosses_an_odd_wheel(rt: HostRuntime) -> Result<(), Fail> {
         },
         Link {
             a: 7,
-            b: 4,
+            b: 2,
             cost: 2,
         },
         Link {
             a: 7,
-            b: 2,
+            b: 4,
             cost: 2,
         },
     ];
     let needs = [
         (1, Need::Required),
-        (2, Need::Required),
-        (3, Need::Required),
-        (4, Need::Required),
+        (5, Need::Required),
+        (6, Need::Required),
+        (7, Need::Required),
     ];
-    assert_eq!(rt; best_of(rt.alloc(), 7, &links, &needs)?, Some(10));
+    let instance = Instance::build(rt.alloc(), 7, &links, &needs)?;
+    for (budget, dual, primal) in [
+        (0, 0, 12),
+        (1, 0, 12),
+        (2, 0, 12),
+        (4, 0, 12),
+        (5, 0, 10),
+        (14, 0, 10),
+        (15, 10, 10),
+        (16, 10, 10),
+    ] {
+        let got = bounds(rt.alloc(), &instance, budget, &OpenGate)?;
+        assert_eq!(rt; got, Some((dual, primal)), "with budget {budget}");
+    }
     Ok(())
 }
 
-// Nobody is required: the link to the prize of 9 pays, and the one to the prize of 2 doesn't.
+// Nobody is required: the link to the prize of 9 pays, and the one to the prize of 2 doesn't. The
+// first split is at the prize of 9, and what waits then weighs the prizes outside.
 #[test]
 fn leaves_the_least(rt: HostRuntime) -> Result<(), Fail> {
     let links = [
@@ -270,7 +223,17 @@ fn leaves_the_least(rt: HostRuntime) -> Result<(), Fail> {
         },
     ];
     let needs = [(1, Need::Pays(7)), (2, Need::Pays(9)), (3, Need::Pays(2))];
-    assert_eq!(rt; best_of(rt.alloc(), 3, &links, &needs)?, Some(6));
+    let instance = Instance::build(rt.alloc(), 3, &links, &needs)?;
+    for (budget, dual, primal) in [
+        (0, 0, 11),
+        (1, 0, 11),
+        (4, 2, 9),
+        (5, 6, 6),
+        (u64::MAX, 6, 6),
+    ] {
+        let got = bounds(rt.alloc(), &instance, budget, &OpenGate)?;
+        assert_eq!(rt; got, Some((dual, primal)), "with budget {budget}");
+    }
     Ok(())
 }
 
@@ -292,11 +255,18 @@ fn passes_another_gate(rt: HostRuntime) -> Result<(), Fail> {
         Link {
             a: 2,
             b: 3,
-            cost: 4,
+            cost: 0,
         },
     ];
     let needs = [(1, Need::Required), (3, Need::Required)];
     let instance = Instance::build(rt.alloc(), 3, &links, &needs)?;
-    assert_eq!(rt; best_cost(rt.alloc(), &instance, &Still)?, Some(7));
+    assert_eq!(rt; bounds(rt.alloc(), &instance, 3, &Still)?, Some((3, 3)));
+    Ok(())
+}
+
+#[test]
+fn stays_at_one_vertex(rt: HostRuntime) -> Result<(), Fail> {
+    let instance = Instance::build(rt.alloc(), 1, &[], &[(1, Need::Required)])?;
+    assert_eq!(rt; bounds(rt.alloc(), &instance, 1, &OpenGate)?, Some((0, 0)));
     Ok(())
 }

@@ -1,0 +1,161 @@
+-- Each step of a search keeps what holds between two nodes.
+use Rattle.std.proofs.Common.{◌≡◌, ℕ, ◌+◌, ◌<◌, ◌≤◌, Bool, true, false, cond, not, ltb, List, [], ◌∷◌, ◌++◌, length, min, append-nil, refl, sym, ap, subst, ◌∙◌, length-append, arith}
+use Rattle.std.specs.Prelude.{All}
+use Rattle.std.proofs.lemmas.Bool.{and_parts, false≢true}
+use Rattle.std.proofs.lemmas.Bool.Decides.{nat_tests}
+use Rattle.std.proofs.lemmas.List.Elements.{All-append, All-cons, All-nil, All-head, All-tail}
+use Rattle.st_model.specs.declared.branch.Branch.{Branch}
+use Rattle.st_model.specs.declared.tree.Tree.{Tree}
+use Rattle.st_model.specs.Network.{Network, is_required}
+use Rattle.st_model.specs.Arborescence.{IsTree, cost}
+use Rattle.st_model.specs.Branch.{is_undecided, with_inside, with_outside}
+use Rattle.cut_packing.specs.declared.packing.Packing.{Packing}
+use Rattle.cut_packing.specs.Packing.{weight}
+use Rattle.cut_packing.specs.ProofTree.{Closes, IsSplit}
+use Rattle.log_format.specs.declared.proof_line.ProofLine.{ProofLine}
+use Rattle.log_format.specs.declared.proof_line.ProofLine.TheVariants.{Split, Close}
+use Rattle.log_format.specs.Text.{IsWritableLine, IsWritablePacking}
+use Rattle.split_search.specs.declared.node.Node.{Node}
+use Rattle.split_search.specs.Node.{IsNode, IsNoLighter, IsChoice, inside_half, outside_half}
+use Rattle.split_search.specs.Progress.{Continues, IsUnderWay, IsClosing, lowest}
+use Rattle.split_search.proofs.Halving.{inside_node, outside_node}
+use Rattle.split_search.proofs.Turns.{split_turns, close_turns}
+use Rattle.split_search.proofs.Continuing.{light_of, continues_closed, continues_split}
+use Rattle.split_search.proofs.Writing.{any_vertex}
+
+all_front : {X : Type 0} (P : X → Type 0) (xs : List X) (x : X) → All P (xs ++ x ∷ []) → All P xs
+all_front P [] x h = All-nil P
+all_front P (y ∷ xs) x h = All-cons P y xs (All-head P y (xs ++ x ∷ []) h) (all_front P xs x (All-tail P y (xs ++ x ∷ []) h))
+
+all_last : {X : Type 0} (P : X → Type 0) (xs : List X) (x : X) → All P (xs ++ x ∷ []) → P x
+all_last P [] x h = All-head P x [] h
+all_last P (y ∷ xs) x h = all_last P xs x (All-tail P y (xs ++ x ∷ []) h)
+
+all_push : {X : Type 0} (P : X → Type 0) (xs : List X) (x : X) → All P xs → P x → All P (xs ++ x ∷ [])
+all_push P xs x h last = All-append P xs (x ∷ []) h (All-cons P x [] last (All-nil P))
+
+-- a close of at least this weight isn't light
+not_light : (weighs primal : ℕ) → primal ≤ weighs → light_of weighs primal ≡ []
+not_light weighs primal le = by_case (ltb weighs primal) refl
+  where
+    by_case : (b : Bool) → ltb weighs primal ≡ b → cond b (weighs ∷ []) [] ≡ []
+    by_case true is = absurd (grind (arith, nat_tests))
+    by_case false is = refl
+
+lowest-append : (top w : ℕ) (ws : List ℕ) → lowest top (ws ++ w ∷ []) ≡ min (lowest top ws) w
+lowest-append top w [] = refl
+lowest-append top w (v ∷ ws) = lowest-append (min top v) w ws
+
+pub lowest_below : (top : ℕ) (ws : List ℕ) → lowest top ws ≤ top
+lowest_below top [] = omega arith
+lowest_below top (w ∷ ws) = omega (arith, lowest_below (min top w) ws)
+
+-- a weight that isn't light changes nothing
+lowest_with : (top w : ℕ) (ws : List ℕ) → min (lowest top ws) w ≡ lowest top (ws ++ light_of w top)
+lowest_with top w ws = by_case (ltb w top) refl
+  where
+    by_case : (b : Bool) → ltb w top ≡ b → min (lowest top ws) w ≡ lowest top (ws ++ cond b (w ∷ []) [])
+    by_case true is = sym (lowest-append top w ws)
+    by_case false is =
+        let above : top ≤ w = grind (arith, nat_tests) in
+        let low : min (lowest top ws) w ≡ lowest top ws = omega (arith, lowest_below top ws) in
+        low ∙ ap (lowest top) (sym (append-nil ws))
+
+few_light : (w top : ℕ) → length (light_of w top) ≤ 1
+few_light w top = by_case (ltb w top)
+  where
+    by_case : (b : Bool) → length (cond b (w ∷ []) []) ≤ 1
+    by_case true = omega arith
+    by_case false = omega arith
+
+-- a free vertex can be split at
+pub choice_splits : (I : Network) (B : Branch) (v : ℕ) → IsChoice I B v → IsSplit I B v
+choice_splits I B v choice =
+    let parts = and_parts (is_undecided B v) (not (is_required I v)) choice.free in
+    record { vertex = choice.vertex; undecided = parts.0; free = negated (is_required I v) parts.1 }
+  where
+    negated : (b : Bool) → not b ≡ true → b ≡ false
+    negated true h = absurd (false≢true h)
+    negated false h = refl
+
+-- after a close, with this tree as the best
+closed : (I : Network) (lines : List ProofLine) (Ns : List Node) (N : Node) (best better : Tree) (least price : ℕ) (P : Packing) → IsTree I better → price ≡ cost I better → price ≤ least → Closes I N.branch price P → IsWritablePacking P
+    → IsUnderWay I lines (Ns ++ N ∷ []) best least → IsUnderWay I (lines ++ Close P ∷ []) Ns better price
+closed I lines Ns N best better least price P tree is_cost lower closes writable u = record {
+  instance = u.instance;
+  tree = tree;
+  is_cost = is_cost;
+  cheap = λ nobody. omega (arith, u.cheap nobody);
+  nodes = all_front (IsNode I) Ns N u.nodes;
+  continues = λ primal below. subst (λ (light : List ℕ). Continues I primal primal light (lines ++ Close P ∷ []) Ns) (not_light (weight I N.branch P) primal (omega (arith, closes.weighs))) (continues_closed I primal primal [] lines Ns N P primal closes.fits (omega arith) (omega (arith, closes.weighs)) (u.continues primal (omega arith)));
+  few_waiting = omega (arith, u.few_waiting, length-append Ns (N ∷ []), length-append lines (Close P ∷ []));
+  turns_left = omega (arith, u.turns_left, close_turns I Ns N, length-append lines (Close P ∷ []));
+  written = all_push IsWritableLine lines (Close P) u.written writable;
+}
+
+-- the same state again
+pub same_state : (I : Network) (lines new_lines : List ProofLine) (waiting new_waiting : List Node) (best new_best : Tree) (least new_least : ℕ) → new_lines ≡ lines → new_waiting ≡ waiting → new_best ≡ best → new_least ≡ least
+    → IsUnderWay I lines waiting best least → IsUnderWay I new_lines new_waiting new_best new_least
+same_state I lines new_lines waiting new_waiting best new_best least new_least a b d e u = rw (a, b, d, e) u
+
+pub close_keeps : (I : Network) (lines : List ProofLine) (Ns : List Node) (N : Node) (best : Tree) (least : ℕ) (P : Packing) → Closes I N.branch least P × IsWritablePacking P
+    → IsUnderWay I lines (Ns ++ N ∷ []) best least → IsUnderWay I (lines ++ Close P ∷ []) Ns best least
+close_keeps I lines Ns N best least P (closes, writable) u = closed I lines Ns N best best least least P u.tree u.is_cost (omega arith) closes writable u
+
+pub improve_keeps : (I : Network) (lines : List ProofLine) (Ns : List Node) (N : Node) (best better : Tree) (least price : ℕ) (P : Packing) → IsTree I better × (price ≡ cost I better) × (price < least) × Closes I N.branch price P × IsWritablePacking P
+    → IsUnderWay I lines (Ns ++ N ∷ []) best least → IsUnderWay I (lines ++ Close P ∷ []) Ns better price
+improve_keeps I lines Ns N best better least price P h u = closed I lines Ns N best better least price P h.0 h.1 (omega (arith, h.2)) h.3 h.4 u
+
+pub split_keeps : (I : Network) (lines : List ProofLine) (Ns : List Node) (N M : Node) (best : Tree) (least v : ℕ) → (M.branch ≡ N.branch) × IsNoLighter I N M × IsChoice I N.branch v
+    → IsUnderWay I lines (Ns ++ N ∷ []) best least → IsUnderWay I (lines ++ Split v ∷ []) (Ns ++ outside_half M v ∷ inside_half M v ∷ []) best least
+split_keeps I lines Ns N M best least v h u =
+    let is_split = choice_splits I N.branch v h.2 in
+    let of_half : IsSplit I M.branch v = subst (λ (B : Branch). IsSplit I B v) (sym h.0) is_split in
+    let inner : with_inside M.branch v ≡ with_inside N.branch v = ap (λ B. with_inside B v) h.0 in
+    let outer : with_outside M.branch v ≡ with_outside N.branch v = ap (λ B. with_outside B v) h.0 in
+    record {
+      instance = u.instance;
+      tree = u.tree;
+      is_cost = u.is_cost;
+      cheap = u.cheap;
+      nodes = All-append (IsNode I) Ns (outside_half M v ∷ inside_half M v ∷ []) (all_front (IsNode I) Ns N u.nodes)
+          (All-cons (IsNode I) (outside_half M v) (inside_half M v ∷ []) (outside_node I M v h.1.node of_half) (All-cons (IsNode I) (inside_half M v) [] (inside_node I M v h.1.node of_half) (All-nil (IsNode I))));
+      continues = λ primal below. continues_split I primal primal [] lines Ns N (inside_half M v) (outside_half M v) v inner outer is_split (u.continues primal below);
+      few_waiting = omega (arith, u.few_waiting, length-append Ns (N ∷ []), length-append Ns (outside_half M v ∷ inside_half M v ∷ []), length-append lines (Split v ∷ []));
+      turns_left = omega (arith, u.turns_left, split_turns I Ns N (inside_half M v) (outside_half M v) v inner outer h.2.vertex h.2.free, length-append lines (Split v ∷ []));
+      written = all_push IsWritableLine lines (Split v) u.written (any_vertex I v u.instance h.2.vertex);
+    }
+
+-- a node that is left closes by its own packing
+pub left_closes : (I : Network) (least : ℕ) (first : List ProofLine) (left : List Node) (lines : List ProofLine) (Ns : List Node) (N : Node) (dual : ℕ) → IsClosing I least first left lines (Ns ++ N ∷ []) dual
+    → IsClosing I least first left (lines ++ Close N.packing ∷ []) Ns (min dual (weight I N.branch N.packing))
+left_closes I least first left lines Ns N dual k =
+    let node = all_last (IsNode I) Ns N k.nodes in
+    let weighs = weight I N.branch N.packing in
+    let lower : min dual weighs ≤ dual = omega arith in
+    let lighter : min dual weighs ≤ weighs = omega arith in
+    record {
+      closed = k.closed + 1;
+      count = omega (arith, k.count, length-append Ns (N ∷ []));
+      more = omega (arith, k.more, length-append lines (Close N.packing ∷ []));
+      light = k.light ++ light_of weighs least;
+      few = omega (arith, k.few, few_light weighs least, length-append k.light (light_of weighs least));
+      low = ap (λ d. min d weighs) k.low ∙ lowest_with least weighs k.light;
+      nodes = all_front (IsNode I) Ns N k.nodes;
+      continues = continues_closed I dual least k.light lines Ns N N.packing (min dual weighs) node.fits lower lighter k.continues;
+      written = all_push IsWritableLine lines (Close N.packing) k.written node.writable;
+    }
+
+-- where nothing is closed yet
+pub none_closed : (I : Network) (lines : List ProofLine) (waiting : List Node) (best : Tree) (least : ℕ) → IsUnderWay I lines waiting best least → IsClosing I least lines waiting lines waiting least
+none_closed I lines waiting best least u = record {
+  closed = 0;
+  count = omega arith;
+  more = omega arith;
+  light = [];
+  few = omega arith;
+  low = refl;
+  nodes = u.nodes;
+  continues = u.continues least (omega arith);
+  written = u.written;
+}

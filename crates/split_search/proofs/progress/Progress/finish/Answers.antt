@@ -1,0 +1,23 @@
+use Rattle.std.proofs.lemmas.Bool.{false≢true}
+use Rattle.split_search.proofs.Continuing.{continues_at_last}
+use Rattle.split_search.proofs.Ending.{ends_accepted, ends_greatest, ends_spent, ends_writable}
+use Rattle.split_search.proofs.progress.Progress.finish.Goals as goal
+
+-- the lines are one proof tree
+pub unreachable-requires : goal.unreachable-requires
+unreachable-requires c =
+    let k = c.in_ok-dual.ensures.closed in
+    let p = continues_at_last c.args.instance.now c.in_ok-dual.dual c.args.self.least k.light c.close_left.new.self.lines.items k.continues in
+    false≢true (c.in_default.ensures.one.1 (p.proof, p.written))
+
+pub returns-clause-accepted : goal.returns-clause-accepted
+returns-clause-accepted c = rw (c.in-Some.ensures.lines, c.in_ok-dual.ensures.best, c.in_ok-dual.ensures.least) (ends_accepted c.args.instance.now c.args.self.best c.args.self.least c.args.self.lines.items c.args.self.waiting.items c.close_left.new.self.lines.items c.in_ok-dual.dual c.requires.tree c.requires.is_cost c.in_ok-dual.ensures.closed)
+
+pub returns-clause-spent : goal.returns-clause-spent
+returns-clause-spent c = rw (c.in-Some.ensures.lines, c.in_ok-dual.ensures.least) (ends_spent c.args.instance.now c.args.self.least c.args.self.lines.items c.args.self.waiting.items c.close_left.new.self.lines.items c.in_ok-dual.dual c.in_ok-dual.ensures.closed)
+
+pub returns-clause-writable : goal.returns-clause-writable
+returns-clause-writable c = rw (c.in-Some.ensures.lines, c.in_ok-dual.ensures.best, c.in_ok-dual.ensures.least) (ends_writable c.args.instance.now c.args.self.best c.args.self.least c.args.self.lines.items c.args.self.waiting.items c.close_left.new.self.lines.items c.in_ok-dual.dual c.requires.instance c.requires.tree c.requires.is_cost c.in_ok-dual.ensures.closed)
+
+pub returns-clause-greatest : goal.returns-clause-greatest
+returns-clause-greatest c = rw (c.in-Some.ensures.lines, c.in_ok-dual.ensures.least) (ends_greatest c.args.instance.now c.args.self.least c.args.self.lines.items c.args.self.waiting.items c.close_left.new.self.lines.items c.in_ok-dual.dual c.in_ok-dual.ensures.closed)

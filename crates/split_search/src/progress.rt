@@ -1,0 +1,166 @@
+ghost use Rattle.std.specs.Prelude.{◌≡◌, ◌⊎◌, ◌+◌, ◌≤◌, ◌∷◌, ◌++◌, [], length, min, IfOk, OnOk};
+ghost use Rattle.st_model.specs.Lists.{sum_to};
+ghost use Rattle.st_model.specs.Network.{pays};
+ghost use Rattle.st_model.specs.Arborescence.{IsTree, cost};
+ghost use Rattle.log_format.specs.Accepts.{AcceptsFound};
+ghost use Rattle.log_format.specs.Text.{IsWritableFound};
+ghost use Rattle.split_search.specs.Node.{inside_half, outside_half};
+ghost use Rattle.split_search.specs.Progress.{IsUnderWay, IsClosing};
+ghost use Rattle.split_search.specs.Searched.{IsGreatestBound, IsNobodyRequired, IsSpent};
+
+use crate::expanding::{Step, expand};
+use crate::node::{Node, halves, root};
+use crate::{Gate, Searched};
+use cut_packing::{Packing, weight};
+use log_format::{Proof, ProofLine};
+use st_model::{Instance, MAX_VERTICES, Tree, tree_cost};
+use std::alloc::{AllocError, Global};
+
+/// A search between two nodes: the lines of the proof so far, the nodes that wait, the next one
+/// last, the best tree so far and what it costs.
+#[derive(Drop)]
+pub struct Progress {
+    lines: Vec<ProofLine>,
+    waiting: Vec<Node>,
+    best: Tree,
+    least: u64,
+}
+
+impl Progress {
+    /// The start, where the branch of all trees waits.
+    pub fn begin(alloc: Global, instance: &Instance, start: Tree) -> Result<Progress, AllocError>
+        requires tree { IsTree instance.now start }
+        requires cheap { IsNobodyRequired instance.now
+            → cost instance.now start ≤ sum_to (pays instance.now) instance.now.n }
+        ensures under_way { IfOk result (λ p. IsUnderWay instance.now p.lines.items p.waiting.items p.best p.least) }
+        ensures lines { IfOk result (λ p. p.lines.items ≡ []) }
+        ensures best { IfOk result (λ p. p.best ≡ start) }
+    {
+        // So that each vertex can be written.
+        prove!(instance.vertices() <= MAX_VERTICES);
+        let least = tree_cost(instance, &start);
+        Ok(Progress {
+            lines: Vec::new(alloc),
+            waiting: vec![in alloc; root(alloc)]?,
+            best: start,
+            least,
+        })
+    }
+
+    /// Works on nodes until none waits or the budget is spent.
+    pub fn run<G: Gate>(
+        &mut self,
+        alloc: Global,
+        instance: &Instance,
+        budget: u64,
+        gate: &G,
+    ) -> Result<(), AllocError>
+        requires under_way { IsUnderWay instance.now self.old.lines.items self.old.waiting.items self.old.best self.old.least }
+        requires lines { self.old.lines.items ≡ [] }
+        ensures under_way { OnOk result (IsUnderWay instance.now self.new.lines.items self.new.waiting.items self.new.best self.new.least) }
+        ensures no_worse { OnOk result (self.new.least ≤ self.old.least) }
+        ensures within { OnOk result (length self.new.lines.items ≤ budget) }
+        ensures spent { OnOk result ((self.new.waiting.items ≡ []) ⊎ (length self.new.lines.items ≡ budget)) }
+    {
+        for taken in 0..budget {
+            let Some(node) = self.waiting.pop() else {
+                return Ok(());
+            };
+            gate.at(0, taken);
+            self.take(alloc, instance, node)?;
+        }
+        Ok(())
+    }
+
+    // Works on one node.
+    fn take(&mut self, alloc: Global, instance: &Instance, node: Node) -> Result<(), AllocError>
+        requires { IsUnderWay instance.now self.old.lines.items (self.old.waiting.items ++ node ∷ []) self.old.best self.old.least }
+        ensures under_way { OnOk result (IsUnderWay instance.now self.new.lines.items self.new.waiting.items self.new.best self.new.least) }
+        ensures no_worse { OnOk result (self.new.least ≤ self.old.least) }
+        ensures line { OnOk result (length self.new.lines.items ≡ length self.old.lines.items + 1) }
+    {
+        match expand(alloc, instance, node, self.least)? {
+            Step::Close(packing) => self.close(packing),
+            Step::Improve(tree, price, packing) => {
+                self.best = tree;
+                self.least = price;
+                self.close(packing)
+            }
+            Step::Split(node, vertex) => self.split(alloc, node, vertex),
+        }
+    }
+
+    // Writes a close.
+    fn close(&mut self, packing: Packing) -> Result<(), AllocError>
+        ensures lines { OnOk result (self.new.lines.items ≡ self.old.lines.items ++ ProofLine.Close packing ∷ []) }
+        ensures waiting { self.new.waiting ≡ self.old.waiting }
+        ensures best { self.new.best ≡ self.old.best }
+        ensures least { self.new.least ≡ self.old.least }
+    {
+        self.lines.push(ProofLine::Close(packing))?;
+        Ok(())
+    }
+
+    // Writes a split, and has the halves wait, the one with the vertex inside as the next.
+    fn split(&mut self, alloc: Global, node: Node, vertex: u32) -> Result<(), AllocError>
+        ensures lines { OnOk result (self.new.lines.items ≡ self.old.lines.items ++ ProofLine.Split vertex ∷ []) }
+        ensures waiting { OnOk result (self.new.waiting.items ≡ self.old.waiting.items ++ outside_half node vertex ∷ inside_half node vertex ∷ []) }
+        ensures best { self.new.best ≡ self.old.best }
+        ensures least { self.new.least ≡ self.old.least }
+    {
+        let (inside, outside) = halves(alloc, node, vertex)?;
+        self.lines.push(ProofLine::Split(vertex))?;
+        self.waiting.push(outside)?;
+        self.waiting.push(inside)?;
+        Ok(())
+    }
+
+    /// Closes what is left by the packings that it has.
+    pub fn finish(mut self, instance: &Instance) -> Result<Searched, AllocError>
+        requires { IsUnderWay instance.now self.lines.items self.waiting.items self.best self.least }
+        ensures accepted { IfOk result (λ s. AcceptsFound instance.now s.primal s.dual s.tree s.proof) }
+        ensures primal { IfOk result (λ s. s.primal ≡ self.least) }
+        ensures greatest { IfOk result (λ s. IsGreatestBound instance.now s.primal s.dual s.proof) }
+        ensures whole { self.waiting.items ≡ [] → IfOk result (λ s. s.dual ≡ s.primal) }
+        ensures spent { IfOk result (λ s. IsSpent (length self.lines.items) instance.now s.primal s.proof) }
+        ensures lines { IfOk result (λ s. length s.proof ≡ length self.lines.items + length self.waiting.items) }
+        ensures writable { IfOk result (λ s. IsWritableFound s.primal s.dual s.tree s.proof) }
+    {
+        let dual = self.close_left(instance)?;
+        let Some(proof) = Proof::of(self.lines) else {
+            unreachable!()
+        };
+        Ok(Searched {
+            tree: self.best,
+            primal: self.least,
+            dual,
+            proof,
+        })
+    }
+
+    // Closes the nodes that wait; the lesser of the least cost known and their weights.
+    fn close_left(&mut self, instance: &Instance) -> Result<u64, AllocError>
+        requires { IsUnderWay instance.now self.old.lines.items self.old.waiting.items self.old.best self.old.least }
+        ensures closed { IfOk result (IsClosing instance.now self.old.least self.old.lines.items self.old.waiting.items self.new.lines.items []) }
+        ensures best { self.new.best ≡ self.old.best }
+        ensures least { self.new.least ≡ self.old.least }
+    {
+        let mut dual = self.least;
+        while let Some(node) = self.waiting.pop() {
+            dual = lesser(dual, weight(instance, &node.branch, &node.packing));
+            self.close(node.packing)?;
+        }
+        Ok(dual)
+    }
+}
+
+// The lesser of two numbers.
+fn lesser(dual: u64, weight: u128) -> u64
+    ensures { result ≡ min dual weight }
+{
+    if weight < u128::from(dual) {
+        weight as u64
+    } else {
+        dual
+    }
+}

@@ -1,0 +1,106 @@
+ghost use Rattle.std.specs.Prelude.{◌≡◌, ◌≤◌, [], IfSome, IfNone, IsTrue};
+ghost use Rattle.st_model.specs.Arborescence.{cost};
+ghost use Rattle.st_model.specs.Lists.{sum_to};
+ghost use Rattle.st_model.specs.Network.{IsVertex, is_required, pays};
+ghost use Rattle.split_search.specs.Searched.{IsNobodyRequired};
+
+use crate::{Gate, search};
+use st_model::{Instance, Listed, Need, Tree, is_tree};
+use std::alloc::{AllocError, Global};
+
+// The dual and the primal of a search, from a tree over all links where somebody is required, and
+// else from vertex 1 alone. None where that isn't a tree.
+pub fn bounds<G: Gate>(
+    alloc: Global,
+    instance: &Instance,
+    budget: u64,
+    gate: &G,
+) -> Result<Option<(u64, u64)>, AllocError> {
+    match first_required(instance) {
+        Some(vertex) => {
+            let start = grown(alloc, instance, vertex)?;
+            bounds_from(alloc, instance, start, budget, gate)
+        }
+        None => bounds_from(alloc, instance, lone(alloc, instance), budget, gate),
+    }
+}
+
+fn bounds_from<G: Gate>(
+    alloc: Global,
+    instance: &Instance,
+    start: Tree,
+    budget: u64,
+    gate: &G,
+) -> Result<Option<(u64, u64)>, AllocError>
+    requires { IsNobodyRequired instance.now
+        → cost instance.now start ≤ sum_to (pays instance.now) instance.now.n }
+{
+    if !is_tree(alloc, instance, &start)? {
+        return Ok(None);
+    }
+    let found = search(alloc, instance, start, budget, gate)?;
+    Ok(Some((found.dual, found.primal)))
+}
+
+// The first vertex that is required.
+fn first_required(instance: &Instance) -> Option<u32>
+    ensures vertex { IfSome result (IsVertex instance.now.n) }
+    ensures required { IfSome result (λ v. IsTrue (is_required instance.now v)) }
+    ensures none { IfNone result (IsNobodyRequired instance.now) }
+{
+    for before in 0..instance.vertices() {
+        if instance.need(before + 1) == Need::Required {
+            return Some(before + 1);
+        }
+    }
+    None
+}
+
+// Vertex 1 alone.
+fn lone(alloc: Global, instance: &Instance) -> Tree
+    ensures { cost instance.now result ≤ sum_to (pays instance.now) instance.now.n }
+{
+    prove!(1 <= instance.vertices());
+    Tree {
+        start: 1,
+        arcs: Listed::of(Vec::new(alloc)),
+    }
+}
+
+// A set of vertices as a number: vertex 1 is 2, vertex 2 is 4, and so on.
+pub fn bit(vertex: u32) -> u32 {
+    1u32.wrapping_shl(vertex)
+}
+
+// A tree over all that hangs together with a vertex.
+fn grown(alloc: Global, instance: &Instance, first: u32) -> Result<Tree, AllocError> {
+    let mut arcs = Vec::new(alloc);
+    let mut reached = bit(first);
+    for _turn in 0..instance.vertices() {
+        reached = grow(instance, reached, &mut arcs)?;
+    }
+    Ok(Tree {
+        start: first,
+        arcs: Listed::of(arcs),
+    })
+}
+
+// Adds each link in turn that leads from what is reached to a new vertex; all that is reached then.
+fn grow(
+    instance: &Instance,
+    mut reached: u32,
+    arcs: &mut Vec<(u32, u32)>,
+) -> Result<u32, AllocError> {
+    for link in instance.links() {
+        let (a, b) = (bit(link.a), bit(link.b));
+        if reached & a != 0 && reached & b == 0 {
+            arcs.push((link.a, link.b))?;
+        } else if reached & b != 0 && reached & a == 0 {
+            arcs.push((link.b, link.a))?;
+        } else {
+            continue;
+        }
+        reached = reached | a | b;
+    }
+    Ok(reached)
+}
