@@ -7,6 +7,9 @@ use Rattle.std.specs.Map.{keys_of}
 use Rattle.st_model.specs.declared.link.Link.{Link}
 use Rattle.st_model.specs.declared.need.Need.{Need}
 use Rattle.st_model.specs.Network.{IsVertex, IsLinkBetween, joins, link, amount}
+use Rattle.st_model.specs.Lists.{total}
+use Rattle.st_model.proofs.Sums.{total-append}
+use Rattle.st_model.proofs.RegrowAlike.{total-IsPermutation}
 use Rattle.st_model.proofs.Distinct.{link-comm}
 use Rattle.graph_store.specs.declared.joints.Joint.{Joint}
 use Rattle.graph_store.specs.Changes.{are_ends}
@@ -145,3 +148,20 @@ none_found es new a b (Some joint) ordered is same none =
 pub on_ok_then : {X E : Type 0} (r : Result X E) (P Q : Type 0) → OnOk r P → (P → Q) → OnOk r Q
 on_ok_then (Ok x) P Q h f = f h
 on_ok_then (Err e) P Q h f = tt
+
+-- what all links cost together once one of them was taken out
+pub total-removed : (es new : List Entry) (a b : ℕ) (found : Option Joint) → All IsOrdered (keys_of es) → found ≡ joint_of es a b → IfSome found (λ joint. IsPermutation (links_of es) (record { a = min a b; b = max a b; cost = joint.cost } ∷ links_of new)) → IfNone found (new ≡ es) → total (λ l. l.cost) (links_of new) + unwrap_or (link (links_of es) a b) 0 ≡ total (λ l. l.cost) (links_of es)
+total-removed es new a b None ordered is moves same =
+    let none : link (links_of es) a b ≡ None = link-joint es a b ordered ∙ ap (option_map (λ (joint : Joint). joint.cost)) (sym is) in
+    let left = ap (λ o. unwrap_or o 0) none in
+    let all = ap (λ (x : List Entry). total (λ (l : Link). l.cost) (links_of x)) same in
+    omega arith
+total-removed es new a b (Some joint) ordered is moves same =
+    let some : link (links_of es) a b ≡ Some joint.cost = link-joint es a b ordered ∙ ap (option_map (λ (joint : Joint). joint.cost)) (sym is) in
+    let left = ap (λ o. unwrap_or o 0) some in
+    let all : total (λ l. l.cost) (links_of es) ≡ joint.cost + total (λ (l : Link). l.cost) (links_of new) = total-IsPermutation (λ (l : Link). l.cost) (links_of es) _ moves in
+    omega arith
+
+-- and once one more was put in
+pub total-pushed : (es : List Entry) (new : List Link) (l : Link) → new ≡ links_of es ++ l ∷ [] → total (λ l. l.cost) new ≡ total (λ l. l.cost) (links_of es) + l.cost
+total-pushed es new l is = let all : total (λ l. l.cost) new ≡ total (λ l. l.cost) (links_of es) + (l.cost + 0) = ap (total (λ (l : Link). l.cost)) is ∙ total-append (λ (l : Link). l.cost) (links_of es) (l ∷ []) in omega arith

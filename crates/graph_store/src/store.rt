@@ -1,4 +1,4 @@
-ghost use Rattle.std.specs.Prelude.{◌≡◌, ◌≢◌, ℕ, ◌+◌, ◌^◌, ◌<◌, ◌↔◌, true, IsTrue, IsSome, None, IfOk, IfSome, IfNone, OnOk, OnErr, length, replicate};
+ghost use Rattle.std.specs.Prelude.{◌≡◌, ◌≢◌, ℕ, ◌+◌, ◌^◌, ◌<◌, ◌≤◌, ◌↔◌, true, IsTrue, IsSome, None, IfOk, IfSome, IfNone, OnOk, OnErr, length, replicate, unwrap_or};
 ghost use Rattle.st_model.specs.Network.{IsVertex, amount, link, need_of, pays, prize};
 ghost use Rattle.graph_store.specs.Graph.{is_in, IsGraph};
 ghost use Rattle.graph_store.specs.Changes.{RemovesVertex, RemovesLink, PutsLink, with_need};
@@ -106,7 +106,8 @@ impl Store {
     /// Removes a vertex and its links, in time linear in its degree.
     pub fn remove_vertex(&mut self, vertex: u32)
         requires { IsVertex self.old.network.n vertex }
-        ensures { RemovesVertex self.old self.new vertex }
+        ensures removes { RemovesVertex self.old self.new vertex }
+        ensures amount { amount self.new.network ≤ amount self.old.network }
     {
         while let Some(other) = self.last_neighbour(vertex) {
             self.remove_link(vertex, other);
@@ -130,6 +131,7 @@ impl Store {
         ensures removes { RemovesLink self.old self.new a b }
         ensures fewer { IsSome (link self.old.network.links a b) → length self.new.network.links + 1 ≡ length self.old.network.links }
         ensures unchanged { link self.old.network.links a b ≡ None → self.new ≡ self.old }
+        ensures amount { amount self.new.network + unwrap_or (link self.old.network.links a b) 0 ≡ amount self.old.network }
     {
         unlink(&mut self.lists, &mut self.joints, a, b);
     }
@@ -142,6 +144,7 @@ impl Store {
         requires different { a ≢ b }
         requires amount { amount self.old.network + cost < 2 ^ 63 }
         ensures ok { OnOk result (PutsLink self.old self.new a b cost) }
+        ensures amount { OnOk result (amount self.new.network ≤ amount self.old.network + cost) }
         ensures err { OnErr result (self.new ≡ self.old) }
     {
         let (low, high) = (a.min(b), a.max(b));

@@ -1,7 +1,7 @@
-use Rattle.std.proofs.Common.{rules, refl, sym}
+use Rattle.std.proofs.Common.{arith, rules, refl, sym}
 use Rattle.graph_store.specs.Joined.{links_of}
 use Rattle.graph_store.proofs.Keeping.{cheaper}
-use Rattle.graph_store.proofs.PutLinks.{graph_pushed, links_pushed, links_cheaper, links_kept, on_ok_then}
+use Rattle.graph_store.proofs.PutLinks.{graph_pushed, links_pushed, links_cheaper, links_kept, on_ok_then, total-pushed}
 use Rattle.graph_store.proofs.store.Store.put_link.Goals as goal
 
 pub invariant_of-self : goal.invariant_of-self
@@ -43,3 +43,9 @@ returns-in-Some-2-clause-ok c = rw (← c.self.view_is) (record {
   present = refl;
   links = links_kept c.self.inside.joints.entries c.args.a c.args.b c.min-low.result c.max-high.result c.args.cost c.in-Some.joint c.min-low.ensures c.max-high.ensures c.self.invariant.pairs.ordered (sym c.in-Some.ensures) c.if-cost-joint.false;
 })
+
+pub returns-in-None-clause-amount : goal.returns-in-None-clause-amount
+returns-in-None-clause-amount c = rw (← c.self.view_is) (on_ok_then c.attach.result _ _ c.attach.ensures.ok (λ is. (let all = total-pushed c.self.inside.joints.entries (links_of c.attach.new.joints.entries) (record { a = c.min-low.result; b = c.max-high.result; cost = c.args.cost }) is in omega arith)))
+
+pub returns-in-Some-clause-amount : goal.returns-in-Some-clause-amount
+returns-in-Some-clause-amount c = rw (← c.self.view_is) (let less = c.cheapen.ensures.total in omega arith)
