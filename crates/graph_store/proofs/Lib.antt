@@ -1,0 +1,12 @@
+pub mod Pairs
+pub mod JointLemmas
+pub mod ListLemmas
+pub mod Halves
+pub mod Links
+pub mod Unlinking
+pub mod Joining
+pub mod Keeping
+pub mod Reading
+pub mod PutLinks
+pub mod Made
+pub mod Vertices

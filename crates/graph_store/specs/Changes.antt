@@ -1,0 +1,34 @@
+-- What each change does to a graph, and what it leaves.
+use Rattle.std.specs.Prelude.{◌≡◌, ℕ, ◌-◌, min, Bool, false, ◌&&◌, ◌||◌, ◌==◌, if◌then◌else◌, slice_set, Some, None, unwrap_or}
+use Rattle.st_model.specs.declared.need.Need.{Need}
+use Rattle.st_model.specs.Network.{link}
+use Rattle.graph_store.specs.Graph.{Graph}
+
+-- u and w are a and b, in either order
+abbrev pub are_ends : ℕ → ℕ → ℕ → ℕ → Bool
+are_ends a b u w = ((u == a) && (w == b)) || ((u == b) && (w == a))
+
+-- v is gone with its links; the rest is as before
+pub record RemovesVertex (old new : Graph) (v : ℕ) : Type 0 where
+  pub count : new.network.n ≡ old.network.n
+  pub needs : new.network.needs ≡ old.network.needs
+  pub present : new.present ≡ slice_set old.present (v - 1) false
+  pub links : (u w : ℕ) → link new.network.links u w ≡ (if (u == v) || (w == v) then None else link old.network.links u w)
+
+-- no link is left between a and b; the rest is as before
+pub record RemovesLink (old new : Graph) (a b : ℕ) : Type 0 where
+  pub count : new.network.n ≡ old.network.n
+  pub needs : new.network.needs ≡ old.network.needs
+  pub present : new.present ≡ old.present
+  pub links : (u w : ℕ) → link new.network.links u w ≡ (if are_ends a b u w then None else link old.network.links u w)
+
+-- the link between a and b has the less of the cost and its cost so far; the rest is as before
+pub record PutsLink (old new : Graph) (a b cost : ℕ) : Type 0 where
+  pub count : new.network.n ≡ old.network.n
+  pub needs : new.network.needs ≡ old.network.needs
+  pub present : new.present ≡ old.present
+  pub links : (u w : ℕ) → link new.network.links u w ≡ (if are_ends a b u w then Some (min cost (unwrap_or (link old.network.links a b) cost)) else link old.network.links u w)
+
+-- the graph, in which v needs this
+abbrev pub with_need : Graph → ℕ → Need → Graph
+with_need g v need = record g { network = record g.network { needs = slice_set g.network.needs (v - 1) need } }

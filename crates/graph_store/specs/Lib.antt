@@ -1,0 +1,4 @@
+pub mod Graph
+pub mod Changes
+pub mod Neighbours
+pub mod Joined

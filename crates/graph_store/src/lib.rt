@@ -1,0 +1,16 @@
+//! A graph that changes: an instance, and which of its vertices are present.
+//!
+//! A `Store` is seen as a network whose links stand in a free order, and a mark for each vertex.
+//! A caller may rely on each call's clause for the whole graph: what it changes, and that all
+//! else is as before. What is kept of a link is found by its ends in constant expected time.
+#![tactic(auto)]
+
+mod building;
+mod half;
+mod joints;
+mod linking;
+mod lists;
+mod store;
+
+pub use half::Half;
+pub use store::Store;

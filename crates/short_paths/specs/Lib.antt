@@ -1,0 +1,4 @@
+pub mod Walk
+pub mod Routes
+pub mod Searching
+pub mod Steps

@@ -1,0 +1,92 @@
+ghost use Rattle.std.specs.Prelude.{◌≡◌, ℕ, ◌+◌, ◌<◌, ◌≤◌, length, All, IfOk, [], slice_index_or};
+ghost use Rattle.std.specs.Option.{option_map};
+ghost use Rattle.st_model.specs.Network.{IsVertex};
+ghost use Rattle.short_paths.specs.Routes.{route_of, AreRoutes};
+ghost use Rattle.short_paths.specs.Searching.{paths_of};
+
+use crate::search::Search;
+use crate::settled::Settled;
+use graph_store::Store;
+use std::alloc::{AllocError, Global};
+use std::marker::Model;
+
+/// How far each vertex is from the sources, and by which path.
+#[derive(Drop)]
+pub struct Distances {
+    settled: Vec<Settled>,
+    // By vertex, its place among those that are settled.
+    places: Vec<Option<usize>>,
+}
+
+impl Model for Distances {
+    ghost use Rattle.std.specs.Prelude.{List, Option};
+    ghost use Rattle.short_paths.specs.Routes.{Route};
+    ghost use Rattle.short_paths.specs.Searching.{routes_of, ArePlaces};
+
+    ghost Value = { List (Option Route) };
+
+    ghost view = { λ d. routes_of d.settled.items d.places.items };
+
+    ghost invariant = { λ d. ArePlaces d.settled.items d.places.items };
+}
+
+/// The least that a walk from one of the sources to each vertex costs, where that is at most the
+/// limit, and a path of that cost. Sources may repeat, and need not be present. The vertices are
+/// settled in the order of their distance (Dijkstra 1959), in a time near linear in the links.
+pub fn from_many(
+    alloc: Global,
+    store: &Store,
+    sources: &[u32],
+    limit: u64,
+) -> Result<Distances, AllocError>
+    requires { All (IsVertex store.now.network.n) sources.now }
+    ensures { IfOk result (AreRoutes store.now.network.links store.now.network.n sources.now limit) }
+{
+    let mut search = Search::start(alloc, store.vertices(), sources)?;
+    while let Some((cost, vertex, from)) = search.next() {
+        search.take(store, limit, cost, vertex, from)?;
+    }
+    Ok(Distances {
+        settled: search.settled,
+        places: search.places,
+    })
+}
+
+impl Distances {
+    /// How far a vertex is from the sources, if it is within the limit.
+    pub fn at(&self, vertex: u32) -> Option<u64>
+        requires { IsVertex (length self.now) vertex }
+        ensures { result ≡ option_map (λ route. route.cost) (route_of self.now vertex) }
+    {
+        let place = self.places[vertex as usize]?;
+        Some(self.settled[place].cost)
+    }
+
+    /// A path from a source to a vertex, if it is within the limit: each two next vertices are
+    /// linked, and their links cost what `at` tells.
+    pub fn path_to(&self, alloc: Global, vertex: u32) -> Result<Option<Vec<u32>>, AllocError>
+        requires { IsVertex (length self.now) vertex }
+        ensures { IfOk result (λ path. option_map (λ vertices. vertices.items) path ≡ option_map (λ route. route.path) (route_of self.now vertex)) }
+    {
+        match self.places[vertex as usize] {
+            Some(place) => Ok(Some(path_back(alloc, &self.settled, place)?)),
+            None => Ok(None),
+        }
+    }
+}
+
+// The path to the vertex that was settled at a place.
+fn path_back(alloc: Global, settled: &[Settled], place: usize) -> Result<Vec<u32>, AllocError>
+    requires { place < length settled.now }
+    ensures { IfOk result (λ path. path.items ≡ slice_index_or (paths_of settled.now) place []) }
+{
+    let mut path = Vec::new(alloc);
+    let mut here = place;
+    path.push(settled[here].vertex)?;
+    while settled[here].before < here {
+        here = settled[here].before;
+        path.push(settled[here].vertex)?;
+    }
+    path.reverse();
+    Ok(path)
+}
