@@ -11,6 +11,8 @@ mod joints;
 mod linking;
 mod lists;
 mod store;
+#[cfg(test)]
+mod tests;
 
 pub use half::Half;
 pub use store::Store;

@@ -8,5 +8,7 @@
 mod distances;
 mod search;
 mod settled;
+#[cfg(test)]
+mod tests;
 
 pub use distances::{Distances, from_many};
