@@ -13,7 +13,8 @@ use std::alloc::Global;
 
 /// What may be concluded of an instance from a log: a verdict where the log is accepted, and else
 /// the first check that fails. Each packing is judged once, as the lines come, and of the branches
-/// one alone is held, with the splits that lead to it.
+/// one alone is held, with the splits that lead to it. So the memory is linear in the instance, one
+/// packing and the splits that are open.
 pub fn judge(alloc: Global, instance: &Instance, log: &Log) -> Result<Verdict, JudgeError>
     requires { HasFewLines log.now }
     ensures exact { IsJudgement instance.now log.now result }
