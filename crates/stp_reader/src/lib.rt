@@ -23,14 +23,16 @@ mod read;
 mod reason;
 mod stage;
 mod terminals;
-#[cfg(test)]
-mod tests;
 mod words;
 
 pub use fault::{ReadError, StpFault};
 pub use law::refused_exactly;
-use read::file_in;
 pub use reason::Reason;
+
+#[cfg(test)]
+mod tests;
+
+use read::file_in;
 use st_model::Instance;
 use std::alloc::Global;
 

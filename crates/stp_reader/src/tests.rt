@@ -435,3 +435,11 @@ fn reads_a_file_cut_behind_its_end(rt: HostRuntime) -> Result<(), Fail> {
     }
     Ok(())
 }
+
+#[test]
+fn tells_reasons(rt: HostRuntime) {
+    refused_exactly();
+    let reasons = [Reason::NoHeader, Reason::BadNumber, Reason::NoVertices];
+    assert_eq!(rt; reasons.map(|reason| reason.code()), [1, 6, 17]);
+    assert_eq!(rt; Reason::CountMismatch.name(), "CountMismatch");
+}
