@@ -1,4 +1,6 @@
-pub mod Words
 pub mod Output
+pub mod Outcome
+pub mod Answer
+pub mod Start
 pub mod Causes
-pub mod Headline
+

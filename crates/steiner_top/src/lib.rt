@@ -1,17 +1,25 @@
 //! The solver from the words of the command line to the bytes of the answer.
 //!
 //! `run` is the one place where words, a shelf, a sink and a gate meet. A caller may rely on its
-//! clauses alone: which status has which cause, what was sent, and that the tree of a solution is
-//! a best tree of the instance that the file stands for.
+//! clauses alone: which status has which cause, what was saved and sent, that the tree of a
+//! solution is a tree of the file's instance, and that no tree costs less than the bound.
 #![tactic(auto)]
 
+mod answer;
 mod answering;
+mod check_command;
+mod lines;
+mod loading;
+mod outcome;
 mod running;
+mod solve_command;
+mod solving;
+mod start;
 mod status;
-#[cfg(test)]
-mod tests;
-mod words;
 
+pub use command_line::{CheckWords, Cmd, SolveWords, WordFault, read_words};
+pub use outcome::{Outcome, SolveFault};
 pub use running::{Ended, run};
+pub use solving::solve_bytes;
 pub use split_search::{Gate, OpenGate};
 pub use status::Status;

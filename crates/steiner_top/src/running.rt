@@ -1,28 +1,30 @@
-ghost use Rattle.std.specs.Prelude.{◌≡◌, ◌≢◌, ◌≤◌, ℕ, List, map, string_bytes};
+ghost use Rattle.std.specs.Prelude.{◌≡◌, ◌≢◌, ◌≤◌, ◌⊎◌, ℕ, List, [], None, map, string_bytes};
 ghost use Rattle.std.specs.Io.KnownBytes.{append_known};
-ghost use Rattle.st_edge.specs.Faults.{HasCause};
-ghost use Rattle.st_edge.specs.Shelf.{SameTexts};
+ghost use Rattle.st_edge.specs.Faults.{HasCause, Rose};
 ghost use Rattle.st_edge.specs.Sink.{TakesFront};
-ghost use Rattle.steiner_top.specs.Causes.{EndsWith};
-ghost use Rattle.steiner_top.specs.Headline.{Headline};
+ghost use Rattle.command_line.specs.Words.{command_of};
+ghost use Rattle.steiner_top.specs.Causes.{EndsWith, IsCutShort, IsSaved, KeepsTexts, log_name_of};
 ghost use Rattle.steiner_top.specs.declared.status.Status.TheVariants.{ReadFault, WriteFault};
 
-use crate::Status;
 use crate::answering::answer;
+use crate::{Outcome, Status};
 use split_search::Gate;
 use st_edge::{Failed, Shelf, Sink, send_all};
 use std::alloc::Global;
 
 /// How a run ended.
-#[derive(Clone, Copy, Debug, PartialEq, Eq)]
+#[derive(Debug, Drop)]
 pub struct Ended {
     pub status: Status,
+    /// What solving gave, where a file was solved and its answer was taken whole.
+    pub outcome: Option<Outcome>,
 }
 
-/// Does what the words of the command line say, without the program's name: `solve FILE`.
+/// Does what the words of the command line say, without the program's name.
 ///
-/// The file is loaded from the shelf, read as a plain STP file and solved to the end, and then
-/// the solution, or the line of the status, is sent to the sink.
+/// `solve FILE` loads the file from the shelf, reads it as an STP file and solves it within the
+/// budget of nodes, saves the log if the words ask for it, and then sends the solution to the sink.
+/// `check FILE LOG` loads both, and sends what may be concluded of the file from the log.
 pub fn run<F: Shelf, K: Sink, G: Gate>(
     alloc: Global,
     words: &[String],
@@ -30,38 +32,41 @@ pub fn run<F: Shelf, K: Sink, G: Gate>(
     out: &mut K,
     gate: &G,
 ) -> Ended
-    // A file that is told, plain and has a tree is answered by a best tree, unless a device or memory fails.
-    ensures headline { Headline (map string_bytes words.now) (F.text shelf.old) result.status
-        (F.read_faults shelf.old) (F.read_faults shelf.new) (K.faults out.old) (K.faults out.new) (K.taken out.old) (K.taken out.new) }
     // Why each status came, and what was sent.
     ensures sent { result.status ≢ WriteFault → (sent : List ℕ)
-        × EndsWith (map string_bytes words.now) (F.text shelf.old) result.status sent × (K.taken out.new ≡ append_known (K.taken out.old) sent) }
-    ensures cut_short { result.status ≡ WriteFault → (status : Status) × (sent : List ℕ)
-        × EndsWith (map string_bytes words.now) (F.text shelf.old) status sent × TakesFront (K.taken out.old) (K.taken out.new) sent }
+        × EndsWith (command_of (map string_bytes words.now)) (F.text shelf.old) result.status result.outcome sent
+        × (K.taken out.new ≡ append_known (K.taken out.old) sent) }
+    ensures cut_short { result.status ≡ WriteFault
+        → IsCutShort (command_of (map string_bytes words.now)) (F.text shelf.old) (K.taken out.old) (K.taken out.new) }
+    // A log that was asked for stands where an outcome was sent, and nothing is sent where it doesn't.
+    ensures saved { IsSaved (command_of (map string_bytes words.now)) (F.text shelf.new) result.outcome }
+    ensures unsaved { result.status ≡ WriteFault → (Rose (K.faults out.old) (K.faults out.new) → ⊥) → K.taken out.new ≡ K.taken out.old }
+    ensures texts { KeepsTexts (command_of (map string_bytes words.now)) result.status result.outcome (F.text shelf.old) (F.text shelf.new) }
+    // Each fault was counted.
     ensures read_cause { HasCause (F.read_faults shelf.old) (F.read_faults shelf.new) (result.status ≡ ReadFault) }
-    ensures write_cause { HasCause (K.faults out.old) (K.faults out.new) (result.status ≡ WriteFault) }
-    // The shelf keeps what it holds.
-    ensures texts { SameTexts (F.text shelf.old) (F.text shelf.new) }
-    ensures write_faults { F.write_faults shelf.new ≡ F.write_faults shelf.old }
+    ensures write_cause { result.status ≡ WriteFault → Rose (F.write_faults shelf.old) (F.write_faults shelf.new) ⊎ Rose (K.faults out.old) (K.faults out.new) }
+    ensures counts { (F.write_faults shelf.old ≤ F.write_faults shelf.new) × (K.faults out.old ≤ K.faults out.new) }
 {
     match answer(alloc, words, shelf, gate) {
-        Ok(text) => send(out, Status::Optimal, &text),
-        Err(status) => send(out, status, status.line().as_bytes()),
+        Ok(answer) => send(out, answer.status, answer.outcome, &answer.text),
+        Err(status) => send(out, status, None, status.line().as_bytes()),
     }
 }
 
-// Sends the last bytes of a run that ends with this status, if they are taken.
-fn send<K: Sink>(out: &mut K, status: Status, bytes: &[u8]) -> Ended
-    requires { status ≢ WriteFault }
+// Sends the last bytes of a run that ends so, if they are taken.
+fn send<K: Sink>(out: &mut K, status: Status, outcome: Option<Outcome>, bytes: &[u8]) -> Ended
     ensures sent { result.status ≢ WriteFault
-        → (result.status ≡ status) × (K.taken out.new ≡ append_known (K.taken out.old) bytes.now) }
-    ensures cut_short { result.status ≡ WriteFault → TakesFront (K.taken out.old) (K.taken out.new) bytes.now }
-    ensures cause { HasCause (K.faults out.old) (K.faults out.new) (result.status ≡ WriteFault) }
+        → (result.status ≡ status) × (result.outcome ≡ outcome) × (K.taken out.new ≡ append_known (K.taken out.old) bytes.now) }
+    ensures outcome { (result.outcome ≡ outcome) ⊎ (result.outcome ≡ None) }
+    ensures cut_short { result.status ≡ WriteFault → status ≢ WriteFault → TakesFront (K.taken out.old) (K.taken out.new) bytes.now }
+    ensures cause { HasCause (K.faults out.old) (K.faults out.new) ((result.status ≡ WriteFault) × (status ≢ WriteFault)) }
+    ensures nothing { bytes.now ≡ [] → K.taken out.new ≡ K.taken out.old }
 {
     match send_all(out, bytes) {
-        Ok(()) => Ended { status },
+        Ok(()) => Ended { status, outcome },
         Err(Failed) => Ended {
             status: Status::WriteFault,
+            outcome: None,
         },
     }
 }

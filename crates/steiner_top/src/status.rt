@@ -1,29 +1,34 @@
 ghost use Rattle.std.specs.Prelude.{◌≡◌};
-ghost use Rattle.steiner_top.specs.Output.{line_of, code_of};
-ghost use Rattle.steiner_top.specs.Causes.{status_of_load, status_of_stp};
+ghost use Rattle.steiner_top.specs.Output.{line_of, code_of, status_of_verdict};
+ghost use Rattle.steiner_top.specs.Causes.{status_of_words, status_of_load, status_of_save};
 
-use st_edge::LoadFault;
+use cert_checker::Verdict;
+use command_line::WordFault;
+use st_edge::{LoadFault, SaveFault};
 use std::alloc::AllocError;
-use stp_reader::StpFault;
 
 /// How a run ended.
 #[derive(Clone, Copy, Debug, PartialEq, Eq)]
 pub enum Status {
-    /// A best tree was sent.
+    /// A best tree was sent, or a log shows that its tree is best.
     Optimal,
     /// The words are no command.
     Usage,
-    /// The file's instance has no tree.
+    /// A tree and a bound below its cost were sent, the whole budget being spent, or a log shows them.
+    Budget,
+    /// The file's instance has no tree, or a log shows that.
     Infeasible,
     /// The file can't be read as an instance.
     RefusedFile,
-    /// The shelf failed to load the file.
+    /// The log isn't accepted.
+    RefusedLog,
+    /// The shelf failed to load a text.
     ReadFault,
-    /// The sink failed to take the output.
+    /// The shelf failed to save the log, or the sink to take the output.
     WriteFault,
-    /// Memory ran out; nothing was sent.
+    /// Memory ran out; nothing was saved or sent.
     NoMemory,
-    /// The file is longer than 2^34 bytes.
+    /// A text is longer than 2^34 bytes.
     TooLong,
 }
 
@@ -35,8 +40,10 @@ impl Status {
         match self {
             Status::Optimal => 0,
             Status::Usage => 2,
+            Status::Budget => 3,
             Status::Infeasible => 4,
             Status::RefusedFile => 5,
+            Status::RefusedLog => 6,
             Status::ReadFault => 7,
             Status::WriteFault => 8,
             Status::NoMemory => 9,
@@ -44,7 +51,7 @@ impl Status {
         }
     }
 
-    // What is sent in place of a solution.
+    // What is sent where the status alone says it.
     pub(crate) fn line(self) -> &'static str
         ensures { result.now ≡ line_of self }
     {
@@ -52,11 +59,26 @@ impl Status {
             Status::Usage => {
                 "usage: steiner solve FILE [--workers W] [--nodes N] [--log NAME] [--plain] | check FILE LOG | gen SEED N M T [--prizes] | trial SEED N M T [--workers W]\n"
             }
-            Status::Infeasible => "infeasible\n",
-            Status::RefusedFile => "refused stp\n",
             Status::ReadFault => "read fault\n",
             Status::TooLong => "too long\n",
-            Status::Optimal | Status::WriteFault | Status::NoMemory => "",
+            Status::Optimal
+            | Status::Budget
+            | Status::Infeasible
+            | Status::RefusedFile
+            | Status::RefusedLog
+            | Status::WriteFault
+            | Status::NoMemory => "",
+        }
+    }
+
+    // The status with which a verdict ends a run.
+    pub(crate) fn of(verdict: Verdict) -> Status
+        ensures { result ≡ status_of_verdict verdict }
+    {
+        match verdict {
+            Verdict::Optimal(_) => Status::Optimal,
+            Verdict::Bound { .. } => Status::Budget,
+            Verdict::NoTree => Status::Infeasible,
         }
     }
 }
@@ -68,6 +90,17 @@ impl From<AllocError> for Status {
 
     fn from(_: AllocError) -> Self {
         Status::NoMemory
+    }
+}
+
+impl From<WordFault> for Status {
+    ghost from_gives = { λ fault status. status ≡ status_of_words fault };
+
+    fn from(fault: WordFault) -> Self {
+        match fault {
+            WordFault::Usage => Status::Usage,
+            WordFault::NoMemory => Status::NoMemory,
+        }
     }
 }
 
@@ -83,13 +116,13 @@ impl From<LoadFault> for Status {
     }
 }
 
-impl From<StpFault> for Status {
-    ghost from_gives = { λ fault status. status ≡ status_of_stp fault };
+impl From<SaveFault> for Status {
+    ghost from_gives = { λ fault status. status ≡ status_of_save fault };
 
-    fn from(fault: StpFault) -> Self {
+    fn from(fault: SaveFault) -> Self {
         match fault {
-            StpFault::NotPlain => Status::RefusedFile,
-            StpFault::NoMemory => Status::NoMemory,
+            SaveFault::Failed => Status::WriteFault,
+            SaveFault::NoMemory => Status::NoMemory,
         }
     }
 }

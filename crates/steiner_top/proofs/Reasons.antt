@@ -1,0 +1,118 @@
+-- How answers follow from what was found, and stops from loads that failed.
+use Rattle.std.proofs.Common.{◌≡◌, ◌≢◌, ◌⊎◌, inl, inr, ℕ, List, [], ◌∷◌, Result, Ok, Err, Option, None, refl, sym, subst, ap, ap₂, ◌∙◌}
+use Rattle.std.specs.Prelude.{IfOk, IfErr}
+use Rattle.st_edge.specs.Shelf.{SameTexts}
+use Rattle.st_model.specs.Network.{Network}
+use Rattle.stp_reader.specs.declared.reason.Reason.{Reason}
+use Rattle.stp_reader.specs.declared.fault.StpFault.{StpFault}
+use Rattle.stp_reader.specs.Reads.{Reads, Refused}
+use Rattle.stp_reader.specs.Laws.{RefusedExactly}
+use Rattle.log_format.specs.declared.kind.Kind.{Kind}
+use Rattle.cert_checker.specs.declared.fault.CheckFault.{CheckFault}
+use Rattle.cert_checker.specs.declared.fault.CheckFault.TheVariants as check
+use Rattle.cert_checker.specs.declared.verdict.Verdict.{Verdict}
+use Rattle.cert_checker.specs.Checking.{Answers, IsAnswer, IsAcceptedText, IsWrongText}
+use Rattle.cert_checker.specs.Verdict.{Concludes}
+use Rattle.steiner_top.specs.Answer.{CheckAnswer, IsLineOf}
+use Rattle.steiner_top.specs.declared.outcome.Outcome.{Outcome}
+use Rattle.steiner_top.specs.declared.outcome.SolveFault.{SolveFault}
+use Rattle.steiner_top.specs.declared.outcome.SolveFault.TheVariants.{Stp, NoMemory}
+use Rattle.steiner_top.specs.declared.status.Status.{Status}
+use Rattle.steiner_top.specs.declared.status.Status.TheVariants.{Optimal, Usage, Budget, Infeasible, RefusedFile, RefusedLog, ReadFault, WriteFault, NoMemory as Exhausted, TooLong}
+use Rattle.steiner_top.specs.Outcome.{Solves}
+use Rattle.st_edge.specs.Sink.{TakesFront}
+use Rattle.command_line.specs.Words.{Command}
+use Rattle.steiner_top.specs.Output.{line_of}
+use Rattle.steiner_top.specs.Causes.{Texts, IsAnswered, IsCutShort, IsStopped, IsUnanswered}
+
+-- bytes that are refused are answered so
+pub refused_answer : (nodes : ℕ) (bytes : List ℕ) (result : Result Outcome SolveFault) → RefusedExactly bytes → Solves nodes bytes result → (line : ℕ) (reason : Reason) → Refused bytes line reason → (result ≡ Err (Stp (record { line = line; reason = reason }))) ⊎ (result ≡ Err NoMemory)
+refused_answer nodes bytes (Ok outcome) law h line reason r = absurd (law.not_both h.0 line reason h.1 r)
+refused_answer nodes bytes (Err (Stp f)) law h line reason r =
+    let one = law.one_fault f.line line f.reason reason h r in
+    inl (ap₂ (λ l q. Err (Stp (record { line = l; reason = q }))) one.0 one.1)
+refused_answer nodes bytes (Err NoMemory) law h line reason r = inr refl
+
+-- a text without which a run stops is one of two
+pub first_stops : (a b : List ℕ) (texts : Texts) (status : Status) → IsStopped (a ∷ []) texts status → IsStopped (a ∷ b ∷ []) texts status
+first_stops a b texts ReadFault h = tt
+first_stops a b texts Exhausted h = tt
+first_stops a b texts TooLong h = elim h [ inl long ↦ inl long | inr none ↦ absurd none ]
+first_stops a b texts Optimal h = h
+first_stops a b texts Usage h = h
+first_stops a b texts Budget h = h
+first_stops a b texts Infeasible h = h
+first_stops a b texts RefusedFile h = h
+first_stops a b texts RefusedLog h = h
+first_stops a b texts WriteFault h = h
+
+-- and so where the texts are those from before
+pub second_stops : (a b : List ℕ) (old new : Texts) (status : Status) → SameTexts old new → IsStopped (b ∷ []) new status → IsStopped (a ∷ b ∷ []) old status
+second_stops a b old new ReadFault same h = tt
+second_stops a b old new Exhausted same h = tt
+second_stops a b old new TooLong same h = elim h [
+  | inl long ↦ inr (inl (rw (← same b) long))
+  | inr none ↦ absurd none
+]
+second_stops a b old new Optimal same h = h
+second_stops a b old new Usage same h = h
+second_stops a b old new Budget same h = h
+second_stops a b old new Infeasible same h = h
+second_stops a b old new RefusedFile same h = h
+second_stops a b old new RefusedLog same h = h
+second_stops a b old new WriteFault same h = h
+
+-- what a check found is the answer to the file and the log, and the only one
+pub check_answered : (stp log : List ℕ) (found : Result Verdict CheckFault) (status : Status) (sent : List ℕ)
+    → ((I : Network) → Reads stp I → IfOk found (Concludes I))
+    → IsAnswer stp log found
+    → ((I : Network) (verdict : Verdict) → Reads stp I → IsAcceptedText I log verdict → Answers found (Ok verdict))
+    → ((line : ℕ) (reason : Reason) → Refused stp line reason → Answers found (Err (check.Stp (record { line = line; reason = reason }))))
+    → ((I : Network) (line : ℕ) (kind : Kind) → Reads stp I → IsWrongText I log line kind → Answers found (Err (check.Log (record { line = line; kind = kind }))))
+    → IsLineOf found status sent → CheckAnswer stp log status sent
+check_answered stp log found status sent concludes exact accepted file text line = record {
+  answer = found;
+  exact = exact;
+  only = only;
+  concludes = concludes;
+  line = line;
+} where
+  settled : (wanted : Result Verdict CheckFault) → Answers found wanted → found ≡ wanted
+  settled wanted h = elim h [
+    | inl same ↦ same
+    | inr memory ↦ absurd (subst (λ f. IsLineOf f status sent) memory line)
+  ]
+  only : (other : Result Verdict CheckFault) → IsAnswer stp log other → other ≢ Err check.NoMemory → found ≡ other
+  only (Ok v) h other = settled (Ok v) (accepted h.0 v h.1 h.2)
+  only (Err (check.Stp f)) h other = settled (Err (check.Stp f)) (file f.line f.reason h)
+  only (Err (check.Log f)) h other = settled (Err (check.Log f)) (text h.0 f.line f.kind h.1 h.2)
+  only (Err check.NoMemory) h other = absurd (other refl)
+
+-- whether a write failed
+write_or_not : (status : Status) → (status ≡ WriteFault) ⊎ (status ≢ WriteFault)
+write_or_not WriteFault = inl refl
+write_or_not Optimal = inr (λ e. absurd cc)
+write_or_not Usage = inr (λ e. absurd cc)
+write_or_not Budget = inr (λ e. absurd cc)
+write_or_not Infeasible = inr (λ e. absurd cc)
+write_or_not RefusedFile = inr (λ e. absurd cc)
+write_or_not RefusedLog = inr (λ e. absurd cc)
+write_or_not ReadFault = inr (λ e. absurd cc)
+write_or_not Exhausted = inr (λ e. absurd cc)
+write_or_not TooLong = inr (λ e. absurd cc)
+
+-- a run without an answer that ends with a write fault: its line was cut short, or its log wasn't saved and nothing was sent
+pub stop_cut_short : (command : Option Command) (texts : Texts) (taken now : Option (List ℕ)) (status : Status) (bytes : List ℕ)
+    → bytes ≡ line_of status
+    → (status ≢ WriteFault → IsUnanswered command texts status)
+    → (status ≡ WriteFault → (s : Status) × (outcome : Option Outcome) × (sent : List ℕ) × IsAnswered command texts s outcome sent)
+    → (status ≢ WriteFault → TakesFront taken now bytes)
+    → (bytes ≡ [] → now ≡ taken)
+    → IsCutShort command texts taken now
+stop_cut_short command texts taken now status bytes line unanswered unsaved front nothing = elim (write_or_not status) [
+  | inl failed ↦
+      let u = unsaved failed in
+      let empty : bytes ≡ [] = line ∙ ap line_of failed in
+      (u.0, u.1, u.2, inl u.3, inl (nothing empty))
+  | inr other ↦ (status, None, bytes, inr (unanswered other, refl, line), inr (front other))
+]

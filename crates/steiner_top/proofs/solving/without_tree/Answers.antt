@@ -1,0 +1,7 @@
+use Rattle.std.proofs.Common.{rules, subst, sym, ◌≡◌, List, ℕ}
+use Rattle.log_format.specs.declared.log.Claim.TheVariants.{NoTree}
+use Rattle.steiner_top.proofs.Certifying.{without_tree}
+use Rattle.steiner_top.proofs.solving.without_tree.Goals as goal
+
+pub returns : goal.returns
+returns c = λ _. without_tree c.args.instance.now c.of.result c.accepted_holds.ensures (search rules) (search rules)

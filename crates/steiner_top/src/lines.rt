@@ -1,0 +1,41 @@
+ghost use Rattle.std.specs.Prelude.{◌≡◌, IfOk, string_bytes};
+ghost use Rattle.steiner_top.specs.Output.{infeasible_line, refused_stp, refused_log, verdict_line};
+
+use cert_checker::Verdict;
+use log_format::LogFault;
+use std::alloc::{AllocError, Global};
+use stp_reader::StpFault;
+
+/// The line that the instance has no tree.
+pub fn infeasible(alloc: Global) -> Result<String, AllocError>
+    ensures { IfOk result (λ line. string_bytes line ≡ infeasible_line) }
+{
+    String::from_str(alloc, "infeasible\n")
+}
+
+/// The line that a file is refused.
+pub fn refused_stp(alloc: Global, fault: StpFault) -> Result<String, AllocError>
+    ensures { IfOk result (λ line. string_bytes line ≡ refused_stp fault.line fault.reason) }
+{
+    let (code, name) = (fault.reason.code(), fault.reason.name());
+    format!(in alloc; "refused stp {} {} {}\n", fault.line, code, name)
+}
+
+/// The line that a log is refused.
+pub fn refused_log(alloc: Global, fault: LogFault) -> Result<String, AllocError>
+    ensures { IfOk result (λ line. string_bytes line ≡ refused_log fault.line fault.kind) }
+{
+    let (code, name) = (fault.kind.code(), fault.kind.name());
+    format!(in alloc; "refused log {} {} {}\n", fault.line, code, name)
+}
+
+/// The line of a verdict.
+pub fn verdict(alloc: Global, verdict: Verdict) -> Result<String, AllocError>
+    ensures { IfOk result (λ line. string_bytes line ≡ verdict_line verdict) }
+{
+    match verdict {
+        Verdict::Optimal(primal) => format!(in alloc; "optimal {primal}\n"),
+        Verdict::Bound { dual, primal } => format!(in alloc; "bound {dual} {primal}\n"),
+        Verdict::NoTree => String::from_str(alloc, "no tree\n"),
+    }
+}

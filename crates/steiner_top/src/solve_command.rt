@@ -1,0 +1,134 @@
+ghost use Rattle.std.specs.Prelude.{◌≡◌, ◌≢◌, ◌⊎◌, ℕ, List, [], ◌∷◌, Option, IfOk, IfErr, IfSome, OnOk, IsErrOf, None, Some};
+ghost use Rattle.st_edge.specs.Faults.{HasCause};
+ghost use Rattle.st_edge.specs.Shelf.{SameTexts};
+ghost use Rattle.log_format.specs.Text.{IsLog};
+ghost use Rattle.command_line.specs.Seen.{solve_words};
+ghost use Rattle.command_line.specs.Words.{solve};
+ghost use Rattle.steiner_top.specs.Answer.{IsOutcomeText, SolveAnswer, status_of_outcome};
+ghost use Rattle.steiner_top.specs.Causes.{IsSolveAnswered, IsSaved, IsStopped, SameBut, log_name_of};
+ghost use Rattle.steiner_top.specs.Outcome.{certificate_of};
+ghost use Rattle.steiner_top.specs.declared.outcome.Outcome.{Outcome as Given};
+ghost use Rattle.steiner_top.specs.declared.status.Status.{Status as Ending};
+ghost use Rattle.steiner_top.specs.declared.status.Status.TheVariants.{WriteFault, NoMemory};
+
+use crate::answer::Answer;
+use crate::lines::{infeasible, refused_stp};
+use crate::outcome::{Outcome, SolveFault};
+use crate::solving::solve_bytes;
+use crate::Status;
+use crate::loading::load;
+use command_line::SolveWords;
+use dimacs_writer::solution_text;
+use log_format::write_log;
+use split_search::Gate;
+use st_edge::Shelf;
+use std::alloc::{AllocError, Global};
+
+// The text of what solving a file gave.
+fn outcome_text(
+    alloc: Global,
+    words: &SolveWords<'_>,
+    outcome: &Outcome,
+) -> Result<Vec<u8>, AllocError>
+    ensures { IfOk result (λ text. IsOutcomeText (solve_words words.now) outcome.now text.items) }
+{
+    match outcome {
+        Outcome::Found {
+            tree, primal, dual, ..
+        } => solution_text(alloc, words.file, words.workers, tree, *dual, *primal),
+        Outcome::NoTree { .. } => Ok(infeasible(alloc)?.into_bytes()),
+    }
+}
+
+// The status of what solving a file gave.
+fn outcome_status(outcome: &Outcome) -> Status
+    ensures { result ≡ status_of_outcome outcome.now }
+{
+    match outcome {
+        Outcome::Found { primal, dual, .. } if dual == primal => Status::Optimal,
+        Outcome::Found { .. } => Status::Budget,
+        Outcome::NoTree { .. } => Status::Infeasible,
+    }
+}
+
+// How the bytes of a file are answered.
+fn answer_bytes<G: Gate>(
+    alloc: Global,
+    words: &SolveWords<'_>,
+    bytes: &[u8],
+    gate: &G,
+) -> Result<Answer, AllocError>
+    ensures { IfOk result (λ a. SolveAnswer (solve_words words.now) bytes.now a.status a.outcome a.text.items) }
+{
+    match solve_bytes(alloc, bytes, words.nodes, gate) {
+        Ok(outcome) => {
+            let text = outcome_text(alloc, words, &outcome)?;
+            let status = outcome_status(&outcome);
+            Ok(Answer {
+                status,
+                outcome: Some(outcome),
+                text,
+            })
+        }
+        Err(SolveFault::Stp(fault)) => {
+            let line = refused_stp(alloc, fault)?;
+            Ok(Answer {
+                status: Status::RefusedFile,
+                outcome: None,
+                text: line.into_bytes(),
+            })
+        }
+        Err(SolveFault::NoMemory) => Err(AllocError),
+    }
+}
+
+// Saves the certificate's text, if there is one and the words ask for it.
+fn save<F: Shelf>(
+    alloc: Global,
+    words: &SolveWords<'_>,
+    outcome: &Option<Outcome>,
+    shelf: &mut F,
+) -> Result<(), Status>
+    requires { IfSome outcome.now (λ o. IsLog (certificate_of o)) }
+    ensures saved { OnOk result (IsSaved (Some (solve (solve_words words.now))) (F.text shelf.new) outcome.now) }
+    ensures others { SameBut (log_name_of (Some (solve (solve_words words.now)))) (F.text shelf.old) (F.text shelf.new) }
+    ensures none { outcome.now ≡ None → SameTexts (F.text shelf.old) (F.text shelf.new) }
+    ensures fault { IfErr result (λ status. (status ≡ WriteFault) ⊎ (status ≡ NoMemory)) }
+    ensures no_memory { IsErrOf result Status.NoMemory → SameTexts (F.text shelf.old) (F.text shelf.new) }
+    ensures cause { HasCause (F.write_faults shelf.old) (F.write_faults shelf.new) (IsErrOf result Status.WriteFault) }
+    ensures read_faults { F.read_faults shelf.new ≡ F.read_faults shelf.old }
+{
+    let (Some(name), Some(outcome)) = (words.log_name, outcome) else {
+        return Ok(());
+    };
+    let text = write_log(alloc, outcome.certificate())?;
+    shelf.save(name, &text)?;
+    Ok(())
+}
+
+/// Loads the file, solves it and saves the log, if the words ask for it: what there is to send
+/// then, or how the run ends without it.
+pub fn solve_command<F: Shelf, G: Gate>(
+    alloc: Global,
+    words: &SolveWords<'_>,
+    shelf: &mut F,
+    gate: &G,
+) -> Result<Answer, Status>
+    ensures answered { IfOk result (λ a. IsSolveAnswered (solve_words words.now) (F.text shelf.old) a.status a.outcome a.text.items) }
+    ensures stopped { IfErr result (λ status. status ≢ WriteFault → IsStopped (words.now.file.now ∷ []) (F.text shelf.old) status) }
+    ensures unsaved { IsErrOf result Status.WriteFault → (status : Ending) × (outcome : Option Given) × (sent : List ℕ) × IsSolveAnswered (solve_words words.now) (F.text shelf.old) status outcome sent }
+    ensures saved { IfOk result (λ a. IsSaved (Some (solve (solve_words words.now))) (F.text shelf.new) a.outcome) }
+    ensures others { SameBut (log_name_of (Some (solve (solve_words words.now)))) (F.text shelf.old) (F.text shelf.new) }
+    ensures none { IfOk result (λ a. a.outcome ≡ None → SameTexts (F.text shelf.old) (F.text shelf.new)) }
+    ensures kept { IfErr result (λ status. status ≢ WriteFault → SameTexts (F.text shelf.old) (F.text shelf.new)) }
+    ensures read_cause { HasCause (F.read_faults shelf.old) (F.read_faults shelf.new) (IsErrOf result Status.ReadFault) }
+    ensures write_cause { HasCause (F.write_faults shelf.old) (F.write_faults shelf.new) (IsErrOf result Status.WriteFault) }
+{
+    let bytes = match load(alloc, words.file, shelf) {
+        Ok(bytes) => bytes,
+        Err(status) => return Err(status),
+    };
+    let answer = answer_bytes(alloc, words, &bytes, gate)?;
+    save(alloc, words, &answer.outcome, shelf)?;
+    Ok(answer)
+}
