@@ -1,2 +1,4 @@
 mod Reasons
 mod Certifying
+mod Deciding
+mod Starting

@@ -82,6 +82,7 @@ check_answered stp log found status sent concludes exact accepted file text line
     | inl same ↦ same
     | inr memory ↦ absurd (subst (λ f. IsLineOf f status sent) memory line)
   ]
+
   only : (other : Result Verdict CheckFault) → IsAnswer stp log other → other ≢ Err check.NoMemory → found ≡ other
   only (Ok v) h other = settled (Ok v) (accepted h.0 v h.1 h.2)
   only (Err (check.Stp f)) h other = settled (Err (check.Stp f)) (file f.line f.reason h)

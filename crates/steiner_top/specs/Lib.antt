@@ -3,4 +3,4 @@ pub mod Outcome
 pub mod Answer
 pub mod Start
 pub mod Causes
-
+pub mod Headline

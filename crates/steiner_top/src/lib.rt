@@ -16,6 +16,8 @@ mod solve_command;
 mod solving;
 mod start;
 mod status;
+#[cfg(test)]
+mod tests;
 
 pub use command_line::{CheckWords, Cmd, SolveWords, WordFault, read_words};
 pub use outcome::{Outcome, SolveFault};

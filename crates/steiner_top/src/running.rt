@@ -3,6 +3,7 @@ ghost use Rattle.std.specs.Io.KnownBytes.{append_known};
 ghost use Rattle.st_edge.specs.Faults.{HasCause, Rose};
 ghost use Rattle.st_edge.specs.Sink.{TakesFront};
 ghost use Rattle.command_line.specs.Words.{command_of};
+ghost use Rattle.steiner_top.specs.Headline.{Headline};
 ghost use Rattle.steiner_top.specs.Causes.{EndsWith, IsCutShort, IsSaved, KeepsTexts, log_name_of};
 ghost use Rattle.steiner_top.specs.declared.status.Status.TheVariants.{ReadFault, WriteFault};
 
@@ -32,6 +33,10 @@ pub fn run<F: Shelf, K: Sink, G: Gate>(
     out: &mut K,
     gate: &G,
 ) -> Ended
+    // Where no device and no memory fails, the words and the texts decide how it ends.
+    ensures headline { Headline (command_of (map string_bytes words.now)) (F.text shelf.old) (F.text shelf.new)
+        (F.read_faults shelf.old) (F.read_faults shelf.new) (F.write_faults shelf.old) (F.write_faults shelf.new)
+        (K.faults out.old) (K.faults out.new) result.status result.outcome (K.taken out.old) (K.taken out.new) }
     // Why each status came, and what was sent.
     ensures sent { result.status ≢ WriteFault → (sent : List ℕ)
         × EndsWith (command_of (map string_bytes words.now)) (F.text shelf.old) result.status result.outcome sent
@@ -43,6 +48,30 @@ pub fn run<F: Shelf, K: Sink, G: Gate>(
     ensures unsaved { result.status ≡ WriteFault → (Rose (K.faults out.old) (K.faults out.new) → ⊥) → K.taken out.new ≡ K.taken out.old }
     ensures texts { KeepsTexts (command_of (map string_bytes words.now)) result.status result.outcome (F.text shelf.old) (F.text shelf.new) }
     // Each fault was counted.
+    ensures read_cause { HasCause (F.read_faults shelf.old) (F.read_faults shelf.new) (result.status ≡ ReadFault) }
+    ensures write_cause { result.status ≡ WriteFault → Rose (F.write_faults shelf.old) (F.write_faults shelf.new) ⊎ Rose (K.faults out.old) (K.faults out.new) }
+    ensures counts { (F.write_faults shelf.old ≤ F.write_faults shelf.new) × (K.faults out.old ≤ K.faults out.new) }
+{
+    stp_reader::refused_exactly();
+    serve(alloc, words, shelf, out, gate)
+}
+
+// Does what the words say, and hands out the answer.
+fn serve<F: Shelf, K: Sink, G: Gate>(
+    alloc: Global,
+    words: &[String],
+    shelf: &mut F,
+    out: &mut K,
+    gate: &G,
+) -> Ended
+    ensures sent { result.status ≢ WriteFault → (sent : List ℕ)
+        × EndsWith (command_of (map string_bytes words.now)) (F.text shelf.old) result.status result.outcome sent
+        × (K.taken out.new ≡ append_known (K.taken out.old) sent) }
+    ensures cut_short { result.status ≡ WriteFault
+        → IsCutShort (command_of (map string_bytes words.now)) (F.text shelf.old) (K.taken out.old) (K.taken out.new) }
+    ensures saved { IsSaved (command_of (map string_bytes words.now)) (F.text shelf.new) result.outcome }
+    ensures unsaved { result.status ≡ WriteFault → (Rose (K.faults out.old) (K.faults out.new) → ⊥) → K.taken out.new ≡ K.taken out.old }
+    ensures texts { KeepsTexts (command_of (map string_bytes words.now)) result.status result.outcome (F.text shelf.old) (F.text shelf.new) }
     ensures read_cause { HasCause (F.read_faults shelf.old) (F.read_faults shelf.new) (result.status ≡ ReadFault) }
     ensures write_cause { result.status ≡ WriteFault → Rose (F.write_faults shelf.old) (F.write_faults shelf.new) ⊎ Rose (K.faults out.old) (K.faults out.new) }
     ensures counts { (F.write_faults shelf.old ≤ F.write_faults shelf.new) × (K.faults out.old ≤ K.faults out.new) }

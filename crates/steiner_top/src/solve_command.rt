@@ -11,12 +11,12 @@ ghost use Rattle.steiner_top.specs.declared.outcome.Outcome.{Outcome as Given};
 ghost use Rattle.steiner_top.specs.declared.status.Status.{Status as Ending};
 ghost use Rattle.steiner_top.specs.declared.status.Status.TheVariants.{WriteFault, NoMemory};
 
+use crate::Status;
 use crate::answer::Answer;
 use crate::lines::{infeasible, refused_stp};
+use crate::loading::load;
 use crate::outcome::{Outcome, SolveFault};
 use crate::solving::solve_bytes;
-use crate::Status;
-use crate::loading::load;
 use command_line::SolveWords;
 use dimacs_writer::solution_text;
 use log_format::write_log;
@@ -34,7 +34,10 @@ fn outcome_text(
 {
     match outcome {
         Outcome::Found {
-            tree, primal, dual, ..
+            tree,
+            primal,
+            dual,
+            ..
         } => solution_text(alloc, words.file, words.workers, tree, *dual, *primal),
         Outcome::NoTree { .. } => Ok(infeasible(alloc)?.into_bytes()),
     }

@@ -1,8 +1,13 @@
 ghost use Rattle.std.specs.Prelude.{IfOk};
+ghost use Rattle.st_model.specs.declared.tree.Tree.{Tree as Grown};
+ghost use Rattle.st_model.specs.Arborescence.{IsTree};
+ghost use Rattle.st_model.specs.Network.{IsInstance};
 ghost use Rattle.steiner_top.specs.Start.{IsStart};
 
-use st_model::{Instance, Tree};
+use graph_store::Store;
+use st_model::{Instance, Tree, lone_starts_miss_the_rest};
 use std::alloc::{AllocError, Global};
+use tree_heuristic::{all_trees, first_tree, wall};
 
 /// Where a search starts from, or why there is nothing to search for.
 #[derive(Debug, Drop)]
@@ -15,5 +20,22 @@ pub enum Start {
 pub fn begin(alloc: Global, instance: &Instance) -> Result<Start, AllocError>
     ensures { IfOk result (IsStart instance.now) }
 {
-    Err(AllocError)
+    match wall(alloc, instance)? {
+        Some(wall) => Ok(Start::Wall(wall)),
+        None => grow(alloc, instance),
+    }
+}
+
+// A tree of an instance that has one.
+fn grow(alloc: Global, instance: &Instance) -> Result<Start, AllocError>
+    requires tree { (t : Grown) × IsTree instance.now t }
+    requires instance { IsInstance instance.now }
+    ensures { IfOk result (IsStart instance.now) }
+{
+    lone_starts_miss_the_rest();
+    let store = Store::of(alloc, instance)?;
+    match first_tree(alloc, &store, &all_trees(alloc))? {
+        Some(tree) => Ok(Start::Tree(tree)),
+        None => unreachable!(),
+    }
 }

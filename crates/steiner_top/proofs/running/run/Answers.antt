@@ -1,7 +1,7 @@
-use Rattle.std.proofs.Common.{rules, ap, Err, map, string_bytes, ◌∙◌}
+use Rattle.std.proofs.Common.{map, string_bytes}
 use Rattle.command_line.specs.Words.{command_of}
-use Rattle.steiner_top.proofs.Reasons.{stop_cut_short}
+use Rattle.steiner_top.proofs.Deciding.{decides}
 use Rattle.steiner_top.proofs.running.run.Goals as goal
 
-pub returns-in-Err-clause-cut_short : goal.returns-in-Err-clause-cut_short
-returns-in-Err-clause-cut_short g c = λ failed. stop_cut_short (command_of (map string_bytes c.args.words.now)) (g.F.Shelf.text c.args.shelf.now) (g.K.Sink.taken c.args.out.now) (g.K.Sink.taken c.send-in-Err.new.out) c.in-Err.status c.as_bytes.result.now (search rules) c.in-Err.ensures.unanswered (λ e. c.in-Err.ensures.unsaved (ap Err e)) (c.send-in-Err.ensures.cut_short failed) c.send-in-Err.ensures.nothing
+pub returns-clause-headline : goal.returns-clause-headline
+returns-clause-headline g c = decides (command_of (map string_bytes c.args.words.now)) (g.F.Shelf.text c.args.shelf.now) (g.F.Shelf.text c.serve.new.shelf) _ _ _ _ _ _ c.serve.result.status c.serve.result.outcome (g.K.Sink.taken c.args.out.now) (g.K.Sink.taken c.serve.new.out) c.refused_exactly.ensures c.serve.ensures.sent c.serve.ensures.saved c.serve.ensures.read_cause.rose c.serve.ensures.write_cause

@@ -1,0 +1,233 @@
+-- Where nothing fails, the words and the texts decide how a run ends.
+use Rattle.std.proofs.Common.{◌≡◌, ◌≢◌, ◌⊎◌, ◌↔◌, inl, inr, ℕ, ◌^◌, ◌<◌, ◌≤◌, List, [], ◌∷◌, length, Result, Ok, Err, Option, Some, None, refl, sym, subst, ap, ◌∙◌, arith}
+use Rattle.std.specs.Prelude.{IfSome}
+use Rattle.std.specs.Io.KnownBytes.{append_known}
+use Rattle.st_edge.specs.Faults.{Rose}
+use Rattle.st_model.specs.declared.tree.Tree.{Tree}
+use Rattle.st_model.specs.Network.{Network}
+use Rattle.st_model.specs.Arborescence.{IsTree}
+use Rattle.stp_reader.specs.declared.reason.Reason.{Reason}
+use Rattle.stp_reader.specs.Reads.{Reads, Refused}
+use Rattle.stp_reader.specs.Laws.{RefusedExactly}
+use Rattle.log_format.specs.declared.log.Log.{Log}
+use Rattle.cert_checker.specs.declared.fault.CheckFault.{CheckFault}
+use Rattle.cert_checker.specs.declared.fault.CheckFault.TheVariants as fault
+use Rattle.cert_checker.specs.declared.verdict.Verdict.{Verdict}
+use Rattle.cert_checker.specs.declared.verdict.Verdict.TheVariants as verdict
+use Rattle.cert_checker.specs.Checking.{IsAnswer}
+use Rattle.command_line.specs.Words.{Command, SolveWords, CheckWords, solve, check}
+use Rattle.steiner_top.specs.declared.outcome.Outcome.{Outcome}
+use Rattle.steiner_top.specs.declared.outcome.Outcome.TheVariants.{Found, NoTree}
+use Rattle.steiner_top.specs.declared.status.Status.{Status}
+use Rattle.steiner_top.specs.declared.status.Status.TheVariants.{Optimal, Usage, Budget, Infeasible, RefusedFile, RefusedLog, ReadFault, WriteFault, NoMemory, TooLong}
+use Rattle.steiner_top.specs.Outcome.{IsFound}
+use Rattle.steiner_top.specs.Answer.{SolveAnswer, CheckAnswer, IsLineOf}
+use Rattle.steiner_top.specs.Causes.{Texts, EndsWith, IsLoaded, IsSaved}
+use Rattle.steiner_top.specs.Headline.{Headline, NothingFails, SolvesFile, ChecksLog, IsSolved}
+use Rattle.steiner_top.specs.Output.{status_of_verdict, verdict_line}
+
+-- how a file that was loaded whole is answered decides the status
+answered_file : (w : SolveWords) (bytes : List ℕ) (status : Status) (outcome : Option Outcome) (texts : Texts) (taken now : Option (List ℕ)) (sent : List ℕ)
+    → RefusedExactly bytes → length bytes ≤ 2 ^ 34 → SolveAnswer w bytes status outcome sent → now ≡ append_known taken sent → IsSaved (Some (solve w)) texts outcome
+    → SolvesFile w bytes status outcome texts taken now
+answered_file w bytes Optimal (Some (Found tree primal dual log)) texts taken now sent law short (s, same) took saved = record {
+  too_long = ((λ e. absurd cc), (λ long. absurd (omega (arith, short, long))));
+  refused = λ _. ((λ e. absurd cc), (λ r. absurd (law.not_both s.instance r.0 r.1 s.reads r.2)));
+  infeasible = λ I reads _. ((λ e. absurd cc), (λ none. absurd (subst (λ J. IsTree J tree → ⊥) (law.one_instance I s.instance reads s.reads) (none tree) s.found.is_tree)));
+  solved = λ I t reads _ _. record {
+    tree = tree;
+    primal = primal;
+    dual = dual;
+    certificate = log;
+    sent = sent;
+    given = refl;
+    found = subst (λ J. IsFound w.nodes J tree primal dual log) (law.one_instance s.instance I s.reads reads) s.found;
+    text = s.text;
+    took = took;
+    ends = inl (refl, same);
+    log = saved;
+  };
+}
+answered_file w bytes Budget (Some (Found tree primal dual log)) texts taken now sent law short (s, below) took saved = record {
+  too_long = ((λ e. absurd cc), (λ long. absurd (omega (arith, short, long))));
+  refused = λ _. ((λ e. absurd cc), (λ r. absurd (law.not_both s.instance r.0 r.1 s.reads r.2)));
+  infeasible = λ I reads _. ((λ e. absurd cc), (λ none. absurd (subst (λ J. IsTree J tree → ⊥) (law.one_instance I s.instance reads s.reads) (none tree) s.found.is_tree)));
+  solved = λ I t reads _ _. record {
+    tree = tree;
+    primal = primal;
+    dual = dual;
+    certificate = log;
+    sent = sent;
+    given = refl;
+    found = subst (λ J. IsFound w.nodes J tree primal dual log) (law.one_instance s.instance I s.reads reads) s.found;
+    text = s.text;
+    took = took;
+    ends = inr (refl, below);
+    log = saved;
+  };
+}
+answered_file w bytes Infeasible (Some (NoTree log)) texts taken now sent law short s took saved = record {
+  too_long = ((λ e. absurd cc), (λ long. absurd (omega (arith, short, long))));
+  refused = λ _. ((λ e. absurd cc), (λ r. absurd (law.not_both s.instance r.0 r.1 s.reads r.2)));
+  infeasible = λ I reads _. ((λ e. subst (λ J. (t : Tree) → IsTree J t → ⊥) (law.one_instance s.instance I s.reads reads) s.without_tree.none), (λ none. refl));
+  solved = λ I t reads _ is. absurd (s.without_tree.none t (subst (λ J. IsTree J t) (law.one_instance I s.instance reads s.reads) is));
+}
+answered_file w bytes RefusedFile None texts taken now sent law short s took saved = record {
+  too_long = ((λ e. absurd cc), (λ long. absurd (omega (arith, short, long))));
+  refused = λ _. ((λ e. (s.line, s.reason, s.refused)), (λ r. refl));
+  infeasible = λ I reads _. absurd (law.not_both I s.line s.reason reads s.refused);
+  solved = λ I t reads _ _. absurd (law.not_both I s.line s.reason reads s.refused);
+}
+answered_file w bytes Budget (Some (NoTree log)) texts taken now sent law short s took saved = absurd s
+answered_file w bytes Budget None texts taken now sent law short s took saved = absurd s
+answered_file w bytes Infeasible (Some (Found tree primal dual log)) texts taken now sent law short s took saved = absurd s
+answered_file w bytes Infeasible None texts taken now sent law short s took saved = absurd s
+answered_file w bytes NoMemory outcome texts taken now sent law short s took saved = absurd s
+answered_file w bytes Optimal (Some (NoTree log)) texts taken now sent law short s took saved = absurd s
+answered_file w bytes Optimal None texts taken now sent law short s took saved = absurd s
+answered_file w bytes ReadFault outcome texts taken now sent law short s took saved = absurd s
+answered_file w bytes RefusedFile (Some _) texts taken now sent law short s took saved = absurd s
+answered_file w bytes RefusedLog outcome texts taken now sent law short s took saved = absurd s
+answered_file w bytes TooLong outcome texts taken now sent law short s took saved = absurd s
+answered_file w bytes Usage outcome texts taken now sent law short s took saved = absurd s
+answered_file w bytes WriteFault outcome texts taken now sent law short s took saved = absurd s
+
+-- what is told of a text is what was loaded
+told_loaded : (told : Option (List ℕ)) (loaded bytes : List ℕ) → told ≡ Some bytes → IsLoaded told loaded → (loaded ≡ bytes) × (length bytes ≤ 2 ^ 34)
+told_loaded told loaded bytes is h =
+    let same : loaded ≡ bytes = subst (λ o. IfSome o (λ t. loaded ≡ t)) is h.same in
+    (same, subst (λ b. length b ≤ 2 ^ 34) same h.short)
+
+-- a file whose text is too long isn't answered
+long_file : (w : SolveWords) (bytes : List ℕ) (outcome : Option Outcome) (texts : Texts) (taken now : Option (List ℕ)) → 2 ^ 34 < length bytes → SolvesFile w bytes TooLong outcome texts taken now
+long_file w bytes outcome texts taken now long = record {
+  too_long = ((λ _. long), (λ _. refl));
+  refused = λ short. absurd (omega (arith, short, long));
+  infeasible = λ I reads short. absurd (omega (arith, short, long));
+  solved = λ I t reads short is. absurd (omega (arith, short, long));
+}
+
+-- how a run ends decides how a file is answered, where nothing fails
+pub solves_file : (w : SolveWords) (bytes : List ℕ) (old new : Texts) (status : Status) (outcome : Option Outcome) (taken now : Option (List ℕ)) (sent : List ℕ)
+    → RefusedExactly bytes → old w.file ≡ Some bytes → (status ≡ ReadFault → ⊥) → (status ≡ NoMemory → ⊥)
+    → EndsWith (Some (solve w)) old status outcome sent → now ≡ append_known taken sent → IsSaved (Some (solve w)) new outcome
+    → SolvesFile w bytes status outcome new taken now
+solves_file w bytes old new status outcome taken now sent law told read memory (inl h) took saved =
+    let same = told_loaded (old w.file) h.0 bytes told h.1 in
+    answered_file w bytes status outcome new taken now sent law same.1 (subst (λ b. SolveAnswer w b status outcome sent) same.0 h.2) took saved
+solves_file w bytes old new TooLong outcome taken now sent law told read memory (inr h) took saved = elim h.0 [
+  | inl long ↦ long_file w bytes outcome new taken now (subst (λ o. IfSome o (λ text. 2 ^ 34 < length text)) told long)
+  | inr none ↦ absurd none
+]
+solves_file w bytes old new ReadFault outcome taken now sent law told read memory (inr h) took saved = absurd (read refl)
+solves_file w bytes old new NoMemory outcome taken now sent law told read memory (inr h) took saved = absurd (memory refl)
+solves_file w bytes old new Optimal outcome taken now sent law told read memory (inr h) took saved = absurd h.0
+solves_file w bytes old new Usage outcome taken now sent law told read memory (inr h) took saved = absurd h.0
+solves_file w bytes old new Budget outcome taken now sent law told read memory (inr h) took saved = absurd h.0
+solves_file w bytes old new Infeasible outcome taken now sent law told read memory (inr h) took saved = absurd h.0
+solves_file w bytes old new RefusedFile outcome taken now sent law told read memory (inr h) took saved = absurd h.0
+solves_file w bytes old new RefusedLog outcome taken now sent law told read memory (inr h) took saved = absurd h.0
+solves_file w bytes old new WriteFault outcome taken now sent law told read memory (inr h) took saved = absurd h.0
+
+-- a verdict ends no run as too long, or with the usage line
+verdict_ends : (v : Verdict) → (status_of_verdict v ≡ TooLong → ⊥) × (status_of_verdict v ≡ Usage → ⊥)
+verdict_ends (verdict.Optimal primal) = ((λ e. absurd cc), (λ e. absurd cc))
+verdict_ends (verdict.Bound dual primal) = ((λ e. absurd cc), (λ e. absurd cc))
+verdict_ends verdict.NoTree = ((λ e. absurd cc), (λ e. absurd cc))
+
+-- nor does any answer of a check
+line_ends : (answer : Result Verdict CheckFault) (status : Status) (sent : List ℕ) → IsLineOf answer status sent → (status ≡ TooLong → ⊥) × (status ≡ Usage → ⊥)
+line_ends (Ok v) status sent h = ((λ e. (verdict_ends v).0 (sym h.0 ∙ e)), (λ e. (verdict_ends v).1 (sym h.0 ∙ e)))
+line_ends (Err (fault.Stp f)) status sent h = ((λ e. let bad : RefusedFile ≡ TooLong = sym h.0 ∙ e in absurd cc), (λ e. let bad : RefusedFile ≡ Usage = sym h.0 ∙ e in absurd cc))
+line_ends (Err (fault.Log f)) status sent h = ((λ e. let bad : RefusedLog ≡ TooLong = sym h.0 ∙ e in absurd cc), (λ e. let bad : RefusedLog ≡ Usage = sym h.0 ∙ e in absurd cc))
+line_ends (Err fault.NoMemory) status sent h = absurd h
+
+-- a file and a log that were loaded whole and answered
+answered_log : (stp log : List ℕ) (status : Status) (taken now : Option (List ℕ)) (sent : List ℕ) → length stp ≤ 2 ^ 34 → length log ≤ 2 ^ 34
+    → CheckAnswer stp log status sent → now ≡ append_known taken sent → ChecksLog stp log status taken now
+answered_log stp log status taken now sent short short' h took = record {
+  too_long = (
+    (λ e. absurd ((line_ends h.answer status sent h.line).0 e)),
+    (λ long. elim long [
+      | inl l ↦ absurd (omega (arith, l, short))
+      | inr l ↦ absurd (omega (arith, l, short'))
+    ]),
+  );
+  verdict = λ v _ _ is.
+      let line : IsLineOf (Ok v) status sent = subst (λ a. IsLineOf a status sent) (h.only (Ok v) is (λ e. absurd cc)) h.line in
+      (line.0, took ∙ ap (append_known taken) line.1);
+}
+
+-- one of the two texts is too long
+long_log : (stp log : List ℕ) (taken now : Option (List ℕ)) → ((2 ^ 34 < length stp) ⊎ (2 ^ 34 < length log)) → ChecksLog stp log TooLong taken now
+long_log stp log taken now long = record {
+  too_long = ((λ _. long), (λ _. refl));
+  verdict = λ v short short' _. elim long [
+    | inl l ↦ absurd (omega (arith, l, short))
+    | inr l ↦ absurd (omega (arith, l, short'))
+  ];
+}
+
+-- how a run ends decides how a log is answered, where nothing fails
+pub checks_log : (w : CheckWords) (stp log : List ℕ) (old : Texts) (status : Status) (outcome : Option Outcome) (taken now : Option (List ℕ)) (sent : List ℕ)
+    → old w.file ≡ Some stp → old w.log_name ≡ Some log → (status ≡ ReadFault → ⊥) → (status ≡ NoMemory → ⊥)
+    → EndsWith (Some (check w)) old status outcome sent → now ≡ append_known taken sent → ChecksLog stp log status taken now
+checks_log w stp log old status outcome taken now sent told told' read memory (inl h) took =
+    let same = told_loaded (old w.file) h.0 stp told h.2 in
+    let same' = told_loaded (old w.log_name) h.1 log told' h.3 in
+    answered_log stp log status taken now sent same.1 same'.1 (subst (λ l. CheckAnswer stp l status sent) same'.0 (subst (λ b. CheckAnswer b h.1 status sent) same.0 h.4)) took
+checks_log w stp log old TooLong outcome taken now sent told told' read memory (inr h) took = elim h.0 [
+  | inl long ↦ long_log stp log taken now (inl (subst (λ o. IfSome o (λ text. 2 ^ 34 < length text)) told long))
+  | inr rest ↦ elim rest [
+    | inl long ↦ long_log stp log taken now (inr (subst (λ o. IfSome o (λ text. 2 ^ 34 < length text)) told' long))
+    | inr none ↦ absurd none
+  ]
+]
+checks_log w stp log old ReadFault outcome taken now sent told told' read memory (inr h) took = absurd (read refl)
+checks_log w stp log old NoMemory outcome taken now sent told told' read memory (inr h) took = absurd (memory refl)
+checks_log w stp log old Optimal outcome taken now sent told told' read memory (inr h) took = absurd h.0
+checks_log w stp log old Usage outcome taken now sent told told' read memory (inr h) took = absurd h.0
+checks_log w stp log old Budget outcome taken now sent told told' read memory (inr h) took = absurd h.0
+checks_log w stp log old Infeasible outcome taken now sent told told' read memory (inr h) took = absurd h.0
+checks_log w stp log old RefusedFile outcome taken now sent told told' read memory (inr h) took = absurd h.0
+checks_log w stp log old RefusedLog outcome taken now sent told told' read memory (inr h) took = absurd h.0
+checks_log w stp log old WriteFault outcome taken now sent told told' read memory (inr h) took = absurd h.0
+
+-- words that are a command don't end with the usage line
+no_usage : (command : Command) (texts : Texts) (outcome : Option Outcome) (sent : List ℕ) → EndsWith (Some command) texts Usage outcome sent → ⊥
+no_usage (solve w) texts outcome sent (inl h) = absurd h.2
+no_usage (check w) texts outcome sent (inl h) = (line_ends h.4.answer Usage sent h.4.line).1 refl
+no_usage (solve w) texts outcome sent (inr h) = absurd h.0
+no_usage (check w) texts outcome sent (inr h) = absurd h.0
+
+-- the usage line ends a run exactly where the words are no command
+pub usage_ends : (command : Option Command) (texts : Texts) (status : Status) (outcome : Option Outcome) (sent : List ℕ) → (status ≡ NoMemory → ⊥) → EndsWith command texts status outcome sent → (status ≡ Usage) ↔ (command ≡ None)
+usage_ends None texts status outcome sent memory (inl h) = absurd h
+usage_ends None texts status outcome sent memory (inr h) = elim h.0 [
+  | inl usage ↦ ((λ _. refl), (λ _. usage))
+  | inr out ↦ absurd (memory out)
+]
+usage_ends (Some command) texts status outcome sent memory h =
+    ((λ e. absurd (no_usage command texts outcome sent (subst (λ s. EndsWith (Some command) texts s outcome sent) e h))), (λ e. absurd cc))
+
+-- the words and the texts decide, where nothing fails
+pub decides : (command : Option Command) (old new : Texts) (reads reads_now saves saves_now writes writes_now : ℕ) (status : Status) (outcome : Option Outcome) (taken now : Option (List ℕ))
+    → ((bytes : List ℕ) → RefusedExactly bytes)
+    → (status ≢ WriteFault → (sent : List ℕ) × EndsWith command old status outcome sent × (now ≡ append_known taken sent))
+    → IsSaved command new outcome
+    → (status ≡ ReadFault → Rose reads reads_now)
+    → (status ≡ WriteFault → Rose saves saves_now ⊎ Rose writes writes_now)
+    → Headline command old new reads reads_now saves saves_now writes writes_now status outcome taken now
+decides command old new reads reads_now saves saves_now writes writes_now status outcome taken now law sent saved read write = record {
+  usage = λ fine. let e = ended fine in usage_ends command old status outcome e.0 fine.memory e.1;
+  solves = λ w bytes is told fine. let e = ended fine in solves_file w bytes old new status outcome taken now e.0 (law bytes) told (λ r. fine.loaded (read r)) fine.memory (subst (λ c. EndsWith c old status outcome e.0) is e.1) e.2 (subst (λ c. IsSaved c new outcome) is saved);
+  checks = λ w stp log is told told' fine. let e = ended fine in checks_log w stp log old status outcome taken now e.0 told told' (λ r. fine.loaded (read r)) fine.memory (subst (λ c. EndsWith c old status outcome e.0) is e.1) e.2;
+} where
+  no_write : NothingFails reads reads_now saves saves_now writes writes_now status → status ≢ WriteFault
+  no_write fine failed = elim (write failed) [
+    | inl rose ↦ fine.saved rose
+    | inr rose ↦ fine.sent rose
+  ]
+
+  ended : NothingFails reads reads_now saves saves_now writes writes_now status → (bytes : List ℕ) × EndsWith command old status outcome bytes × (now ≡ append_known taken bytes)
+  ended fine = sent (no_write fine)

@@ -1,0 +1,62 @@
+-- The main promise of a run: where no device and no memory fails, the words and the texts decide how it ends, and what is sent and saved.
+use Rattle.std.specs.Prelude.{◌≡◌, ◌≢◌, ◌↔◌, ◌⊎◌, ℕ, ◌^◌, ◌<◌, ◌≤◌, List, length, Option, Some, None, Ok, Err, IfSome}
+use Rattle.std.specs.Io.KnownBytes.{append_known}
+use Rattle.st_edge.specs.Faults.{Rose}
+use Rattle.st_model.specs.declared.tree.Tree.{Tree}
+use Rattle.st_model.specs.Network.{Network}
+use Rattle.st_model.specs.Arborescence.{IsTree}
+use Rattle.stp_reader.specs.declared.reason.Reason.{Reason}
+use Rattle.stp_reader.specs.Reads.{Reads, Refused}
+use Rattle.log_format.specs.declared.log.Log.{Log}
+use Rattle.log_format.specs.Text.{log_text}
+use Rattle.dimacs_writer.specs.Solution.{IsSolutionText}
+use Rattle.cert_checker.specs.declared.verdict.Verdict.{Verdict}
+use Rattle.cert_checker.specs.Checking.{IsAnswer}
+use Rattle.command_line.specs.Words.{Command, SolveWords, CheckWords, solve, check}
+use Rattle.steiner_top.specs.declared.outcome.Outcome.{Outcome}
+use Rattle.steiner_top.specs.declared.outcome.Outcome.TheVariants.{Found}
+use Rattle.steiner_top.specs.declared.status.Status.{Status}
+use Rattle.steiner_top.specs.declared.status.Status.TheVariants.{Optimal, Usage, Budget, Infeasible, RefusedFile, NoMemory, TooLong}
+use Rattle.steiner_top.specs.Causes.{Texts}
+use Rattle.steiner_top.specs.Outcome.{IsFound}
+use Rattle.steiner_top.specs.Output.{status_of_verdict, verdict_line}
+
+-- no load, save or write failed, and memory sufficed
+pub record NothingFails (reads reads_now saves saves_now writes writes_now : ℕ) (status : Status) : Type 0 where
+  pub loaded : Rose reads reads_now → ⊥
+  pub saved : Rose saves saves_now → ⊥
+  pub sent : Rose writes writes_now → ⊥
+  pub memory : status ≢ NoMemory
+
+-- the answer to a file whose instance has a tree: the text of a tree, with its cost and a bound on the cost of all trees, and the certificate's text under the log's name.
+-- The bound is the cost unless the whole budget was spent.
+pub record IsSolved (w : SolveWords) (I : Network) (status : Status) (outcome : Option Outcome) (texts : Texts) (taken now : Option (List ℕ)) : Type 0 where
+  pub tree : Tree
+  pub primal : ℕ
+  pub dual : ℕ
+  pub certificate : Log
+  pub sent : List ℕ
+  pub given : outcome ≡ Some (Found tree primal dual certificate)
+  pub found : IsFound w.nodes I tree primal dual certificate
+  pub text : IsSolutionText w.file w.workers tree dual primal sent
+  pub took : now ≡ append_known taken sent
+  pub ends : ((status ≡ Optimal) × (dual ≡ primal)) ⊎ ((status ≡ Budget) × (dual < primal))
+  pub log : IfSome w.log_name (λ name. IfSome (texts name) (λ text. text ≡ log_text certificate))
+
+-- how a file is answered that is to be solved, and whose text is told
+pub record SolvesFile (w : SolveWords) (bytes : List ℕ) (status : Status) (outcome : Option Outcome) (texts : Texts) (taken now : Option (List ℕ)) : Type 0 where
+  pub too_long : (status ≡ TooLong) ↔ (2 ^ 34 < length bytes)
+  pub refused : length bytes ≤ 2 ^ 34 → (status ≡ RefusedFile) ↔ ((line : ℕ) × (reason : Reason) × Refused bytes line reason)
+  pub infeasible : (I : Network) → Reads bytes I → length bytes ≤ 2 ^ 34 → (status ≡ Infeasible) ↔ ((t : Tree) → IsTree I t → ⊥)
+  pub solved : (I : Network) (t : Tree) → Reads bytes I → length bytes ≤ 2 ^ 34 → IsTree I t → IsSolved w I status outcome texts taken now
+
+-- how a file and a log are answered that are to be checked, and whose texts are told
+pub record ChecksLog (stp log : List ℕ) (status : Status) (taken now : Option (List ℕ)) : Type 0 where
+  pub too_long : (status ≡ TooLong) ↔ ((2 ^ 34 < length stp) ⊎ (2 ^ 34 < length log))
+  pub verdict : (v : Verdict) → length stp ≤ 2 ^ 34 → length log ≤ 2 ^ 34 → IsAnswer stp log (Ok v) → (status ≡ status_of_verdict v) × (now ≡ append_known taken (verdict_line v))
+
+-- the words and the texts that they name decide, where nothing fails
+pub record Headline (command : Option Command) (old new : Texts) (reads reads_now saves saves_now writes writes_now : ℕ) (status : Status) (outcome : Option Outcome) (taken now : Option (List ℕ)) : Type 0 where
+  pub usage : NothingFails reads reads_now saves saves_now writes writes_now status → (status ≡ Usage) ↔ (command ≡ None)
+  pub solves : (w : SolveWords) (bytes : List ℕ) → command ≡ Some (solve w) → old w.file ≡ Some bytes → NothingFails reads reads_now saves saves_now writes writes_now status → SolvesFile w bytes status outcome new taken now
+  pub checks : (w : CheckWords) (stp log : List ℕ) → command ≡ Some (check w) → old w.file ≡ Some stp → old w.log_name ≡ Some log → NothingFails reads reads_now saves saves_now writes writes_now status → ChecksLog stp log status taken now

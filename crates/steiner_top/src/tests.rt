@@ -1,0 +1,83 @@
+use crate::{OpenGate, Status, run};
+use st_edge::{MemoryShelf, MemorySink, Shelf};
+use std::alloc::{AllocError, Global};
+use std::process::Abort;
+use std::test::Fail;
+
+mod checks;
+mod faults;
+mod lines;
+mod solves;
+
+const USAGE: &str =
+    "usage: steiner solve FILE [--workers W] [--nodes N] [--log NAME] [--plain] | check FILE LOG | gen SEED N M T [--prizes] | trial SEED N M T [--workers W]\n";
+
+/// A triangle of required vertices with sides of cost 4, and a centre at cost 2 from each. The
+/// lines of a test's text stand apart by ` / `, and H stands for the header.
+const TRIANGLE: &str =
+    "H / SECTION Graph / Nodes 4 / Edges 6 / E 1 4 2 / E 2 4 2 / E 3 4 2 / E 1 2 4 / E 2 3 4 / E 1 3 4 / END / SECTION Terminals / Terminals 3 / T 1 / T 2 / T 3 / END / EOF";
+
+/// A hub 1 with spokes to 2, 3, 4, which lie on the rim between the required 5, 6, 7.
+const WHEEL: &str =
+    "H / SECTION Graph / Nodes 7 / Edges 9 / E 1 2 2 / E 1 3 2 / E 1 4 2 / E 5 2 2 / E 5 3 2 / E 6 3 2 / E 6 4 2 / E 7 2 2 / E 7 4 2 / END / SECTION Terminals / Terminals 4 / T 1 / T 5 / T 6 / T 7 / END / EOF";
+
+/// Two required vertices of three that no link joins.
+const APART: &str =
+    "H / SECTION Graph / Nodes 3 / Edges 1 / E 1 2 7 / END / SECTION Terminals / Terminals 2 / T 1 / T 3 / END / EOF";
+
+/// Two vertices that pay 3 and 4, linked at cost 5.
+const PRIZES: &str =
+    "H / SECTION Graph / Nodes 2 / Edges 1 / E 1 2 5 / END / SECTION Terminals / Terminals 2 / TP 1 3 / TP 2 4 / END / EOF";
+
+/// The words of a line, which stand apart by single spaces.
+fn words_of(alloc: Global, line: &str) -> Result<Vec<String>, AllocError> {
+    let mut words = Vec::new(alloc);
+    for word in line.split(' ') {
+        words.push(String::from_str(alloc, word)?)?;
+    }
+    Ok(words)
+}
+
+/// The text of these lines.
+fn text_of(alloc: Global, lines: &str) -> Result<Vec<u8>, AllocError> {
+    let mut text = Vec::new(alloc);
+    for line in lines.split(" / ") {
+        let whole = if line == "H" {
+            "33D32945 STP File, STP Format Version 1.0"
+        } else {
+            line
+        };
+        text.extend_from_slice(whole.as_bytes())?;
+        text.push(b'\n')?;
+    }
+    Ok(text)
+}
+
+/// A shelf with the text of these lines under `a.stp`, whose calls of these numbers fail.
+fn shelf_of(alloc: Global, lines: &str, failing: &[u64]) -> Result<MemoryShelf, AllocError> {
+    let mut texts = Vec::new(alloc);
+    let text = text_of(alloc, lines)?;
+    texts.push((String::from_str(alloc, "a.stp")?, text))?;
+    Ok(MemoryShelf::of(alloc, texts, Vec::from_slice(alloc, failing)?))
+}
+
+/// A sink with room enough, none of whose writes fails.
+fn sink_of(alloc: Global) -> Result<MemorySink, AllocError> {
+    MemorySink::of(alloc, 1_000_000, 99, Vec::new(alloc))
+}
+
+/// How a run with these words over this shelf ends, and what it sends, in so many words.
+fn ends<F: Shelf>(
+    rt: &(impl Abort + AllocGlobal),
+    line: &str,
+    shelf: &mut F,
+    want: (Status, u8, &str),
+) -> Result<(), Fail> {
+    let words = words_of(rt.alloc(), line)?;
+    let mut out = sink_of(rt.alloc())?;
+    let ended = run(rt.alloc(), &words, shelf, &mut out, &OpenGate);
+    assert_eq!(rt; ended.status, want.0, "after {line}");
+    assert_eq!(rt; ended.status.code(), want.1, "after {line}");
+    assert_eq!(rt; out.bytes(), want.2.as_bytes(), "after {line}");
+    Ok(())
+}

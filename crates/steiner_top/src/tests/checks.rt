@@ -1,0 +1,71 @@
+use super::{APART, PRIZES, TRIANGLE, WHEEL, ends, shelf_of, sink_of, text_of, words_of};
+use crate::{OpenGate, Status, run};
+use st_edge::{MemoryShelf, SaveFault, Shelf};
+use std::process::Abort;
+use std::test::Fail;
+
+/// A log of the triangle.
+const LOG: &str =
+    "STEINERLOG 1 / CLAIM TREE 6 6 / TREE 1 3 / A 1 4 / A 4 2 / A 4 3 / STEPS 0 / PROOF / C 1 3 / U 2 2 1 2 / U 3 2 1 3 / U 2 2 3 2 3 4 / END";
+
+/// Logs, and how they are answered with the triangle.
+const ANSWERS: &[(&str, Status, u8, &str)] = &[
+    (LOG, Status::Optimal, 0, "optimal 6\n"),
+    (
+        "STEINERLOG 1 / CLAIM TREE 6 5 / TREE 1 3 / A 1 4 / A 4 2 / A 4 3 / STEPS 0 / PROOF / C 1 3 / U 2 2 1 2 / U 3 2 1 3 / U 2 2 3 2 3 4 / END",
+        Status::Budget,
+        3,
+        "bound 5 6\n",
+    ),
+    (
+        "STEINERLOG 1 / CLAIM TREE 6 7 / TREE 1 3 / A 1 4 / A 4 2 / A 4 3 / STEPS 0 / PROOF / C 1 3 / U 2 2 1 2 / U 3 2 1 3 / U 2 2 3 2 3 4 / END",
+        Status::RefusedLog,
+        6,
+        "refused log 2 5 DualAbovePrimal\n",
+    ),
+    (
+        "STEINERLOG 1 / CLAIM TREE 6 6 / TREE 1 3 / A 1 4 / A 4 2 / A 4 3 / STEPS 0 / PROOF / C 1 3 / U 2 3 1 2 / U 3 2 1 3 / U 2 2 3 2 3 4 / END",
+        Status::RefusedLog,
+        6,
+        "refused log 9 8 BadPacking\n",
+    ),
+    (
+        "STEINERLOG 9",
+        Status::RefusedLog,
+        6,
+        "refused log 1 1 BadLine\n",
+    ),
+];
+
+#[test]
+fn answers_logs(rt: HostRuntime) -> Result<(), Fail> {
+    for (log, status, code, line) in ANSWERS {
+        let mut shelf = shelf_of(rt.alloc(), TRIANGLE, &[])?;
+        let text = text_of(rt.alloc(), log)?;
+        assert!(rt; shelf.save("b", &text).is_ok());
+        ends(&rt, "check a.stp b", &mut shelf, (*status, *code, line))?;
+    }
+    Ok(())
+}
+
+/// Files, and what is said of the log that solving them saves.
+const SAVED: &[(&str, Status, u8, &str)] = &[
+    (TRIANGLE, Status::Optimal, 0, "optimal 6\n"),
+    (WHEEL, Status::Optimal, 0, "optimal 10\n"),
+    (PRIZES, Status::Optimal, 0, "optimal 3\n"),
+    (APART, Status::Infeasible, 4, "no tree\n"),
+];
+
+#[test]
+fn accepts_what_solving_saves(rt: HostRuntime) -> Result<(), Fail> {
+    for (lines, status, code, line) in SAVED {
+        let mut shelf = shelf_of(rt.alloc(), lines, &[])?;
+        let words = words_of(rt.alloc(), "solve a.stp --log b")?;
+        let mut out = sink_of(rt.alloc())?;
+        let ended = run(rt.alloc(), &words, &mut shelf, &mut out, &OpenGate);
+        assert_eq!(rt; ended.status, *status);
+        assert!(rt; ended.outcome.is_some());
+        ends(&rt, "check a.stp b", &mut shelf, (*status, *code, line))?;
+    }
+    Ok(())
+}

@@ -1,0 +1,81 @@
+use super::solves::STAR;
+use super::{TRIANGLE, ends, shelf_of, words_of};
+use crate::{OpenGate, Status, run};
+use st_edge::{LoadFault, MemorySink, SaveFault, Shelf};
+use std::alloc::Global;
+use std::process::Abort;
+use std::test::Fail;
+
+/// A name that the shelf doesn't hold, and calls of the shelf that fail.
+const READ_FAULTS: &[(&str, u64)] = &[
+    ("solve b.stp", 99),
+    ("solve a.stp --log b", 1),
+    ("check a.stp b", 1),
+    ("check a.stp a.stp", 2),
+];
+
+#[test]
+fn tells_read_faults(rt: HostRuntime) -> Result<(), Fail> {
+    for (line, failing) in READ_FAULTS {
+        let mut shelf = shelf_of(rt.alloc(), TRIANGLE, &[*failing])?;
+        let want = (Status::ReadFault, 7, "read fault\n");
+        ends(&rt, line, &mut shelf, want)?;
+        assert!(rt; shelf.text_of("b").is_none());
+    }
+    Ok(())
+}
+
+/// Where the log can't be saved nothing is sent.
+#[test]
+fn sends_nothing_without_the_log(rt: HostRuntime) -> Result<(), Fail> {
+    let mut shelf = shelf_of(rt.alloc(), TRIANGLE, &[2])?;
+    let want = (Status::WriteFault, 8, "");
+    ends(&rt, "solve a.stp --log b", &mut shelf, want)
+}
+
+/// Whichever write fails, the log stands and the bytes before are taken.
+#[test]
+fn ends_at_each_write_that_fails(rt: HostRuntime) -> Result<(), Fail> {
+    for write in 1..=STAR.len() as u64 {
+        let mut shelf = shelf_of(rt.alloc(), TRIANGLE, &[])?;
+        let failing = Vec::from_slice(rt.alloc(), &[write])?;
+        let mut out = MemorySink::of(rt.alloc(), 1_000, 1, failing)?;
+        let words = words_of(rt.alloc(), "solve a.stp --log b")?;
+        let ended = run(rt.alloc(), &words, &mut shelf, &mut out, &OpenGate);
+        assert_eq!(rt; ended.status, Status::WriteFault);
+        assert_eq!(rt;
+            out.bytes(),
+            STAR.as_bytes().get(..write as usize - 1).unwrap_or(&[])
+        );
+        assert!(rt; shelf.text_of("b").is_some());
+    }
+    Ok(())
+}
+
+/// A shelf of which each text is too long.
+#[derive(Drop)]
+struct LongShelf;
+
+impl Shelf for LongShelf {
+    ghost use Rattle.std.specs.Prelude.{None};
+
+    ghost text = { λ _ _. None };
+
+    ghost read_faults = { λ _. 0 };
+
+    ghost write_faults = { λ _. 0 };
+
+    fn load(&mut self, _: Global, _: &str, _: u64) -> Result<Vec<u8>, LoadFault> {
+        Err(LoadFault::TooLong)
+    }
+
+    fn save(&mut self, _: &str, _: &[u8]) -> Result<(), SaveFault> {
+        Err(SaveFault::NoMemory)
+    }
+}
+
+#[test]
+fn tells_that_a_text_is_too_long(rt: HostRuntime) -> Result<(), Fail> {
+    let want = (Status::TooLong, 10, "too long\n");
+    ends(&rt, "solve a.stp", &mut LongShelf, want)
+}

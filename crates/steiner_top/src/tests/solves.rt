@@ -1,0 +1,142 @@
+use super::{APART, PRIZES, TRIANGLE, WHEEL, ends, shelf_of, text_of};
+use crate::{OpenGate, Outcome, Status, solve_bytes};
+use log_format::{Claim, read_log, write_log};
+use std::alloc::Global;
+use std::process::Abort;
+use std::test::Fail;
+
+/// The solution of the triangle: its centre and the three spokes.
+pub const STAR: &str =
+    "33D32945 STP File, STP Format Version 1.0\nSECTION Comment\nName \"a.stp\"\nProgram \"steiner\"\nRemark \"optimal\"\nEND\nSECTION Solutions\nSolution 0 6\nEND\nSECTION Run\nThreads 1\nTime 0\nDual 6\nPrimal 6\nEND\nSECTION Finalsolution\nVertices 4\nV 1\nV 2\nV 3\nV 4\nEdges 3\nE 1 4\nE 2 4\nE 3 4\nEND\nEOF\n";
+
+/// The dual and the primal of a file, where so many nodes may be expanded.
+fn numbers_of(alloc: Global, lines: &str, nodes: u64) -> Result<Option<(u64, u64)>, Fail> {
+    let text = text_of(alloc, lines)?;
+    let Ok(outcome) = solve_bytes(alloc, &text, nodes, &OpenGate) else {
+        return Ok(None);
+    };
+    match outcome {
+        Outcome::Found { primal, dual, .. } => Ok(Some((dual, primal))),
+        Outcome::NoTree { .. } => Ok(None),
+    }
+}
+
+/// Files and the cost of their best trees.
+const BEST: &[(&str, u64)] = &[
+    (TRIANGLE, 6),
+    (WHEEL, 10),
+    (PRIZES, 3),
+    // The sides of the triangle cost 3: two of them are as good as the spokes.
+    (
+        "H / SECTION Graph / Nodes 4 / Edges 6 / E 1 4 2 / E 2 4 2 / E 3 4 2 / E 1 2 3 / E 2 3 3 / E 1 3 3 / END / SECTION Terminals / Terminals 3 / T 1 / T 2 / T 3 / END / EOF",
+        6,
+    ),
+    (
+        "H / SECTION Graph / Nodes 1 / Edges 0 / END / SECTION Terminals / Terminals 1 / T 1 / END / EOF",
+        0,
+    ),
+    // The cheaper of parallel links counts, and a loop doesn't.
+    (
+        "H / SECTION Graph / Nodes 2 / Edges 3 / E 1 2 5 / E 2 1 3 / E 1 1 4 / END / SECTION Terminals / Terminals 2 / T 1 / T 2 / END / EOF",
+        3,
+    ),
+    (
+        "H / SECTION Graph / Nodes 3 / Edges 3 / E 1 2 0 / E 2 3 0 / E 1 3 0 / END / SECTION Terminals / Terminals 3 / T 1 / T 2 / T 3 / END / EOF",
+        0,
+    ),
+    // The link to the other prize pays where it costs 2, and where it costs 3 either tree is best.
+    (
+        "H / SECTION Graph / Nodes 2 / Edges 1 / E 1 2 2 / END / SECTION Terminals / Terminals 2 / TP 1 3 / TP 2 4 / END / EOF",
+        2,
+    ),
+    (
+        "H / SECTION Graph / Nodes 2 / Edges 1 / E 1 2 3 / END / SECTION Terminals / Terminals 2 / TP 1 3 / TP 2 4 / END / EOF",
+        3,
+    ),
+    // Nobody pays.
+    (
+        "H / SECTION Graph / Nodes 3 / Edges 2 / E 1 2 1 / E 2 3 1 / END / SECTION Terminals / Terminals 1 / TP 2 0 / END / EOF",
+        0,
+    ),
+    // Both kinds in one file.
+    (
+        "H / SECTION Graph / Nodes 3 / Edges 2 / E 1 3 4 / E 3 2 5 / END / SECTION Terminals / Terminals 2 / T 1 / TP 2 10 / END / EOF",
+        9,
+    ),
+    (
+        "H / SECTION Graph / Nodes 2 / Edges 1 / E 1 2 1000000000000 / END / SECTION Terminals / Terminals 2 / T 1 / T 2 / END / EOF",
+        1_000_000_000_000,
+    ),
+    (
+        "H / SECTION Graph / Nodes 2 / Edges 1 / E 1 2 5.0 / END / SECTION Terminals / Terminals 2 / T 1 / T 2 / END / EOF",
+        5,
+    ),
+    // Another case, a carriage return, coordinates, and no line EOF.
+    (
+        "H / section coordinates / dd 1 0 0 / end / section graph / nodes 2 / edges 1\r / e 1 2 7\r / end\r / section terminals\r / terminals 2\r / t 1\r / t 2\r / end\r",
+        7,
+    ),
+];
+
+#[test]
+fn finds_the_best_cost(rt: HostRuntime) -> Result<(), Fail> {
+    for (lines, cost) in BEST {
+        let found = numbers_of(rt.alloc(), lines, 1_000_000)?;
+        assert_eq!(rt; found, Some((*cost, *cost)), "for {lines}");
+    }
+    Ok(())
+}
+
+#[test]
+fn sends_the_solution(rt: HostRuntime) -> Result<(), Fail> {
+    let mut shelf = shelf_of(rt.alloc(), TRIANGLE, &[])?;
+    ends(&rt, "solve a.stp", &mut shelf, (Status::Optimal, 0, STAR))
+}
+
+#[test]
+fn tells_that_there_is_no_tree(rt: HostRuntime) -> Result<(), Fail> {
+    let mut shelf = shelf_of(rt.alloc(), APART, &[])?;
+    let want = (Status::Infeasible, 4, "infeasible\n");
+    ends(&rt, "solve a.stp", &mut shelf, want)
+}
+
+/// Without a budget nothing is proved; the tree is that from which the search starts.
+#[test]
+fn proves_nothing_without_a_budget(rt: HostRuntime) -> Result<(), Fail> {
+    let (dual, primal) = numbers_of(rt.alloc(), TRIANGLE, 0)?.ok_or("no tree")?;
+    assert!(rt; dual == 0 && 6 <= primal, "{dual} {primal}");
+    Ok(())
+}
+
+/// A bound grows with the budget, and reaches the cost at the end.
+#[test]
+fn spends_a_budget_on_the_wheel(rt: HostRuntime) -> Result<(), Fail> {
+    for nodes in [0, 1, 2] {
+        let (dual, primal) = numbers_of(rt.alloc(), WHEEL, nodes)?.ok_or("no tree")?;
+        assert!(rt; dual <= 10 && 10 <= primal, "{nodes}: {dual} {primal}");
+    }
+    // Three vertices aren't required.
+    assert_eq!(rt; numbers_of(rt.alloc(), WHEEL, 16)?, Some((10, 10)));
+    Ok(())
+}
+
+/// The log that is saved is the text of the certificate, and its claim has the numbers.
+#[test]
+fn saves_the_certificate(rt: HostRuntime) -> Result<(), Fail> {
+    let mut shelf = shelf_of(rt.alloc(), TRIANGLE, &[])?;
+    let want = (Status::Optimal, 0, STAR);
+    ends(&rt, "solve a.stp --log b", &mut shelf, want)?;
+    let text = shelf.text_of("b").ok_or("no log")?;
+    let log = read_log(rt.alloc(), text)?;
+    assert!(rt;
+        matches!(
+            &log.claim,
+            Claim::Found {
+                primal: 6,
+                dual: 6,
+                ..
+            }
+        )
+    );
+    Ok(())
+}

@@ -1,0 +1,4 @@
+pub mod Spreads
+pub mod Settled
+pub mod Found
+pub mod Members

@@ -1,0 +1,73 @@
+-- Members of a set as an ascending list, and the vertex that pays most.
+use Rattle.std.proofs.Common.{◌≡◌, ℕ, ◌+◌, ◌-◌, ◌<◌, ◌≤◌, Bool, true, false, cond, ◌||◌, inl, inr, List, [], ◌∷◌, ◌++◌, length, get_or, refl, sym, ap, subst, ◌∙◌, arith, length-append}
+use Rattle.std.specs.Prelude.{◌==◌, All, IsTrue, IsFalse}
+use Rattle.std.specs.List.Sorted.{IsStrictlyIncreasing}
+use Rattle.std.proofs.Math.Bool.{or_comm}
+use Rattle.std.proofs.lemmas.Bool.{cases_lt, false≢true}
+use Rattle.std.proofs.lemmas.Bool.Decides.{nat_tests, eqb_tells}
+use Rattle.std.proofs.lemmas.List.{get_or_append_left, get_or-append_right}
+use Rattle.std.proofs.lemmas.List.Elements.{All-nil, All-push, All-weaker, recursion_from_All}
+use Rattle.st_model.specs.Branch.{IsVertexSet}
+use Rattle.st_model.specs.Lists.{has}
+use Rattle.st_model.specs.Network.{IsVertex}
+use Rattle.st_model.proofs.Marked.{has-push, at_member}
+use Rattle.tree_heuristic.specs.Spreading.{AreFirst}
+
+-- none so far
+pub AreFirst-none : (members : List ℕ) → AreFirst members 0 []
+AreFirst-none members = record {
+  set = record { ascending = λ k h. absurd (omega arith); in_range = All-nil _ };
+  same = λ v h. let low = h.0 in let high = h.1 in absurd (omega arith);
+}
+
+wider : (last : ℕ) (list : List ℕ) → All (IsVertex last) list → All (IsVertex (last + 1)) list
+wider last list all = All-weaker (IsVertex last) (IsVertex (last + 1)) (λ x h. let high = h.1 in (h.0, omega arith)) list all
+
+-- the next vertex is a member
+pub AreFirst-push : (members : List ℕ) (last : ℕ) (list : List ℕ) → AreFirst members last list → IsTrue (has members (last + 1)) → AreFirst members (last + 1) (list ++ (last + 1) ∷ [])
+AreFirst-push members last list are there = record {
+  set = record { ascending = ascending; in_range = All-push (IsVertex (last + 1)) list (last + 1) (wider last list are.set.in_range) (omega arith, omega arith) };
+  same = same;
+}
+  where
+    ascending : IsStrictlyIncreasing (list ++ (last + 1) ∷ [])
+    ascending k h = elim (cases_lt (k + 1) (length list)) [
+      | inl below ↦
+          let left = get_or_append_left list ((last + 1) ∷ []) 0 k (omega arith) in
+          let right = get_or_append_left list ((last + 1) ∷ []) 0 (k + 1) below in
+          let before = are.set.ascending k below in
+          omega (arith, left, right, before)
+      | inr above ↦
+          let long = length-append list ((last + 1) ∷ []) in
+          let at_end : length list ≡ k + 1 = omega (arith, long, h) in
+          let left = get_or_append_left list ((last + 1) ∷ []) 0 k (omega arith) in
+          let right : get_or (list ++ (last + 1) ∷ []) (k + 1) 0 ≡ last + 1 = subst (λ j. get_or (list ++ (last + 1) ∷ []) j 0 ≡ last + 1) at_end (get_or-append_right list ((last + 1) ∷ []) (length list) (length list) 0 refl (omega arith) ∙ first (length list)) in
+          let small = (are.set.in_range k 0 (omega arith)).1 in
+          omega (arith, left, right, small)
+    ]
+      where
+        first : (n : ℕ) → get_or ((last + 1) ∷ []) (n - n) 0 ≡ last + 1
+        first n = let e : n - n ≡ 0 = omega arith in rw e refl
+
+    same : (v : ℕ) → IsVertex (last + 1) v → has (list ++ (last + 1) ∷ []) v ≡ has members v
+    same v h = elim (eqb_tells (last + 1) v) [
+      | inl e ↦ has-push list (last + 1) v ∙ (rw (e.0, or_comm (has list v) true) (sym (subst (λ w. IsTrue (has members w)) e.1 there)))
+      | inr e ↦ let low = h.0 in let high = h.1 in let other = e.1 in has-push list (last + 1) v ∙ (rw (e.0, or_comm (has list v) false) (are.same v (low, omega arith)))
+    ]
+
+-- the next vertex is none
+pub AreFirst-skip : (members : List ℕ) (last : ℕ) (list : List ℕ) → AreFirst members last list → IsFalse (has members (last + 1)) → AreFirst members (last + 1) list
+AreFirst-skip members last list are off = record {
+  set = record { ascending = are.set.ascending; in_range = wider last list are.set.in_range };
+  same = same;
+}
+  where
+    none : (b : Bool) → has list (last + 1) ≡ b → b ≡ false
+    none true h = let high = (at_member (IsVertex last) list (last + 1) (recursion_from_All _ list are.set.in_range) h).1 in absurd (omega arith)
+    none false h = refl
+
+    same : (v : ℕ) → IsVertex (last + 1) v → has list v ≡ has members v
+    same v h = elim (eqb_tells (last + 1) v) [
+      | inl e ↦ subst (λ w. has list w ≡ has members w) e.1 (none (has list (last + 1)) refl ∙ sym off)
+      | inr e ↦ let low = h.0 in let high = h.1 in let other = e.1 in are.same v (low, omega arith)
+    ]

@@ -1,0 +1,5 @@
+use Rattle.tree_heuristic.specs.Spreading.{IsDearest}
+use Rattle.tree_heuristic.proofs.first.dearest.Given as goal
+
+abbrev pub invariant-loop-before : goal.invariant-loop-before
+invariant-loop-before l = IsDearest l.store l.outside.members l.before l.best l.prize

@@ -1,0 +1,108 @@
+ghost use Rattle.std.specs.Prelude.{◌≡◌, ◌+◌, ◌<◌, [], ◌∷◌, ◌++◌, IfOk, OnOk, IsTrue, IsFalse, if◌then◌else◌, ◌||◌};
+ghost use Rattle.st_model.specs.Lists.{has};
+ghost use Rattle.st_model.specs.Network.{IsVertex};
+ghost use Rattle.graph_store.specs.Graph.{IsGraph, is_in};
+ghost use Rattle.tree_heuristic.specs.Spreading.{IsSpread, IsClosed, Follows, HasFollowed};
+
+use graph_store::Store;
+use st_model::{Listed, Tree, VertexSet};
+use std::alloc::{AllocError, Global};
+
+// A tree that is being grown from a start, and the vertices that it reaches in their order.
+#[derive(Drop)]
+pub struct Spread {
+    pub start: u32,
+    pub arcs: Vec<(u32, u32)>,
+    pub reached: VertexSet,
+}
+
+impl Spread {
+    // All that links lead to from a start, past no vertex outside; breadth first.
+    pub fn over(
+        alloc: Global,
+        store: &Store,
+        outside: &VertexSet,
+        start: u32,
+    ) -> Result<Spread, AllocError>
+        requires present { IsTrue (is_in store.now start) }
+        requires inside { IsFalse (has outside.now.members start) }
+        requires vertex { IsVertex store.now.network.n start }
+        ensures spread { IfOk result (IsSpread store.now outside.now.members) }
+        ensures closed { IfOk result (λ spread. IsClosed store.now.network outside.now.members spread.reached.members spread.reached.members) }
+        ensures start { IfOk result (λ spread. spread.start ≡ start) }
+        ensures graph { IfOk result (λ _. IsGraph store.now) }
+    {
+        let mut spread = Spread::at(alloc, store.vertices(), start)?;
+        let mut next = 0;
+        while let Some(tail) = spread.reached.member(next) {
+            spread.reach(store, outside, tail)?;
+            next += 1;
+        }
+        Ok(spread)
+    }
+
+    // The start alone.
+    fn at(alloc: Global, vertices: u32, start: u32) -> Result<Spread, AllocError>
+        requires { IsVertex vertices start }
+        ensures start { IfOk result (λ spread. spread.start ≡ start) }
+        ensures arcs { IfOk result (λ spread. spread.arcs.items ≡ []) }
+        ensures members { IfOk result (λ spread. spread.reached.members ≡ start ∷ []) }
+        ensures count { IfOk result (λ spread. spread.reached.count ≡ vertices + 1) }
+    {
+        let mut reached = VertexSet::new(alloc, vertices as usize + 1)?;
+        reached.insert(start)?;
+        Ok(Spread {
+            start,
+            arcs: Vec::new(alloc),
+            reached,
+        })
+    }
+
+    // Reaches from a tail each vertex that it is linked with and that isn't outside.
+    fn reach(&mut self, store: &Store, outside: &VertexSet, tail: u32) -> Result<(), AllocError>
+        requires spread { IsSpread store.now outside.now.members self.old }
+        requires tail { IsTrue (has self.old.reached.members tail) }
+        requires vertex { IsVertex store.now.network.n tail }
+        ensures { OnOk result (HasFollowed store.now outside.now.members self.old tail self.new) }
+    {
+        for half in store.neighbours(tail) {
+            self.follow(outside, tail, half.to)?;
+        }
+        Ok(())
+    }
+
+    // Takes an arc, unless its head is outside or reached.
+    fn follow(&mut self, outside: &VertexSet, tail: u32, head: u32) -> Result<(), AllocError>
+        requires { head < self.old.reached.count }
+        ensures { OnOk result (Follows outside.now.members self.old tail head self.new) }
+    {
+        if outside.contains(head) || self.reached.contains(head) {
+            return Ok(());
+        }
+        self.take(tail, head)
+    }
+
+    // Takes an arc whose head isn't reached.
+    fn take(&mut self, tail: u32, head: u32) -> Result<(), AllocError>
+        requires range { head < self.old.reached.count }
+        requires new { IsFalse (has self.old.reached.members head) }
+        ensures start { self.new.start ≡ self.old.start }
+        ensures arcs { OnOk result (self.new.arcs.items ≡ self.old.arcs.items ++ (tail, head) ∷ []) }
+        ensures members { OnOk result (self.new.reached.members ≡ self.old.reached.members ++ head ∷ []) }
+        ensures count { self.new.reached.count ≡ self.old.reached.count }
+    {
+        self.arcs.push((tail, head))?;
+        self.reached.insert(head)
+    }
+
+    // The tree that was grown.
+    pub fn into_tree(self) -> Tree
+        ensures start { result.start ≡ self.start }
+        ensures arcs { result.arcs ≡ self.arcs.items }
+    {
+        Tree {
+            start: self.start,
+            arcs: Listed::of(self.arcs),
+        }
+    }
+}
