@@ -19,7 +19,7 @@ pub record Gains (links : List Link) (n limit : ℕ) (old new : Search) (cost to
   pub more : (w x : ℕ) → IsOffered old.best.items w x → IsOffered new.best.items w x
   pub offered : IsOffered new.best.items to cost
   pub best_long : length new.best.items ≡ length old.best.items
-  pub search : (sources : List ℕ) → IsFair links n sources limit old.places.items old.settled.items (offer_of cost to from) → IsSearch links n sources limit old.best.items old.places.items old.settled.items (heap_items old.queue) → IsSearch links n sources limit new.best.items new.places.items new.settled.items (heap_items new.queue)
+  pub keeps : (sources : List ℕ) → IsFair links n sources limit old.places.items old.settled.items (offer_of cost to from) → IsSearch links n sources limit old.best.items old.places.items old.settled.items (heap_items old.queue) → IsSearch links n sources limit new.best.items new.places.items new.settled.items (heap_items new.queue)
 
 pub offer_gains : (links : List Link) (n limit : ℕ) (old new : Search) (cost to from : ℕ) → to < length old.best.items → Offers old new cost to from → Gains links n limit old new cost to from
 offer_gains links n limit old new cost to from within offers = elim offers.either [
@@ -27,13 +27,13 @@ offer_gains links n limit old new cost to from within offers = elim offers.eithe
     more = λ w x h. subst (λ b. IsOffered b w x) (sym kept.1) h;
     offered = subst (λ b. IsOffered b to cost) (sym kept.1) kept.0;
     best_long = ap length kept.1;
-    search = λ sources fair search. moved sources (offer_kept links n sources limit old.best.items new.best.items old.places.items old.settled.items (heap_items old.queue) (heap_items new.queue) kept.1 kept.2 search);
+    keeps = λ sources fair search. moved sources (offer_kept links n sources limit old.best.items new.best.items old.places.items old.settled.items (heap_items old.queue) (heap_items new.queue) kept.1 kept.2 search);
   }
   | inr put ↦ record {
     more = still_offered old.best.items new.best.items to cost within put.1 put.0;
     offered = offered_here old.best.items new.best.items to cost within put.1;
     best_long = ap length put.1 ∙ length-set old.best.items to (Some cost);
-    search = λ sources fair search. moved sources (offer_put old.best.items new.best.items to cost within put.1 links n sources limit old.places.items old.settled.items (heap_items old.queue) (heap_items new.queue) (offer_of cost to from) refl refl put.2 fair search);
+    keeps = λ sources fair search. moved sources (offer_put old.best.items new.best.items to cost within put.1 links n sources limit old.places.items old.settled.items (heap_items old.queue) (heap_items new.queue) (offer_of cost to from) refl refl put.2 fair search);
   }
 ]
   where
@@ -50,7 +50,7 @@ followed_none links n limit vertex cost search = record {
   offered = All-nil (λ half. (limit < cost + half.cost) ⊎ IsOffered search.best.items half.to (cost + half.cost));
   length = omega arith;
   order = λ h. h;
-  search = λ sources place s placed at vertex_is cost_is h. h;
+  keeps = λ sources place s placed at vertex_is cost_is h. h;
 }
 
 -- one half more
@@ -65,7 +65,7 @@ followed_more links n limit vertex cost halves half first old new within in_rang
     offered = All-push (λ half. (limit < cost + half.cost) ⊎ IsOffered old.best.items half.to (cost + half.cost)) halves half before.offered (inl beyond.0);
     length = (let long = length-append halves (half ∷ []) in let bound = before.length in omega arith);
     order = before.order;
-    search = before.search;
+    keeps = before.keeps;
   })
   | inr followed ↦
       let gains = offer_gains links n limit old new (cost + half.cost) half.to vertex within followed.1 in
@@ -77,12 +77,12 @@ followed_more links n limit vertex cost halves half first old new within in_rang
         offered = All-push (λ half. (limit < cost + half.cost) ⊎ IsOffered new.best.items half.to (cost + half.cost)) halves half (All-weaker (λ half. (limit < cost + half.cost) ⊎ IsOffered old.best.items half.to (cost + half.cost)) (λ half. (limit < cost + half.cost) ⊎ IsOffered new.best.items half.to (cost + half.cost)) (λ h told. weaker gains.more h told) halves before.offered) (inr gains.offered);
         length = (let long = length-append halves (half ∷ []) in let bound = before.length in omega arith);
         order = λ h. order (before.order h);
-        search = λ sources place s placed at vertex_is cost_is h.
-            gains.search sources (record {
+        keeps = λ sources place s placed at vertex_is cost_is h.
+            gains.keeps sources (record {
               in_range = in_range;
               within = followed.0;
               comes = inr (place, s, half.cost, ap (λ p. place_of p vertex) before.places ∙ placed, ap (λ ss. slice_get ss place) before.settled ∙ at, ap (λ x. link links x half.to) vertex_is ∙ linked, ap (λ x. x + half.cost) (sym cost_is));
-            }) (before.search sources place s placed at vertex_is cost_is h);
+            }) (before.keeps sources place s placed at vertex_is cost_is h);
       }
 ]
   where
@@ -99,14 +99,14 @@ followed_all I limit vertex cost halves old new are few followed = record {
   relaxed = λ w d linked. All-contains (λ half. (limit < cost + half.cost) ⊎ IsOffered new.best.items half.to (cost + half.cost)) halves (record { to = w; cost = d }) followed.offered ((are.linked w d).1 linked);
   length = (let bound = followed.length in omega arith);
   order = followed.order;
-  search = followed.search;
+  keeps = followed.keeps;
 }
 
 -- one source more is offered
 pub start_step : (links : List Link) (n limit : ℕ) (sources seen : List ℕ) (source : ℕ) (old new : Search) → source < length old.best.items → IsVertex n source → Contains sources source → Offers old new 0 source 0
     → IsSearch links n sources limit old.best.items old.places.items old.settled.items (heap_items old.queue) → IsSearch links n sources limit new.best.items new.places.items new.settled.items (heap_items new.queue)
 start_step links n limit sources seen source old new within in_range held offers search =
-    (offer_gains links n limit old new 0 source 0 within offers).search sources (record { in_range = in_range; within = (omega arith); comes = inl (refl, refl, held) }) search
+    (offer_gains links n limit old new 0 source 0 within offers).keeps sources (record { in_range = in_range; within = (omega arith); comes = inl (refl, refl, held) }) search
 
 pub start_offered : (seen : List ℕ) (source n : ℕ) (old new : Search) → source < length old.best.items → Offers old new 0 source 0 → All (λ s. IsOffered old.best.items s 0) seen → All (λ s. IsOffered new.best.items s 0) (seen ++ source ∷ [])
 start_offered seen source n old new within offers before =

@@ -250,7 +250,7 @@ takes_one links n limit old mid new cost vertex from within open_is settles rela
 
     going : (sources : List ℕ) (before : List Offer) → IsPermutation before (offer_of cost vertex from ∷ heap_items old.queue) → All (λ offer. cost ≤ offer.0.0) before → IsGoing links n sources limit old before → IsGoing links n sources limit new (heap_items new.queue)
     going sources before moves least gone = record {
-      kept = relaxes.search sources (length old.settled.items) one
+      kept = relaxes.keeps sources (length old.settled.items) one
           (ap (λ p. place_of p vertex) settles.places ∙ placed_here links n sources limit old.best.items old.places.items old.settled.items before (heap_items old.queue) cost vertex from moves gone.kept least gone.spread open_is one refl settles.few)
           (ap (λ ss. slice_get ss (length old.settled.items)) settles.settled ∙ one_here links n sources limit old.best.items old.places.items old.settled.items before (heap_items old.queue) cost vertex from moves gone.kept least gone.spread open_is one refl settles.few)
           refl refl

@@ -16,7 +16,7 @@ offer_cmp x y = ordering_then (nat_cmp y.0.0 x.0.0) (ordering_then (nat_cmp y.0.
 
 -- the offers wait in the order of a heap
 abbrev pub IsInOrder : Search → Type 0
-IsInOrder search = IsHeap offer_cmp (heap_items search.queue)
+IsInOrder state = IsHeap offer_cmp (heap_items state.queue)
 
 -- an offer, as it waits
 abbrev pub offer_of : ℕ → ℕ → ℕ → Offer
@@ -42,7 +42,7 @@ pub record HasFollowed (links : List Link) (n limit vertex cost : ℕ) (halves :
   pub offered : All (λ half. (limit < cost + half.cost) ⊎ IsOffered new.best.items half.to (cost + half.cost)) halves
   pub length : heap_len new.queue ≤ heap_len old.queue + length halves
   pub order : IsInOrder old → IsInOrder new
-  pub search : (sources : List ℕ) (place : ℕ) (s : Settled) → place_of old.places.items vertex ≡ Some place → slice_get old.settled.items place ≡ Some s → s.vertex ≡ vertex → s.cost ≡ cost
+  pub keeps : (sources : List ℕ) (place : ℕ) (s : Settled) → place_of old.places.items vertex ≡ Some place → slice_get old.settled.items place ≡ Some s → s.vertex ≡ vertex → s.cost ≡ cost
       → IsSearch links n sources limit old.best.items old.places.items old.settled.items (heap_items old.queue) → IsSearch links n sources limit new.best.items new.places.items new.settled.items (heap_items new.queue)
 
 -- all that is linked with a settled vertex has been offered what it costs by there
@@ -53,7 +53,7 @@ pub record Relaxes (links : List Link) (n limit vertex cost : ℕ) (old new : Se
   pub relaxed : (w d : ℕ) → link links vertex w ≡ Some d → (limit < cost + d) ⊎ IsOffered new.best.items w (cost + d)
   pub length : heap_len new.queue < heap_len old.queue + 2 ^ 64
   pub order : IsInOrder old → IsInOrder new
-  pub search : (sources : List ℕ) (place : ℕ) (s : Settled) → place_of old.places.items vertex ≡ Some place → slice_get old.settled.items place ≡ Some s → s.vertex ≡ vertex → s.cost ≡ cost
+  pub keeps : (sources : List ℕ) (place : ℕ) (s : Settled) → place_of old.places.items vertex ≡ Some place → slice_get old.settled.items place ≡ Some s → s.vertex ≡ vertex → s.cost ≡ cost
       → IsSearch links n sources limit old.best.items old.places.items old.settled.items (heap_items old.queue) → IsSearch links n sources limit new.best.items new.places.items new.settled.items (heap_items new.queue)
 
 -- a vertex is settled
@@ -65,9 +65,9 @@ pub record Settles (old new : Search) (vertex cost from : ℕ) : Type 0 where
   pub settled : new.settled.items ≡ old.settled.items ++ record { vertex = vertex; cost = cost; before = unwrap_or (place_of old.places.items from) (2 ^ 64 - 1) } ∷ []
 
 -- what holds of a search between two offers
-pub record IsGoing (links : List Link) (n : ℕ) (sources : List ℕ) (limit : ℕ) (search : Search) (queue : List Offer) : Type 0 where
-  pub kept : IsSearch links n sources limit search.best.items search.places.items search.settled.items queue
-  pub spread : IsSpread links sources limit search.best.items search.settled.items (length search.settled.items)
+pub record IsGoing (links : List Link) (n : ℕ) (sources : List ℕ) (limit : ℕ) (state : Search) (queue : List Offer) : Type 0 where
+  pub kept : IsSearch links n sources limit state.best.items state.places.items state.settled.items queue
+  pub spread : IsSpread links sources limit state.best.items state.settled.items (length state.settled.items)
 
 -- the cheapest of the offers that wait is taken, and its vertex settled if it wasn't
 pub record Takes (links : List Link) (n limit : ℕ) (old new : Search) (cost vertex from : ℕ) : Type 0 where

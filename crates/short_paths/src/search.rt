@@ -26,7 +26,7 @@ impl Search {
     // Nothing is settled, and each source is offered to be reached at no cost.
     pub fn start(alloc: Global, vertices: u32, sources: &[u32]) -> Result<Search, AllocError>
         requires { All (IsVertex vertices) sources.now }
-        ensures going { IfOk result (λ search. (links : List Link) (limit : ℕ) → IsGoing links vertices sources.now limit search (heap_items search.queue)) }
+        ensures going { IfOk result (λ made. (links : List Link) (limit : ℕ) → IsGoing links vertices sources.now limit made (heap_items made.queue)) }
         ensures order { IfOk result IsInOrder }
     {
         let mut search = Search::new(alloc, vertices)?;
@@ -38,10 +38,10 @@ impl Search {
 
     // Nothing is settled, and nothing offered.
     fn new(alloc: Global, vertices: u32) -> Result<Search, AllocError>
-        ensures best { IfOk result (λ search. search.best.items ≡ replicate (vertices + 1) None) }
-        ensures places { IfOk result (λ search. search.places.items ≡ replicate (vertices + 1) None) }
-        ensures settled { IfOk result (λ search. search.settled.items ≡ []) }
-        ensures queue { IfOk result (λ search. heap_items search.queue ≡ []) }
+        ensures best { IfOk result (λ made. made.best.items ≡ replicate (vertices + 1) None) }
+        ensures places { IfOk result (λ made. made.places.items ≡ replicate (vertices + 1) None) }
+        ensures settled { IfOk result (λ made. made.settled.items ≡ []) }
+        ensures queue { IfOk result (λ made. heap_items made.queue ≡ []) }
         ensures order { IfOk result IsInOrder }
     {
         Ok(Search {
