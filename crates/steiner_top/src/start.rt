@@ -7,7 +7,7 @@ ghost use Rattle.steiner_top.specs.Start.{IsStart};
 use graph_store::Store;
 use st_model::{Instance, Tree, lone_starts_miss_the_rest};
 use std::alloc::{AllocError, Global};
-use tree_heuristic::{all_trees, first_tree, wall};
+use tree_heuristic::{all_trees, first_tree, prune, wall};
 
 /// Where a search starts from, or why there is nothing to search for.
 #[derive(Debug, Drop)]
@@ -34,8 +34,12 @@ fn grow(alloc: Global, instance: &Instance) -> Result<Start, AllocError>
 {
     lone_starts_miss_the_rest();
     let store = Store::of(alloc, instance)?;
-    match first_tree(alloc, &store, &all_trees(alloc))? {
-        Some(tree) => Ok(Start::Tree(tree)),
+    let branch = all_trees(alloc);
+    match first_tree(alloc, &store, &branch)? {
+        Some(tree) => {
+            let pruned = prune(alloc, instance, &branch, tree)?;
+            Ok(Start::Tree(pruned))
+        }
         None => unreachable!(),
     }
 }

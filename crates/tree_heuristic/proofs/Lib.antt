@@ -2,3 +2,6 @@ pub mod Spreads
 pub mod Settled
 pub mod Found
 pub mod Members
+pub mod Cutting
+pub mod Trimming
+pub mod Leafless

@@ -1,2 +1,4 @@
 pub mod Reaching
 pub mod Spreading
+pub mod Leaves
+pub mod Keeping

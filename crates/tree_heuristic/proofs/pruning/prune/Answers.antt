@@ -1,0 +1,26 @@
+use Rattle.std.proofs.Common.{◌≡◌, ℕ, ◌+◌, ◌<◌, sym, ◌∙◌, ap, subst, arith}
+use Rattle.st_model.specs.declared.tree.Tree.{Tree}
+use Rattle.st_model.specs.Branch.{Belongs}
+use Rattle.st_model.specs.Lists.{has}
+use Rattle.tree_heuristic.specs.Keeping.{tree_of}
+use Rattle.tree_heuristic.specs.Leaves.{NoLeafToSpare}
+use Rattle.tree_heuristic.proofs.Cutting.{pruned_twice}
+use Rattle.tree_heuristic.proofs.Leafless.{no_leaf_to_spare, pruned_belongs}
+use Rattle.tree_heuristic.proofs.pruning.prune.Goals as goal
+
+pub returns-clause-belongs : goal.returns-clause-belongs
+returns-clause-belongs c =
+    let I = c.args.instance.now in
+    let B = c.args.branch.now in
+    let inside = c.in_ok-inside.inside.members in
+    let same : (v : ℕ) → v < I.n + 1 → has inside v ≡ has B.inside v = λ v low. c.in_ok-inside.ensures.members v (omega (arith, c.vertices.ensures.count, low)) ∙ ap (λ l. has l v) c.as_slice.ensures in
+    let pruned = pruned_twice I inside c.args.tree (tree_of c.in_ok-kept.kept) (tree_of c.trim.new.self) c.in_ok-kept.ensures.pruned c.trim.ensures.pruned in
+    subst (λ (t : Tree). Belongs B t) (sym c.into_tree.ensures) (pruned_belongs I B inside c.args.tree (tree_of c.trim.new.self) c.requires.branch same c.requires.belongs pruned)
+
+pub returns-clause-leaves : goal.returns-clause-leaves
+returns-clause-leaves c =
+    let I = c.args.instance.now in
+    let B = c.args.branch.now in
+    let inside = c.in_ok-inside.inside.members in
+    let same : (v : ℕ) → v < I.n + 1 → has inside v ≡ has B.inside v = λ v low. c.in_ok-inside.ensures.members v (omega (arith, c.vertices.ensures.count, low)) ∙ ap (λ l. has l v) c.as_slice.ensures in
+    subst (λ (t : Tree). NoLeafToSpare I B t) (sym c.into_tree.ensures) (no_leaf_to_spare I B inside (tree_of c.trim.new.self) c.in_ok-kept.ensures.instance same c.trim.ensures.pruned.arborescence c.trim.ensures.worth c.trim.ensures.start)

@@ -1,0 +1,32 @@
+ghost use Rattle.std.specs.Prelude.{◌≡◌, ◌≤◌, IfOk};
+ghost use Rattle.st_model.specs.Arborescence.{IsTree, cost};
+ghost use Rattle.st_model.specs.Branch.{Belongs, IsBranch};
+ghost use Rattle.tree_heuristic.specs.Leaves.{NoLeafToSpare};
+
+use crate::kept::Kept;
+use st_model::{Branch, Instance, Tree, VertexSet};
+use std::alloc::{AllocError, Global};
+
+/// A tree of the branch that costs no more than the one that is given, and of which no leaf that
+/// is neither required nor inside pays less than its link costs. It takes a time linear in the
+/// vertices.
+pub fn prune(
+    alloc: Global,
+    instance: &Instance,
+    branch: &Branch,
+    tree: Tree,
+) -> Result<Tree, AllocError>
+    requires branch { IsBranch instance.now branch.now }
+    requires tree { IsTree instance.now tree }
+    requires belongs { Belongs branch.now tree }
+    ensures tree { IfOk result (IsTree instance.now) }
+    ensures belongs { IfOk result (Belongs branch.now) }
+    ensures cost { IfOk result (λ new. cost instance.now new ≤ cost instance.now tree) }
+    ensures leaves { IfOk result (NoLeafToSpare instance.now branch.now) }
+{
+    let count = instance.vertices() as usize + 1;
+    let inside = VertexSet::of(alloc, count, branch.inside.as_slice())?;
+    let mut kept = Kept::of(alloc, instance, &inside, tree)?;
+    kept.trim(instance, &inside);
+    Ok(kept.into_tree())
+}
