@@ -116,3 +116,7 @@ first_start I g B found t is law same inside outside tree lone here =
     let lone' : NoneIsCertain g.network B → (s : Tree) → s.arcs ≡ [] → Belongs B s → ReachesPresent g s → cost g.network t ≤ cost g.network s = subst (λ o. IfSome o (λ t. NoneIsCertain g.network B → (s : Tree) → s.arcs ≡ [] → Belongs B s → ReachesPresent g s → cost g.network t ≤ cost g.network s)) here lone in
     let lone'' : NoneIsCertain I all_trees → (s : Tree) → s.arcs ≡ [] → Belongs all_trees s → ReachesPresent (whole I) s → cost I t ≤ cost I s = subst (λ (C : Branch). NoneIsCertain I C → (s : Tree) → s.arcs ≡ [] → Belongs C s → ReachesPresent (whole I) s → cost I t ≤ cost I s) (all_of B inside outside) (subst (λ (h : Graph). NoneIsCertain h.network B → (s : Tree) → s.arcs ≡ [] → Belongs B s → ReachesPresent h s → cost h.network t ≤ cost h.network s) same lone') in
     (subst (λ (h : Graph). IsTree h.network t) same tree', cheap_start I t is law lone'')
+
+-- and so is one that costs no more
+pub pruned_start : (I : Network) (t new : Tree) → IsTree I new → cost I new ≤ cost I t → IsTree I t × (IsNobodyRequired I → cost I t ≤ sum_to (pays I) I.n) → IsTree I new × (IsNobodyRequired I → cost I new ≤ sum_to (pays I) I.n)
+pruned_start I t new is less start = (is, λ nobody. omega (arith, less, start.1 nobody))

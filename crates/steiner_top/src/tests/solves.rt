@@ -104,7 +104,7 @@ fn tells_that_there_is_no_tree(rt: HostRuntime) -> Result<(), Fail> {
 #[test]
 fn proves_nothing_without_a_budget(rt: HostRuntime) -> Result<(), Fail> {
     let (dual, primal) = numbers_of(rt.alloc(), TRIANGLE, 0)?.ok_or("no tree")?;
-    assert!(rt; dual == 0 && 6 <= primal, "{dual} {primal}");
+    assert!(rt; dual == 0 && 6 <= primal && primal <= 8, "{dual} {primal}");
     Ok(())
 }
 
