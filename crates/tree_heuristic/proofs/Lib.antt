@@ -5,3 +5,4 @@ pub mod Members
 pub mod Cutting
 pub mod Trimming
 pub mod Leafless
+pub mod Waiting

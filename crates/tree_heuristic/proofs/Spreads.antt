@@ -144,3 +144,9 @@ gone_on_more g out old mid new halves half tail graph on from linked f = by_case
       where
         last : (has mid.reached.members half.to || (half.to == half.to)) ≡ true
         last = let e : (half.to == half.to) ≡ true = grind (arith, nat_tests) in rw (e, or_comm (has mid.reached.members half.to) true) refl
+
+-- the same where the halves are not counted
+pub gone_on_also : (g : Graph) (out : List ℕ) (old mid new : Spread) (half : Half) (tail : ℕ) → IsGraph g → HasGoneOn g out old [] mid → IsTrue (has old.reached.members tail) → IsSome (link g.network.links tail half.to) → Follows out mid tail half.to new → HasGoneOn g out old [] new
+gone_on_also g out old mid new half tail graph on from linked f =
+    let more = gone_on_more g out old mid new [] half tail graph on from linked f in
+    record { spread = more.spread; start = more.start; keeps = more.keeps; heads = All-nil (λ (h : Half). IsFalse (has out h.to) → IsTrue (has new.reached.members h.to)) }

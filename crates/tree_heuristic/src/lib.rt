@@ -7,6 +7,7 @@
 
 mod certain;
 mod first;
+mod growing;
 mod kept;
 mod listing;
 mod pruning;

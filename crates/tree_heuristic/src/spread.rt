@@ -1,9 +1,10 @@
-ghost use Rattle.std.specs.Prelude.{◌≡◌, ◌+◌, ◌<◌, [], ◌∷◌, ◌++◌, IfOk, OnOk, IsTrue, IsFalse, if◌then◌else◌, ◌||◌};
+ghost use Rattle.std.specs.Prelude.{◌≡◌, ◌+◌, ◌<◌, [], ◌∷◌, ◌++◌, length, take, IfOk, OnOk, IsTrue, IsFalse, if◌then◌else◌, ◌||◌};
 ghost use Rattle.st_model.specs.Lists.{has};
 ghost use Rattle.st_model.specs.Network.{IsVertex};
 ghost use Rattle.graph_store.specs.Graph.{IsGraph, is_in};
 ghost use Rattle.tree_heuristic.specs.Spreading.{IsSpread, IsClosed, Follows, HasFollowed};
 
+use crate::growing::Growing;
 use graph_store::Store;
 use st_model::{Listed, Tree, VertexSet};
 use std::alloc::{AllocError, Global};
@@ -41,6 +42,31 @@ impl Spread {
         Ok(spread)
     }
 
+    // The arcs of a tree that has been grown, from a start and as far as they lead past no vertex
+    // outside; breadth first.
+    pub fn along(
+        alloc: Global,
+        store: &Store,
+        outside: &VertexSet,
+        growing: &Growing,
+        start: u32,
+    ) -> Result<Spread, AllocError>
+        requires present { IsTrue (is_in store.now start) }
+        requires inside { IsFalse (has outside.now.members start) }
+        requires vertex { IsVertex store.now.network.n start }
+        ensures spread { IfOk result (IsSpread store.now outside.now.members) }
+        ensures start { IfOk result (λ spread. spread.start ≡ start) }
+        ensures graph { IfOk result (λ _. IsGraph store.now) }
+    {
+        let mut spread = Spread::at(alloc, store.vertices(), start)?;
+        let mut next = 0;
+        while let Some(tail) = spread.reached.member(next) {
+            spread.reach_along(store, outside, growing, tail)?;
+            next += 1;
+        }
+        Ok(spread)
+    }
+
     // The start alone.
     fn at(alloc: Global, vertices: u32, start: u32) -> Result<Spread, AllocError>
         requires { IsVertex vertices start }
@@ -67,6 +93,29 @@ impl Spread {
     {
         for half in store.neighbours(tail) {
             self.follow(outside, tail, half.to)?;
+        }
+        Ok(())
+    }
+
+    // Reaches from a tail each vertex that a tree which has been grown takes a link to.
+    fn reach_along(
+        &mut self,
+        store: &Store,
+        outside: &VertexSet,
+        growing: &Growing,
+        tail: u32,
+    ) -> Result<(), AllocError>
+        requires spread { IsSpread store.now outside.now.members self.old }
+        requires tail { IsTrue (has self.old.reached.members tail) }
+        requires vertex { IsVertex store.now.network.n tail }
+        ensures spread { OnOk result (IsSpread store.now outside.now.members self.new) }
+        ensures start { OnOk result (self.new.start ≡ self.old.start) }
+        ensures keeps { OnOk result (take (length self.old.reached.members) self.new.reached.members ≡ self.old.reached.members) }
+    {
+        for half in store.neighbours(tail) {
+            if growing.leads(tail, half.to) {
+                self.follow(outside, tail, half.to)?;
+            }
         }
         Ok(())
     }

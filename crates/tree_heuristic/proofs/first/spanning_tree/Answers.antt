@@ -2,7 +2,7 @@ use Rattle.std.proofs.Common.{◌≡◌, ℕ, sym, ◌∙◌}
 use Rattle.st_model.specs.Arborescence.{reached}
 use Rattle.st_model.specs.Lists.{has}
 use Rattle.tree_heuristic.proofs.Found.{open_belongs, spread_reached, no_tree_across, start_in}
-use Rattle.tree_heuristic.proofs.first.joined_tree.Goals as goal
+use Rattle.tree_heuristic.proofs.first.spanning_tree.Goals as goal
 
 pub returns-in-Some-clause-none : goal.returns-in-Some-clause-none
 returns-in-Some-clause-none c t tree belongs present =

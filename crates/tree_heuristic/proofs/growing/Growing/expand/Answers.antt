@@ -1,0 +1,19 @@
+use Rattle.std.proofs.Common.{get_or, arith}
+use Rattle.graph_store.specs.declared.half.Half.{Half}
+use Rattle.tree_heuristic.proofs.growing.Growing.expand.Goals.{then-not-contains+in_ok-offer, else-not-contains}
+use Rattle.tree_heuristic.proofs.growing.Growing.expand.Goals as goal
+
+nothing : Half
+nothing = record { to = 0; cost = 0 }
+
+pub loop-half-preserved : goal.loop-half-preserved
+unfolding nothing
+loop-half-preserved c =
+    let halves = c.neighbours-half-items.result.now in
+    let n = c.args.store.now.network.n in
+    let vertex = (c.neighbours-half-items.ensures.halves.others c.loop-half.half-index nothing c.loop-half-test.true).0 in
+    let before = c.loop-half.invariant.1 in
+    elim c.if-not-contains.branch [
+      | then-not-contains+in_ok-offer w ↦ rw w.self-is (w.in_ok-offer.ensures.growing n vertex c.requires.vertex c.loop-half.invariant.0, (let fewer = w.in_ok-offer.ensures.fewer in omega arith))
+      | else-not-contains w ↦ rw w.self-is c.loop-half.invariant
+    ]
