@@ -12,6 +12,8 @@ mod kept;
 mod listing;
 mod pruning;
 mod spread;
+#[cfg(test)]
+mod tests;
 mod walls;
 
 pub use first::first_tree;
