@@ -1,10 +1,7 @@
 -- What a search found is an outcome with its certificate, and so is a wall.
-use Rattle.std.proofs.Common.{◌≡◌, ◌^◌, ◌≤◌, ◌<◌, ℕ, suc, List, [], ◌∷◌, length, refl, sym, subst, arith}
-use Rattle.std.specs.Prelude.{IsTrue, All}
+use Rattle.std.proofs.Common.{◌≡◌, ℕ, List, refl, sym, subst}
 use Rattle.st_model.specs.declared.tree.Tree.{Tree}
-use Rattle.st_model.specs.Lists.{has}
-use Rattle.st_model.specs.Network.{Network, IsInstance, IsVertex}
-use Rattle.st_model.specs.Branch.{IsVertexSet}
+use Rattle.st_model.specs.Network.{Network}
 use Rattle.st_model.specs.Wall.{IsWall}
 use Rattle.log_format.specs.declared.log.Log.{Log}
 use Rattle.log_format.specs.declared.log.Claim.TheVariants.{Found, NoTree}

@@ -1,20 +1,15 @@
 -- Where nothing fails, the words and the texts decide how a run ends.
-use Rattle.std.proofs.Common.{◌≡◌, ◌≢◌, ◌⊎◌, ◌↔◌, inl, inr, ℕ, ◌^◌, ◌<◌, ◌≤◌, List, [], ◌∷◌, length, Result, Ok, Err, Option, Some, None, refl, sym, subst, ap, ◌∙◌, arith}
+use Rattle.std.proofs.Common.{◌≡◌, ◌≢◌, ◌⊎◌, ◌↔◌, inl, inr, ℕ, ◌^◌, ◌<◌, ◌≤◌, List, length, Result, Ok, Err, Option, Some, None, refl, sym, subst, ap, ◌∙◌, arith}
 use Rattle.std.specs.Prelude.{IfSome}
 use Rattle.std.specs.Io.KnownBytes.{append_known}
 use Rattle.st_edge.specs.Faults.{Rose}
 use Rattle.st_model.specs.declared.tree.Tree.{Tree}
-use Rattle.st_model.specs.Network.{Network}
 use Rattle.st_model.specs.Arborescence.{IsTree}
-use Rattle.stp_reader.specs.declared.reason.Reason.{Reason}
-use Rattle.stp_reader.specs.Reads.{Reads, Refused}
 use Rattle.stp_reader.specs.Laws.{RefusedExactly}
-use Rattle.log_format.specs.declared.log.Log.{Log}
 use Rattle.cert_checker.specs.declared.fault.CheckFault.{CheckFault}
 use Rattle.cert_checker.specs.declared.fault.CheckFault.TheVariants as fault
 use Rattle.cert_checker.specs.declared.verdict.Verdict.{Verdict}
 use Rattle.cert_checker.specs.declared.verdict.Verdict.TheVariants as verdict
-use Rattle.cert_checker.specs.Checking.{IsAnswer}
 use Rattle.command_line.specs.Words.{Command, SolveWords, CheckWords, solve, check}
 use Rattle.steiner_top.specs.declared.outcome.Outcome.{Outcome}
 use Rattle.steiner_top.specs.declared.outcome.Outcome.TheVariants.{Found, NoTree}
@@ -23,8 +18,8 @@ use Rattle.steiner_top.specs.declared.status.Status.TheVariants.{Optimal, Usage,
 use Rattle.steiner_top.specs.Outcome.{IsFound}
 use Rattle.steiner_top.specs.Answer.{SolveAnswer, CheckAnswer, IsLineOf}
 use Rattle.steiner_top.specs.Causes.{Texts, EndsWith, IsLoaded, IsSaved}
-use Rattle.steiner_top.specs.Headline.{Headline, NothingFails, SolvesFile, ChecksLog, IsSolved}
-use Rattle.steiner_top.specs.Output.{status_of_verdict, verdict_line}
+use Rattle.steiner_top.specs.Headline.{Headline, NothingFails, SolvesFile, ChecksLog}
+use Rattle.steiner_top.specs.Output.{status_of_verdict}
 
 -- how a file that was loaded whole is answered decides the status
 answered_file : (w : SolveWords) (bytes : List ℕ) (status : Status) (outcome : Option Outcome) (texts : Texts) (taken now : Option (List ℕ)) (sent : List ℕ)

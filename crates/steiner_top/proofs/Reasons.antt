@@ -1,10 +1,9 @@
 -- How answers follow from what was found, and stops from loads that failed.
-use Rattle.std.proofs.Common.{◌≡◌, ◌≢◌, ◌⊎◌, inl, inr, ℕ, List, [], ◌∷◌, Result, Ok, Err, Option, None, refl, sym, subst, ap, ap₂, ◌∙◌}
-use Rattle.std.specs.Prelude.{IfOk, IfErr}
+use Rattle.std.proofs.Common.{◌≡◌, ◌≢◌, ◌⊎◌, inl, inr, ℕ, List, [], ◌∷◌, Result, Ok, Err, Option, None, refl, subst, ap, ap₂, ◌∙◌}
+use Rattle.std.specs.Prelude.{IfOk}
 use Rattle.st_edge.specs.Shelf.{SameTexts}
 use Rattle.st_model.specs.Network.{Network}
 use Rattle.stp_reader.specs.declared.reason.Reason.{Reason}
-use Rattle.stp_reader.specs.declared.fault.StpFault.{StpFault}
 use Rattle.stp_reader.specs.Reads.{Reads, Refused}
 use Rattle.stp_reader.specs.Laws.{RefusedExactly}
 use Rattle.log_format.specs.declared.kind.Kind.{Kind}

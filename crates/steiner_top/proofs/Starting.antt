@@ -1,15 +1,15 @@
 -- The first tree of an instance that has one.
-use Rattle.std.proofs.Common.{◌≡◌, ◌≤◌, ◌+◌, ◌-◌, eqb, ℕ, Bool, true, false, List, [], ◌∷◌, length, Option, Some, None, refl, sym, subst, ap₂, arith, cond, replicate, get_or}
+use Rattle.std.proofs.Common.{◌≡◌, ◌≤◌, ◌-◌, eqb, ℕ, Bool, true, false, List, [], ◌∷◌, length, Option, Some, None, refl, sym, subst, ap₂, arith, replicate}
 use Rattle.st_model.specs.declared.branch.Branch.{Branch}
-use Rattle.std.specs.Prelude.{All, IfSome, IfNone, IsTrue, IsFalse, IsSome, OnSome, ◌==◌, slice_index_or}
+use Rattle.std.specs.Prelude.{All, IfSome, IfNone, IsTrue, IsSome, OnSome, ◌==◌}
 use Rattle.std.proofs.lemmas.Bool.Decides.{nat_tests}
 use Rattle.std.proofs.lemmas.Bool.{eqb-true}
 use Rattle.std.proofs.lemmas.List.{get_or-replicate}
 use Rattle.st_model.specs.declared.tree.Tree.{Tree}
 use Rattle.st_model.specs.Lists.{has, sum_to}
-use Rattle.st_model.specs.Network.{Network, IsInstance, IsLinkBetween, IsVertex, link, pays, is_required}
+use Rattle.st_model.specs.Network.{Network, IsInstance, IsLinkBetween, IsVertex, link, pays}
 use Rattle.st_model.specs.Arborescence.{Grows, IsArborescence, IsTree, cost, reached, reached_from}
-use Rattle.st_model.specs.Branch.{Belongs, IsVertexSet, is_certain}
+use Rattle.st_model.specs.Branch.{Belongs, IsVertexSet}
 use Rattle.st_model.specs.Laws.{LoneStartsMissTheRest}
 use Rattle.st_model.specs.Wall.{IsWall}
 use Rattle.st_model.proofs.Links.{linked_in_range}

@@ -1,6 +1,5 @@
 -- Why a run ends as it does, and what it has to send then.
 use Rattle.std.specs.Prelude.{◌≡◌, ◌≢◌, ◌⊎◌, ℕ, ◌^◌, ◌<◌, ◌≤◌, List, [], ◌∷◌, length, Option, Some, None, IfSome}
-use Rattle.std.specs.Io.KnownBytes.{append_known}
 use Rattle.st_edge.specs.declared.shelf.LoadFault.{LoadFault}
 use Rattle.st_edge.specs.declared.shelf.LoadFault.TheVariants as load
 use Rattle.st_edge.specs.declared.shelf.SaveFault.{SaveFault}

@@ -1,5 +1,5 @@
 -- Where a search starts. Helpers' clauses cite this, and no public one.
-use Rattle.std.specs.Prelude.{ℕ, ◌≤◌}
+use Rattle.std.specs.Prelude.{◌≤◌}
 use Rattle.st_model.specs.Lists.{sum_to}
 use Rattle.st_model.specs.Network.{Network, pays}
 use Rattle.st_model.specs.Arborescence.{IsTree, cost}

@@ -1,20 +1,18 @@
 -- Leaves that are cut off a tree, and what is left of it.
 use Rattle.std.proofs.Common.{◌≡◌, ℕ, ◌+◌, ◌<◌, ◌≤◌, Bool, true, false, not, ◌&&◌, ◌||◌, inl, inr, List, [], ◌∷◌, ◌++◌, reverse, IsSome, refl, sym, ap, subst, ◌∙◌, append_assoc, arith}
-use Rattle.std.specs.Prelude.{◌==◌, IsTrue, IsFalse, filter, nat_lt}
-use Rattle.std.specs.List.{list_any}
-use Rattle.std.proofs.lemmas.Bool.{or_cases, or_parts, and_cases, eqb-true, ne_eqb, eq-eqb, ltb-true, ltb-false, and_parts, false≢true}
-use Rattle.std.proofs.lemmas.Bool.Decides.{nat_tests, eqb_tells}
+use Rattle.std.specs.Prelude.{◌==◌, IsTrue, IsFalse, nat_lt}
+use Rattle.std.proofs.lemmas.Bool.{or_cases, or_parts, eqb-true, ne_eqb, eq-eqb, ltb-true, and_parts, false≢true}
 use Rattle.std.proofs.lemmas.List.{reverse-append}
 use Rattle.st_model.specs.declared.tree.Tree.{Tree}
-use Rattle.st_model.specs.Arborescence.{Grows, IsArborescence, arc_cost, cost, missed, reached, reached_from}
-use Rattle.st_model.specs.Lists.{has, total, sum_to}
+use Rattle.st_model.specs.Arborescence.{Grows, IsArborescence, arc_cost, reached, reached_from}
+use Rattle.st_model.specs.Lists.{has, total}
 use Rattle.st_model.specs.Network.{Network, IsInstance, IsVertex, link, pays}
 use Rattle.st_model.proofs.Costs.{missed_reached}
 use Rattle.st_model.proofs.RegrowLaws.{missed-same}
 use Rattle.st_model.proofs.Sums.{total-append}
 use Rattle.st_model.proofs.ThinGrowth.{linked-vertices}
 use Rattle.tree_heuristic.specs.declared.kept.Kept.{Kept}
-use Rattle.tree_heuristic.specs.Keeping.{AreWorth, IsJudging, IsPruned, IsStartWorth, IsTrimming, is_cut, is_fork, is_spare, is_tail, must, tree_of}
+use Rattle.tree_heuristic.specs.Keeping.{AreWorth, IsJudging, IsPruned, is_cut, is_fork, is_spare, is_tail, must, tree_of}
 
 pub clash : {b : Bool} → b ≡ true → b ≡ false → ⊥
 clash t f = false≢true (sym f ∙ t)

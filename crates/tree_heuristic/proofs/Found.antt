@@ -1,6 +1,6 @@
 -- What is known of a tree where links lead no further.
-use Rattle.std.proofs.Common.{◌≡◌, ℕ, ◌+◌, ◌<◌, ◌≤◌, Bool, true, false, not, ◌||◌, inl, inr, List, [], ◌∷◌, ◌++◌, Option, IsSome, refl, sym, ap, subst, ◌∙◌, arith}
-use Rattle.std.specs.Prelude.{◌==◌, All, IsTrue, IsFalse}
+use Rattle.std.proofs.Common.{◌≡◌, ℕ, ◌≤◌, Bool, true, false, ◌||◌, inl, inr, List, [], ◌∷◌, Option, IsSome, refl, sym, ap, subst, ◌∙◌, arith}
+use Rattle.std.specs.Prelude.{◌==◌, IsTrue, IsFalse}
 use Rattle.std.proofs.Math.Bool.{or_comm}
 use Rattle.std.proofs.lemmas.Bool.{or_cases, false≢true}
 use Rattle.std.proofs.lemmas.Bool.Decides.{eqb_tells}
@@ -10,14 +10,13 @@ use Rattle.st_model.specs.declared.tree.Tree.{Tree}
 use Rattle.st_model.specs.Arborescence.{Grows, IsArborescence, IsTree, reached, reached_from, cost}
 use Rattle.st_model.specs.Branch.{Belongs, IsBranch, IsVertexSet, is_certain}
 use Rattle.st_model.specs.Laws.{LoneStartsMissTheRest}
-use Rattle.st_model.specs.Lists.{has, sum_to}
+use Rattle.st_model.specs.Lists.{has}
 use Rattle.st_model.specs.Network.{Network, IsInstance, IsVertex, link, is_required, pays}
 use Rattle.st_model.specs.Wall.{IsWall}
 use Rattle.st_model.proofs.Distinct.{link-comm, has-cons_head}
 use Rattle.st_model.proofs.Marked.{at_member}
-use Rattle.st_model.proofs.RegrowLaws.{tree-vertex}
 use Rattle.st_model.proofs.ThinGrowth.{has-reached_from, linked-vertices}
-use Rattle.graph_store.specs.Graph.{Graph, IsGraph, is_in}
+use Rattle.graph_store.specs.Graph.{Graph, IsGraph}
 use Rattle.graph_store.proofs.PutLinks.{in_range}
 use Rattle.tree_heuristic.specs.declared.spread.Spread.{Spread}
 use Rattle.tree_heuristic.specs.Reaching.{NoneIsCertain, ReachesPresent}

@@ -1,7 +1,7 @@
 -- Where each head and the start are worth their arcs, no leaf is to spare.
-use Rattle.std.proofs.Common.{◌≡◌, ℕ, ◌+◌, ◌<◌, ◌≤◌, Bool, true, false, not, cond, ◌&&◌, ◌||◌, inl, inr, List, [], ◌∷◌, refl, sym, ap, subst, ◌∙◌, arith}
-use Rattle.std.specs.Prelude.{◌==◌, IsTrue, IsFalse, filter, nat_lt}
-use Rattle.std.proofs.lemmas.Bool.{or_cases, or_parts, eqb-true, eq-eqb, ltb-false, false≢true}
+use Rattle.std.proofs.Common.{◌≡◌, ℕ, ◌+◌, ◌<◌, ◌≤◌, Bool, true, false, cond, ◌||◌, inl, inr, List, [], ◌∷◌, refl, sym, ap, subst, ◌∙◌, arith}
+use Rattle.std.specs.Prelude.{◌==◌, IsTrue, IsFalse}
+use Rattle.std.proofs.lemmas.Bool.{or_cases, or_parts, eqb-true, eq-eqb, ltb-false}
 use Rattle.std.proofs.lemmas.List.Elements.{recursion_from_All}
 use Rattle.st_model.specs.declared.branch.Branch.{Branch}
 use Rattle.st_model.specs.declared.tree.Tree.{Tree}
@@ -10,7 +10,6 @@ use Rattle.st_model.specs.Branch.{Belongs, IsBranch, is_certain}
 use Rattle.st_model.specs.Lists.{has}
 use Rattle.st_model.specs.Network.{Network, IsInstance, IsVertex, is_required, pays}
 use Rattle.st_model.proofs.Marked.{at_member}
-use Rattle.st_model.proofs.RegrowLaws.{tree-vertex}
 use Rattle.st_model.proofs.ThinGrowth.{linked-vertices}
 use Rattle.tree_heuristic.specs.Keeping.{AreWorth, IsPruned, IsStartWorth, is_spare, is_tail, must}
 use Rattle.tree_heuristic.specs.Leaves.{NoLeafToSpare, arcs_at, is_end}

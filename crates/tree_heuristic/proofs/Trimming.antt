@@ -1,21 +1,17 @@
 -- A start that is moved on, and the leaves of what is left.
-use Rattle.std.proofs.Common.{◌≡◌, ℕ, ◌+◌, ◌<◌, ◌≤◌, Bool, true, false, not, cond, ◌&&◌, ◌||◌, ◌⊎◌, inl, inr, List, [], ◌∷◌, ◌++◌, length, take, reverse, Option, Some, None, refl, sym, ap, subst, ◌∙◌, arith}
-use Rattle.std.specs.Prelude.{◌==◌, IsTrue, IsFalse, filter, nat_lt, slice_get}
-use Rattle.std.proofs.lemmas.Bool.{or_cases, or_parts, eqb-true, eq-eqb, ltb-false, false≢true}
+use Rattle.std.proofs.Common.{◌≡◌, ℕ, Bool, true, false, ◌&&◌, ◌||◌, ◌⊎◌, inl, inr, List, [], ◌∷◌, ◌++◌, reverse, refl, sym, ap, subst, ◌∙◌, arith}
+use Rattle.std.specs.Prelude.{◌==◌, IsTrue, IsFalse}
+use Rattle.std.proofs.lemmas.Bool.{or_cases, or_parts, eqb-true, eq-eqb, false≢true}
 use Rattle.std.proofs.lemmas.Bool.Decides.{eqb_tells}
 use Rattle.std.proofs.lemmas.List.{reverse-append, reverse-reverse}
-use Rattle.st_model.specs.declared.branch.Branch.{Branch}
 use Rattle.st_model.specs.declared.tree.Tree.{Tree}
-use Rattle.st_model.specs.Arborescence.{Grows, IsArborescence, IsTree, arc_cost, reached, reached_from}
-use Rattle.st_model.specs.Branch.{Belongs, IsBranch, is_certain}
-use Rattle.st_model.specs.Lists.{has, total}
-use Rattle.st_model.specs.Network.{Network, IsInstance, IsVertex, is_required, pays}
+use Rattle.st_model.specs.Arborescence.{Grows, IsArborescence, arc_cost, reached, reached_from}
+use Rattle.st_model.specs.Lists.{has}
+use Rattle.st_model.specs.Network.{Network, IsInstance, IsVertex}
 use Rattle.st_model.proofs.Distinct.{has-cons_head}
-use Rattle.st_model.proofs.RegrowLaws.{tree-vertex}
 use Rattle.st_model.proofs.ThinGrowth.{has-reached_from, linked-vertices}
 use Rattle.tree_heuristic.specs.declared.kept.Kept.{Kept}
-use Rattle.tree_heuristic.specs.Keeping.{AreWorth, IsPruned, IsStartWorth, IsTrimming, is_fork, is_spare, is_tail, must, tree_of}
-use Rattle.tree_heuristic.specs.Leaves.{NoLeafToSpare, arcs_at, is_end}
+use Rattle.tree_heuristic.specs.Keeping.{AreWorth, IsPruned, IsStartWorth, IsTrimming, is_fork, is_spare, is_tail, tree_of}
 use Rattle.tree_heuristic.proofs.Cutting.{Loses, clash, grows_without, or_second, pruned_more, pruned_none, spare_parts, turned}
 
 -- what is a fork is a tail

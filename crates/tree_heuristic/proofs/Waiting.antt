@@ -1,5 +1,5 @@
 -- Offers that wait, and where each path comes from.
-use Rattle.std.proofs.Common.{◌≡◌, ℕ, ◌+◌, ◌<◌, List, [], ◌∷◌, length, get_or, set, replicate, refl, sym, ap, subst, ◌∙◌, length-set, arith}
+use Rattle.std.proofs.Common.{◌≡◌, ℕ, List, [], ◌∷◌, length, get_or, set, replicate, sym, ap, subst, ◌∙◌, length-set, arith}
 use Rattle.std.proofs.lemmas.List.{length-replicate, get_or-replicate}
 use Rattle.std.specs.Prelude.{All, IsPermutation}
 use Rattle.std.specs.declared.cmp.Reverse.{Reverse}

@@ -4,7 +4,7 @@ use Rattle.std.specs.List.{list_any}
 use Rattle.st_model.specs.declared.tree.Tree.{Tree}
 use Rattle.st_model.specs.Arborescence.{IsArborescence, arc_cost, cost, reached, reached_from}
 use Rattle.st_model.specs.Lists.{has}
-use Rattle.st_model.specs.Network.{Network, IsVertex, is_required, pays}
+use Rattle.st_model.specs.Network.{Network, is_required, pays}
 use Rattle.tree_heuristic.specs.declared.kept.Kept.{Kept}
 
 -- v is required or among those inside

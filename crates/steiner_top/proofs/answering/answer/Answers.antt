@@ -1,4 +1,3 @@
-use Rattle.std.proofs.Common.{rules}
 use Rattle.steiner_top.proofs.answering.answer.Goals as goal
 
 pub returns-in-Ok-Solve-clause-unsaved : goal.returns-in-Ok-Solve-clause-unsaved

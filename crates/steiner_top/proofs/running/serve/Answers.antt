@@ -1,4 +1,4 @@
-use Rattle.std.proofs.Common.{rules, ap, Err, map, string_bytes, ◌∙◌}
+use Rattle.std.proofs.Common.{rules, ap, Err, map, string_bytes}
 use Rattle.command_line.specs.Words.{command_of}
 use Rattle.steiner_top.proofs.Reasons.{stop_cut_short}
 use Rattle.steiner_top.proofs.running.serve.Goals as goal

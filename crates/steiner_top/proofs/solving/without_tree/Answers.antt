@@ -1,5 +1,4 @@
-use Rattle.std.proofs.Common.{rules, subst, sym, ◌≡◌, List, ℕ}
-use Rattle.log_format.specs.declared.log.Claim.TheVariants.{NoTree}
+use Rattle.std.proofs.Common.{rules}
 use Rattle.steiner_top.proofs.Certifying.{without_tree}
 use Rattle.steiner_top.proofs.solving.without_tree.Goals as goal
 

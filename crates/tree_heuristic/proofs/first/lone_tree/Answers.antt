@@ -1,4 +1,3 @@
-use Rattle.std.proofs.Common.{refl}
 use Rattle.tree_heuristic.proofs.Found.{alone_belongs, start_open, dearer_alone}
 use Rattle.tree_heuristic.proofs.first.lone_tree.Goals as goal
 

@@ -1,5 +1,4 @@
-use Rattle.std.proofs.Common.{sym, ◌∙◌, subst, ap, List, ℕ, ◌+◌}
-use Rattle.tree_heuristic.specs.Spreading.{AreFirst}
+use Rattle.std.proofs.Common.{sym, ◌∙◌}
 use Rattle.tree_heuristic.proofs.Members.{AreFirst-push, AreFirst-skip}
 use Rattle.tree_heuristic.proofs.listing.ascending.Goals.{then-contains+in_ok-push, else-contains}
 use Rattle.tree_heuristic.proofs.listing.ascending.Goals as goal

@@ -1,4 +1,4 @@
-use Rattle.std.proofs.Common.{◌≡◌, [], ap, refl, subst}
+use Rattle.std.proofs.Common.{[], ap, refl, subst}
 use Rattle.st_model.specs.declared.tree.Tree.{Tree}
 use Rattle.st_model.specs.Arborescence.{IsTree}
 use Rattle.st_model.specs.Network.{Network}

@@ -1,4 +1,4 @@
-use Rattle.std.proofs.Common.{get_or, arith}
+use Rattle.std.proofs.Common.{arith}
 use Rattle.graph_store.specs.declared.half.Half.{Half}
 use Rattle.tree_heuristic.proofs.growing.Growing.expand.Goals.{then-not-contains+in_ok-offer, else-not-contains}
 use Rattle.tree_heuristic.proofs.growing.Growing.expand.Goals as goal

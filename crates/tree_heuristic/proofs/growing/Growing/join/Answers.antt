@@ -1,4 +1,4 @@
-use Rattle.std.proofs.Common.{◌+◌, ◌<◌, length, true, sym, subst, ◌∙◌, length-set, arith}
+use Rattle.std.proofs.Common.{◌<◌, length, true, sym, subst, ◌∙◌, length-set, arith}
 use Rattle.st_model.specs.Network.{IsVertex}
 use Rattle.tree_heuristic.proofs.growing.Growing.join.Goals as goal
 

@@ -1,5 +1,3 @@
-use Rattle.std.proofs.Common.{◌≡◌, ℕ, List, [], ◌∷◌, ◌++◌}
-use Rattle.tree_heuristic.specs.declared.kept.Kept.{Kept}
 use Rattle.tree_heuristic.proofs.Cutting.{Judged, judged, last_vertices}
 use Rattle.tree_heuristic.proofs.kept.Kept.of.Goals as goal
 

@@ -1,6 +1,6 @@
-use Rattle.std.proofs.Common.{refl, sym, subst}
+use Rattle.std.proofs.Common.{refl}
 use Rattle.tree_heuristic.specs.declared.kept.Kept.{Kept}
-use Rattle.tree_heuristic.specs.Keeping.{IsStartWorth, tree_of}
+use Rattle.tree_heuristic.specs.Keeping.{tree_of}
 use Rattle.tree_heuristic.proofs.Trimming.{trimmed, trimmed_end}
 use Rattle.tree_heuristic.proofs.kept.Kept.trim.Goals as goal
 

@@ -1,4 +1,4 @@
-use Rattle.std.proofs.Common.{◌≡◌, ◌+◌, ◌-◌, ◌≤◌, length}
+use Rattle.std.proofs.Common.{◌≡◌, ◌+◌, ◌-◌}
 use Rattle.tree_heuristic.specs.Spreading.{IsSpread}
 use Rattle.tree_heuristic.proofs.spread.Spread.along.Given as goal
 
