@@ -227,14 +227,15 @@ kind_past g B v h past = rw absent refl
         by_case false e = e
 
 -- what is put together is a root with kinds and arcs
-pub built_digraph : (g : Graph) (kinds : List VertexKind) (rows : List (List Arc)) (root : ℕ) → IsGraph g → IsVertex g.network.n root → length kinds ≡ g.network.n + 1 → length rows ≡ g.network.n + 1 → ((v : ℕ) → AreArcsInto g.network.n v (row_of rows v)) → ((u v : ℕ) → left_from (row_of rows v) u ≡ cost_by g kinds u v) → IsDigraph (record { root = root; n = g.network.n; kinds = kinds; arcs = rows })
-built_digraph g kinds rows root h in_range long many arcs costs = record {
+pub built_digraph : (g : Graph) (kinds : List VertexKind) (rows : List (List Arc)) (root : ℕ) → slice_index_or kinds 0 Outside ≡ Outside → IsGraph g → IsVertex g.network.n root → length kinds ≡ g.network.n + 1 → length rows ≡ g.network.n + 1 → ((v : ℕ) → AreArcsInto g.network.n v (row_of rows v)) → ((u v : ℕ) → left_from (row_of rows v) u ≡ cost_by g kinds u v) → IsDigraph (record { root = root; n = g.network.n; kinds = kinds; arcs = rows })
+built_digraph g kinds rows root nobody h in_range long many arcs costs = record {
   few_vertices = h.instance.few_vertices;
   root = in_range;
   kinds = long;
   rows = many;
   arcs = arcs;
   both = λ u v. ap is_some (costs u v ∙ turned u v ∙ sym (costs v u));
+  nobody = nobody;
   outside = λ u v off. costs u v ∙ sym (no_costs g kinds u v (ap is_off off));
 }
   where

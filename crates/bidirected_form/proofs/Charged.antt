@@ -1,16 +1,17 @@
 -- What remains after a charge.
-use Rattle.std.proofs.Common.{◌≡◌, ◌≢◌, ℕ, ◌+◌, ◌-◌, ◌<◌, Bool, true, false, ◌&&◌, ◌||◌, not, eqb, List, [], ◌∷◌, length, get_or, set, set as put, take, map, Option, Some, None, ◌⊎◌, inl, inr, refl, sym, ap, ◌∙◌, subst, arith, get_or-set_same, get_or-set_other}
+use Rattle.std.proofs.Common.{◌≡◌, ◌≢◌, ℕ, ◌+◌, ◌-◌, ◌<◌, Bool, true, false, ◌&&◌, ◌||◌, not, eqb, List, [], ◌∷◌, length, get_or, set, set as put, take, map, Option, Some, None, ◌⊎◌, inl, inr, refl, sym, ap, ◌∙◌, subst, arith, get_or-set_same, get_or-set_other, ◌≤◌}
 use Rattle.std.specs.Prelude.{All, IsTrue, IsFalse, IsSome, ◌↔◌, if◌then◌else◌}
 use Rattle.std.specs.Option.{option_map, is_some}
 use Rattle.std.specs.List.Sorted.{IsStrictlyIncreasing}
-use Rattle.std.proofs.lemmas.Bool.{cases_eq, ne_eqb, eq-eqb, eqb-true, false≢true}
-use Rattle.std.proofs.lemmas.List.{get_or-map, length-map, get_or-take, length-take-le}
+use Rattle.std.proofs.lemmas.Bool.{cases_eq, ne_eqb, eq-eqb, eqb-true, false≢true, cases_lt}
+use Rattle.std.proofs.lemmas.List.{get_or_past, get_or-map, length-map, get_or-take, length-take-le}
 use Rattle.std.proofs.lemmas.List.Kept.{AllPairs-from_increasing}
 use Rattle.st_model.specs.Lists.{has}
 use Rattle.st_model.specs.Network.{IsVertex}
 use Rattle.st_model.proofs.Marked.{has_more, place_of}
 use Rattle.bidirected_form.specs.declared.arc.Arc.{Arc}
-use Rattle.bidirected_form.specs.Digraph.{Digraph, IsDigraph, AreArcsInto, left_from, remaining}
+use Rattle.bidirected_form.specs.Digraph.{Digraph, IsDigraph, AreArcsInto, left_from, remaining, kind_of}
+use Rattle.bidirected_form.specs.declared.kind.VertexKind.TheVariants.{Outside}
 use Rattle.bidirected_form.specs.Entering.{enters, CanBear, Charges, IsEntering}
 use Rattle.bidirected_form.specs.Rows.{lowered, row_of, IsEnough}
 use Rattle.bidirected_form.proofs.RowLemmas.{lowered_tail, tails_kept, tail_of}
@@ -122,6 +123,7 @@ still_digraph D marks y members new h long marked low = record {
   rows = long ∙ h.rows;
   arcs = λ v. arcs_kept D.n v (row_of D.arcs v) (row_of new v) (tails_lowered marks y members D.arcs new low v) (h.arcs v);
   both = λ u v. ap is_some (remaining_lowered marks y members D.arcs new marked low u v) ∙ same_some (enters members u v) y (remaining D u v) ∙ h.both u v ∙ sym (same_some (enters members v u) y (remaining D v u)) ∙ sym (ap is_some (remaining_lowered marks y members D.arcs new marked low v u));
+  nobody = h.nobody;
   outside = λ u v off. remaining_lowered marks y members D.arcs new marked low u v ∙ still_none (enters members u v) y (remaining D u v) (h.outside u v off);
 }
 
@@ -168,3 +170,15 @@ entering_is D marks members u v marked = (
     parts true e false f h = (e, marked ∙ f, h.0)
     parts true e true f h = absurd (false≢true h.1)
     parts false e b f h = absurd (false≢true h.1)
+
+-- there is no arc to what isn't a vertex
+pub no_arc_past : (D : Digraph) (u v : ℕ) → IsDigraph D → (IsVertex D.n v → ⊥) → None ≡ remaining D u v
+no_arc_past D u v h out = sym (h.outside u v (by_case (cases_lt v 1)))
+  where
+    by_case : (v < 1) ⊎ (1 ≤ v) → kind_of D v ≡ Outside
+    by_case (inl low) = let zero_is : 0 ≡ v = omega (arith, low) in subst (λ (w : ℕ). kind_of D w ≡ Outside) zero_is h.nobody
+    by_case (inr some) = past (cases_lt D.n v)
+      where
+        past : (D.n < v) ⊎ (v ≤ D.n) → kind_of D v ≡ Outside
+        past (inl high) = get_or_past D.kinds v Outside (omega (arith, h.kinds, high))
+        past (inr few) = absurd (out (some, few))

@@ -49,5 +49,7 @@ pub record IsDigraph (D : Digraph) : Type 0 where
   pub arcs : (v : ℕ) → AreArcsInto D.n v (arcs_into D v)
   -- each arc has one in the other direction
   pub both : (u v : ℕ) → is_some (remaining D u v) ≡ is_some (remaining D v u)
+  -- 0 is no vertex
+  pub nobody : kind_of D 0 ≡ Outside
   -- an outside vertex has no arcs
   pub outside : (u v : ℕ) → kind_of D v ≡ Outside → remaining D u v ≡ None

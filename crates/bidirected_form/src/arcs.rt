@@ -101,9 +101,11 @@ impl Arcs {
     /// What remains of the arc from `u` to `v`; None where there is no such arc. Takes time
     /// logarithmic in the degree of `v`.
     pub fn remaining(&self, u: u32, v: u32) -> Option<u64>
-        requires { IsVertex self.now.n v }
         ensures { result ≡ remaining self.now u v }
     {
+        if v == 0 || v > self.vertices {
+            return None;
+        }
         find(self.rows.tails(v), self.rows.row(v), u)
     }
 

@@ -12,6 +12,8 @@ mod entering;
 mod kind;
 mod marks;
 mod rows;
+#[cfg(test)]
+mod tests;
 
 pub use arcs::Arcs;
 pub use kind::VertexKind;
