@@ -6,6 +6,8 @@
 #![tactic(auto)]
 
 mod sets;
+#[cfg(test)]
+mod tests;
 mod twins;
 
 pub use twins::Twins;
