@@ -1,0 +1,5 @@
+pub mod RowLemmas
+pub mod Lookups
+pub mod Built
+pub mod Entered
+pub mod Charged

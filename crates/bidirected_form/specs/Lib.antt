@@ -1,0 +1,5 @@
+pub mod Rows
+pub mod Digraph
+pub mod Bidirected
+pub mod Entering
+pub mod Building

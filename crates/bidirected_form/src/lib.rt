@@ -1,0 +1,19 @@
+//! The links between present vertices as pairs of arcs, with what remains of each arc's cost.
+//!
+//! `Arcs` is seen as a root, what each vertex is, and the arcs into each vertex. A caller may rely
+//! on each call's clause for every arc: `of` gives both arcs of each link its cost, `charge`
+//! lowers exactly those that enter a set, and each call takes time in what it touches.
+#![tactic(auto)]
+
+mod arc;
+mod arcs;
+mod building;
+mod entering;
+mod kind;
+mod marks;
+mod rows;
+#[cfg(test)]
+mod tests;
+
+pub use arcs::Arcs;
+pub use kind::VertexKind;

@@ -1,0 +1,121 @@
+ghost use Rattle.std.specs.Prelude.{◌≡◌, ◌≤◌, ◌↔◌, IfOk, IsTrue, IsFalse, All, unwrap_or};
+ghost use Rattle.st_model.specs.Branch.{IsVertexSet};
+ghost use Rattle.st_model.specs.Lists.{has};
+ghost use Rattle.bidirected_form.specs.Digraph.{remaining};
+
+use crate::{Arcs, VertexKind};
+use graph_store::Store;
+use st_model::{Branch, Instance, Link, Listed, Need};
+use std::alloc::{AllocError, Global};
+use std::test::Fail;
+
+fn link(a: u32, b: u32, cost: u64) -> Link
+    ensures { result ≡ record { a = a; b = b; cost = cost } }
+{
+    Link { a, b, cost }
+}
+
+// Three terminals joined to each other at 4, and to a centre at 2, less an outside vertex.
+fn triangle(alloc: Global, outside: &[u32]) -> Result<Arcs, AllocError>
+    ensures count { IfOk result (λ arcs. arcs.n ≡ 4) }
+    ensures root { IfOk result (λ arcs. arcs.root ≡ 1) }
+{
+    let links = [
+        link(1, 4, 2),
+        link(2, 4, 2),
+        link(3, 4, 2),
+        link(1, 2, 4),
+        link(2, 3, 4),
+        link(1, 3, 4),
+    ];
+    let needs = [
+        (1, Need::Required),
+        (2, Need::Required),
+        (3, Need::Required),
+    ];
+    let instance = Instance::build(alloc, 4, &links, &needs)?;
+    let store = Store::of(alloc, &instance)?;
+    let branch = Branch {
+        inside: Listed::of(Vec::new(alloc)),
+        outside: Listed::of(Vec::from_slice(alloc, outside)?),
+    };
+    Arcs::of(alloc, &store, &branch, 1)
+}
+
+#[test]
+fn reads_the_triangle(rt: HostRuntime) -> Result<(), Fail> {
+    let arcs = triangle(rt.alloc(), &[])?;
+    assert_eq!(rt; arcs.root(), 1);
+    assert_eq!(rt; arcs.vertices(), 4);
+    assert_eq!(rt; arcs.kind(2), VertexKind::Must);
+    assert_eq!(rt; arcs.kind(4), VertexKind::May(0));
+    assert_eq!(rt; arcs.neighbours(2), [1, 3, 4].as_slice());
+    for (u, v, left) in [
+        (1, 2, Some(4)),
+        (4, 2, Some(2)),
+        (2, 4, Some(2)),
+        (2, 2, None),
+        (2, 0, None),
+        (2, 5, None),
+    ] {
+        assert_eq!(rt; arcs.remaining(u, v), left, "from {u} to {v}");
+    }
+    Ok(())
+}
+
+#[test]
+fn leaves_an_outside_vertex_without_arcs(rt: HostRuntime) -> Result<(), Fail> {
+    let arcs = triangle(rt.alloc(), &[4])?;
+    assert_eq!(rt; arcs.kind(4), VertexKind::Outside);
+    assert_eq!(rt; arcs.neighbours(2), [1, 3].as_slice());
+    assert_eq!(rt; arcs.remaining(2, 4), None);
+    assert_eq!(rt; arcs.remaining(4, 2), None);
+    Ok(())
+}
+
+// What remains of an arc is this at least.
+fn bears(arcs: &Arcs, arc: (u32, u32), y: u64) -> bool
+    ensures { IsTrue result ↔ (y ≤ unwrap_or (remaining arcs.now arc.0 arc.1) 0) }
+{
+    arcs.remaining(arc.0, arc.1).unwrap_or(0) >= y
+}
+
+fn all_bear(arcs: &Arcs, entering: &[(u32, u32)], y: u64) -> bool
+    ensures { IsTrue result ↔ All (λ arc. y ≤ unwrap_or (remaining arcs.now arc.0 arc.1) 0) entering.now }
+{
+    entering.iter().all(|arc| bears(arcs, *arc, y))
+}
+
+// Charges a set, if each arc that enters it bears as much, and gives those arcs.
+fn charge(
+    alloc: Global,
+    arcs: &mut Arcs,
+    set: &[u32],
+    y: u64,
+) -> Result<Vec<(u32, u32)>, AllocError>
+    requires set { IsVertexSet arcs.old.n set.now }
+    requires root { IsFalse (has set.now arcs.old.root) }
+{
+    let entering = arcs.entering(alloc, set)?;
+    if all_bear(arcs, &entering, y) {
+        arcs.charge(set, y);
+    }
+    Ok(entering)
+}
+
+#[test]
+fn charges_what_enters(rt: HostRuntime) -> Result<(), Fail> {
+    let mut arcs = triangle(rt.alloc(), &[])?;
+    let entering = charge(rt.alloc(), &mut arcs, &[2], 2)?;
+    assert_eq!(rt; entering.as_slice(), [(1, 2), (3, 2), (4, 2)].as_slice());
+    for (u, v, left) in [
+        (4, 2, Some(0)),
+        (1, 2, Some(2)),
+        (2, 1, Some(4)),
+        (2, 4, Some(2)),
+        (1, 3, Some(4)),
+    ] {
+        assert_eq!(rt; arcs.remaining(u, v), left, "from {u} to {v}");
+    }
+    Ok(())
+}

@@ -1,0 +1,13 @@
+//! An end for each vertex that may be left out for a prize, with what is left of that prize.
+//!
+//! `Twins` is seen as the ends and what is left for each vertex. A caller may rely on the ends'
+//! numbers, which go on from the last vertex in the order of the vertices, and on each charge
+//! lowering one number and nothing else.
+#![tactic(auto)]
+
+mod sets;
+#[cfg(test)]
+mod tests;
+mod twins;
+
+pub use twins::Twins;
