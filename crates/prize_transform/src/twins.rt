@@ -75,12 +75,7 @@ impl Twins {
     }
 
     /// The vertices of a set that holds an end and its vertex, without its ends, and that vertex.
-    pub fn back(
-        &self,
-        alloc: Global,
-        set: &[u32],
-        end: u32,
-    ) -> Result<(Vec<u32>, u32), AllocError>
+    pub fn back(&self, alloc: Global, set: &[u32], end: u32) -> Result<(Vec<u32>, u32), AllocError>
         requires end { IsTrue (is_end self.now.ends end) }
         requires set { IsTrue (has set.now end) }
         requires vertex { IsTrue (has set.now (vertex_of self.now.ends end)) }
