@@ -1,5 +1,9 @@
 -- Where nothing fails, the words and the texts decide how a run ends.
-use Rattle.std.proofs.Common.{◌≡◌, ◌≢◌, ◌⊎◌, ◌↔◌, inl, inr, ℕ, ◌^◌, ◌<◌, ◌≤◌, List, length, Result, Ok, Err, Option, Some, None, refl, sym, subst, ap, ◌∙◌, arith}
+use Rattle.cert_checker.specs.Checking.{IsAnswer}
+use Rattle.cert_checker.specs.Verdict.{verdict_of}
+use Rattle.log_format.specs.Text.{log_text}
+use Rattle.log_format.specs.declared.log.Log.{Log}
+use Rattle.std.proofs.Common.{◌≡◌, ◌≢◌, ◌⊎◌, ◌↔◌, inl, inr, ℕ, ◌^◌, ◌<◌, ◌≤◌, List, length, Result, Ok, Err, Option, Some, None, refl, sym, subst, ap, ◌∙◌, arith, cond, eqb}
 use Rattle.std.specs.Prelude.{IfSome}
 use Rattle.std.specs.Io.KnownBytes.{append_known}
 use Rattle.st_edge.specs.Faults.{Rose}
@@ -16,10 +20,16 @@ use Rattle.steiner_top.specs.declared.outcome.Outcome.TheVariants.{Found, NoTree
 use Rattle.steiner_top.specs.declared.status.Status.{Status}
 use Rattle.steiner_top.specs.declared.status.Status.TheVariants.{Optimal, Usage, Budget, Infeasible, RefusedFile, RefusedLog, ReadFault, WriteFault, NoMemory, TooLong}
 use Rattle.steiner_top.specs.Outcome.{IsFound}
-use Rattle.steiner_top.specs.Answer.{SolveAnswer, CheckAnswer, IsLineOf}
+use Rattle.steiner_top.specs.Answer.{IsSolution, SolveAnswer, CheckAnswer, IsLineOf}
 use Rattle.steiner_top.specs.Causes.{Texts, EndsWith, IsLoaded, IsSaved}
 use Rattle.steiner_top.specs.Headline.{Headline, NothingFails, SolvesFile, ChecksLog}
 use Rattle.steiner_top.specs.Output.{status_of_verdict}
+
+-- a check accepts the certificate of a solution
+certificate_checks : (w : SolveWords) (bytes : List ℕ) (tree : Tree) (primal dual : ℕ) (log : Log) (sent : List ℕ) → IsSolution w bytes tree primal dual log sent → IsAnswer bytes (log_text log) (Ok (cond (eqb dual primal) (verdict.Optimal primal) (verdict.Bound dual primal)))
+certificate_checks w bytes tree primal dual log sent s =
+    let c = s.found.certified in
+    (s.instance, s.reads, (log, record { is_log = c.is_log; text = refl }, c.accepted, sym (ap verdict_of c.claims)))
 
 -- how a file that was loaded whole is answered decides the status
 answered_file : (w : SolveWords) (bytes : List ℕ) (status : Status) (outcome : Option Outcome) (texts : Texts) (taken now : Option (List ℕ)) (sent : List ℕ)
@@ -40,6 +50,7 @@ answered_file w bytes Optimal (Some (Found tree primal dual log)) texts taken no
     text = s.text;
     took = took;
     ends = inl (refl, same);
+    checks = certificate_checks w bytes tree primal dual log sent s;
     log = saved;
   };
 }
@@ -58,6 +69,7 @@ answered_file w bytes Budget (Some (Found tree primal dual log)) texts taken now
     text = s.text;
     took = took;
     ends = inr (refl, below);
+    checks = certificate_checks w bytes tree primal dual log sent s;
     log = saved;
   };
 }

@@ -1,5 +1,5 @@
 -- The main promise of a run: where no device and no memory fails, the words and the texts decide how it ends, and what is sent and saved.
-use Rattle.std.specs.Prelude.{◌≡◌, ◌≢◌, ◌↔◌, ◌⊎◌, ℕ, ◌^◌, ◌<◌, ◌≤◌, List, length, Option, Some, None, Ok, IfSome}
+use Rattle.std.specs.Prelude.{◌≡◌, ◌≢◌, ◌↔◌, ◌⊎◌, ℕ, ◌^◌, ◌<◌, ◌≤◌, ◌==◌, if◌then◌else◌, List, length, Option, Some, None, Ok, IfSome}
 use Rattle.std.specs.Io.KnownBytes.{append_known}
 use Rattle.st_edge.specs.Faults.{Rose}
 use Rattle.st_model.specs.declared.tree.Tree.{Tree}
@@ -11,6 +11,7 @@ use Rattle.log_format.specs.declared.log.Log.{Log}
 use Rattle.log_format.specs.Text.{log_text}
 use Rattle.dimacs_writer.specs.Solution.{IsSolutionText}
 use Rattle.cert_checker.specs.declared.verdict.Verdict.{Verdict}
+use Rattle.cert_checker.specs.declared.verdict.Verdict.TheVariants as verdict
 use Rattle.cert_checker.specs.Checking.{IsAnswer}
 use Rattle.command_line.specs.Words.{Command, SolveWords, CheckWords, solve, check}
 use Rattle.steiner_top.specs.declared.outcome.Outcome.{Outcome}
@@ -29,8 +30,8 @@ pub record NothingFails (reads reads_now saves saves_now writes writes_now : ℕ
   pub memory : status ≢ NoMemory
 
 -- the answer to a file whose instance has a tree: the text of a tree, with its cost and a bound on the cost of all trees, and the certificate's text under the log's name.
--- The bound is the cost unless the whole budget was spent.
-pub record IsSolved (w : SolveWords) (I : Network) (status : Status) (outcome : Option Outcome) (texts : Texts) (taken now : Option (List ℕ)) : Type 0 where
+-- The bound is the cost unless the whole budget was spent, and a check accepts the certificate with these numbers.
+pub record IsSolved (w : SolveWords) (bytes : List ℕ) (I : Network) (status : Status) (outcome : Option Outcome) (texts : Texts) (taken now : Option (List ℕ)) : Type 0 where
   pub tree : Tree
   pub primal : ℕ
   pub dual : ℕ
@@ -41,6 +42,8 @@ pub record IsSolved (w : SolveWords) (I : Network) (status : Status) (outcome : 
   pub text : IsSolutionText w.file w.workers tree dual primal sent
   pub took : now ≡ append_known taken sent
   pub ends : ((status ≡ Optimal) × (dual ≡ primal)) ⊎ ((status ≡ Budget) × (dual < primal))
+  -- the answer of a check on the file and the certificate's text: this cost, as the least one or with this bound
+  pub checks : IsAnswer bytes (log_text certificate) (Ok (if dual == primal then verdict.Optimal primal else verdict.Bound dual primal))
   pub log : IfSome w.log_name (λ name. IfSome (texts name) (λ text. text ≡ log_text certificate))
 
 -- how a file is answered that is to be solved, and whose text is told
@@ -48,7 +51,7 @@ pub record SolvesFile (w : SolveWords) (bytes : List ℕ) (status : Status) (out
   pub too_long : (status ≡ TooLong) ↔ (2 ^ 34 < length bytes)
   pub refused : length bytes ≤ 2 ^ 34 → (status ≡ RefusedFile) ↔ ((line : ℕ) × (reason : Reason) × Refused bytes line reason)
   pub infeasible : (I : Network) → Reads bytes I → length bytes ≤ 2 ^ 34 → (status ≡ Infeasible) ↔ ((t : Tree) → IsTree I t → ⊥)
-  pub solved : (I : Network) (t : Tree) → Reads bytes I → length bytes ≤ 2 ^ 34 → IsTree I t → IsSolved w I status outcome texts taken now
+  pub solved : (I : Network) (t : Tree) → Reads bytes I → length bytes ≤ 2 ^ 34 → IsTree I t → IsSolved w bytes I status outcome texts taken now
 
 -- how a file and a log are answered that are to be checked, and whose texts are told
 pub record ChecksLog (stp log : List ℕ) (status : Status) (taken now : Option (List ℕ)) : Type 0 where

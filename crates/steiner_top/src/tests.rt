@@ -5,6 +5,7 @@ use std::process::Abort;
 use std::test::Fail;
 
 mod checks;
+mod drawn;
 mod faults;
 mod lines;
 mod solves;

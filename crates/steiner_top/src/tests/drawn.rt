@@ -1,0 +1,63 @@
+use super::{ends, sink_of, words_of};
+use crate::{OpenGate, Outcome, Status, run};
+use st_edge::MemoryShelf;
+use std::alloc::{AllocError, Global};
+use std::process::Abort;
+use std::test::Fail;
+
+/// The next of some numbers that look random (Park and Miller 1988).
+fn draw(state: &mut u64, below: u64) -> u64 {
+    *state = state.wrapping_mul(48_271) % 2_147_483_647;
+    1 + *state % below.max(1)
+}
+
+/// A file of six vertices, each linked with one before it, and four more links; the first two
+/// are required, and two others pay.
+fn file_of(alloc: Global, seed: u64) -> Result<String, AllocError> {
+    let mut state = seed;
+    let mut text = String::from_str(
+        alloc,
+        "33D32945 STP File, STP Format Version 1.0\nSECTION Graph\nNodes 6\nEdges 9\n",
+    )?;
+    for vertex in 2..7 {
+        let other = draw(&mut state, vertex - 1);
+        let cost = draw(&mut state, 9);
+        writeln!(&mut text, "E {other} {vertex} {cost}")?;
+    }
+    for _ in 0..4 {
+        let (a, b) = (draw(&mut state, 6), draw(&mut state, 6));
+        let cost = draw(&mut state, 9);
+        writeln!(&mut text, "E {a} {b} {cost}")?;
+    }
+    let (p, q) = (draw(&mut state, 9), draw(&mut state, 9));
+    writeln!(
+        &mut text,
+        "END\nSECTION Terminals\nTerminals 4\nT 1\nT 2\nTP 3 {p}\nTP 4 {q}\nEND"
+    )?;
+    Ok(text)
+}
+
+/// Solves a drawn file, and checks the log that is saved: it shows the same cost.
+fn is_accepted(rt: &(impl Abort + AllocGlobal), seed: u64) -> Result<(), Fail> {
+    let text = file_of(rt.alloc(), seed)?;
+    let mut texts = Vec::new(rt.alloc());
+    texts.push((String::from_str(rt.alloc(), "a.stp")?, text.into_bytes()))?;
+    let mut shelf = MemoryShelf::of(rt.alloc(), texts, Vec::new(rt.alloc()));
+    let words = words_of(rt.alloc(), "solve a.stp --log b")?;
+    let mut out = sink_of(rt.alloc())?;
+    let ended = run(rt.alloc(), &words, &mut shelf, &mut out, &OpenGate);
+    let Some(Outcome::Found { primal, dual, .. }) = ended.outcome else {
+        return Err(Fail::new("no tree"));
+    };
+    assert_eq!(rt; primal, dual, "for {seed}");
+    let line = format!(in rt.alloc(); "optimal {primal}\n")?;
+    ends(rt, "check a.stp b", &mut shelf, (Status::Optimal, 0, &line))
+}
+
+#[test]
+fn accepts_the_logs_of_drawn_files(rt: HostRuntime) -> Result<(), Fail> {
+    for seed in 1..21 {
+        is_accepted(&rt, seed)?;
+    }
+    Ok(())
+}
