@@ -1,9 +1,13 @@
 use super::{ends, sink_of, words_of};
 use crate::{OpenGate, Outcome, Status, run};
+use graph_store::Store;
 use st_edge::MemoryShelf;
+use st_model::{is_tree, tree_cost};
 use std::alloc::{AllocError, Global};
 use std::process::Abort;
 use std::test::Fail;
+use stp_reader::read_stp;
+use tree_heuristic::{all_trees, first_tree, prune};
 
 /// The next of some numbers that look random (Park and Miller 1988).
 fn draw(state: &mut u64, below: u64) -> u64 {
@@ -58,6 +62,31 @@ fn is_accepted(rt: &(impl Abort + AllocGlobal), seed: u64) -> Result<(), Fail> {
 fn accepts_the_logs_of_drawn_files(rt: HostRuntime) -> Result<(), Fail> {
     for seed in 1..21 {
         is_accepted(&rt, seed)?;
+    }
+    Ok(())
+}
+
+/// The first tree of a drawn file is one, and pruned it is still one and costs no more.
+fn is_pruned(rt: &(impl Abort + AllocGlobal), seed: u64) -> Result<(), Fail> {
+    let text = file_of(rt.alloc(), seed)?;
+    let instance = read_stp(rt.alloc(), text.as_bytes())?;
+    let store = Store::of(rt.alloc(), &instance)?;
+    let branch = all_trees(rt.alloc());
+    let Some(tree) = first_tree(rt.alloc(), &store, &branch)? else {
+        return Err(Fail::new("no tree"));
+    };
+    assert!(rt; is_tree(rt.alloc(), &instance, &tree)?, "for {seed}");
+    let before = tree_cost(&instance, &tree);
+    let pruned = prune(rt.alloc(), &instance, &branch, tree)?;
+    assert!(rt; is_tree(rt.alloc(), &instance, &pruned)?, "for {seed}");
+    assert!(rt; tree_cost(&instance, &pruned) <= before, "for {seed}");
+    Ok(())
+}
+
+#[test]
+fn prunes_the_first_trees_of_drawn_files(rt: HostRuntime) -> Result<(), Fail> {
+    for seed in 1..21 {
+        is_pruned(&rt, seed)?;
     }
     Ok(())
 }
