@@ -1,6 +1,8 @@
-// An arc into some vertex: where it comes from, and what remains of its cost.
-#[derive(Clone, Copy, Debug)]
+/// An arc into some vertex.
+#[derive(Clone, Copy, Debug, PartialEq, Eq)]
 pub struct Arc {
+    /// The vertex that it comes from.
     pub tail: u32,
+    /// What remains of its cost.
     pub remaining: u64,
 }

@@ -3,14 +3,14 @@ ghost use Rattle.st_model.specs.Branch.{IsVertexSet};
 ghost use Rattle.st_model.specs.Lists.{has};
 ghost use Rattle.st_model.specs.Network.{IsVertex};
 ghost use Rattle.bidirected_form.specs.Bidirected.{kind_in, arc_cost};
-ghost use Rattle.bidirected_form.specs.Digraph.{kind_of, neighbours, remaining, IsDigraph};
+ghost use Rattle.bidirected_form.specs.Digraph.{kind_of, arcs_into, neighbours, remaining, IsDigraph};
 ghost use Rattle.bidirected_form.specs.Entering.{IsEntering, IsBefore, CanBear, Charges};
 
-use crate::VertexKind;
 use crate::building::{kinds_of, no_marks, rows_of};
 use crate::entering::{entering_arcs, lower_entering};
 use crate::marks::{mark, unmark};
 use crate::rows::{Rows, find};
+use crate::{Arc, VertexKind};
 use graph_store::Store;
 use st_model::Branch;
 use std::alloc::{AllocError, Global};
@@ -96,6 +96,15 @@ impl Arcs {
         ensures digraph { IsDigraph self.now }
     {
         self.rows.tails(vertex)
+    }
+
+    /// The arcs into a vertex, ascending by where they come from, with what remains of each.
+    pub fn arcs_into(&self, vertex: u32) -> &[Arc]
+        requires { IsVertex self.now.n vertex }
+        ensures all { result.now ≡ arcs_into self.now vertex }
+        ensures digraph { IsDigraph self.now }
+    {
+        self.rows.row(vertex)
     }
 
     /// What remains of the arc from `u` to `v`; None where there is no such arc. Takes time

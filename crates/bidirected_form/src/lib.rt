@@ -15,5 +15,6 @@ mod rows;
 #[cfg(test)]
 mod tests;
 
+pub use arc::Arc;
 pub use arcs::Arcs;
 pub use kind::VertexKind;

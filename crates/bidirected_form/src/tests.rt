@@ -3,7 +3,7 @@ ghost use Rattle.st_model.specs.Branch.{IsVertexSet};
 ghost use Rattle.st_model.specs.Lists.{has};
 ghost use Rattle.bidirected_form.specs.Digraph.{remaining};
 
-use crate::{Arcs, VertexKind};
+use crate::{Arc, Arcs, VertexKind};
 use graph_store::Store;
 use st_model::{Branch, Instance, Link, Listed, Need};
 use std::alloc::{AllocError, Global};
@@ -13,6 +13,10 @@ fn link(a: u32, b: u32, cost: u64) -> Link
     ensures { result ≡ record { a = a; b = b; cost = cost } }
 {
     Link { a, b, cost }
+}
+
+fn arc(tail: u32, remaining: u64) -> Arc {
+    Arc { tail, remaining }
 }
 
 // Three terminals joined to each other at 4, and to a centre at 2, less an outside vertex.
@@ -50,6 +54,10 @@ fn reads_the_triangle(rt: HostRuntime) -> Result<(), Fail> {
     assert_eq!(rt; arcs.kind(2), VertexKind::Must);
     assert_eq!(rt; arcs.kind(4), VertexKind::May(0));
     assert_eq!(rt; arcs.neighbours(2), [1, 3, 4].as_slice());
+    assert_eq!(rt;
+        arcs.arcs_into(2),
+        [arc(1, 4), arc(3, 4), arc(4, 2)].as_slice()
+    );
     for (u, v, left) in [
         (1, 2, Some(4)),
         (4, 2, Some(2)),
