@@ -1,0 +1,5 @@
+pub mod Left
+pub mod Raises
+pub mod Ascent
+pub mod Extension
+pub mod Laws
