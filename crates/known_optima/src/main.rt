@@ -1,0 +1,52 @@
+//! The program `known_optima`: solves each file that its words name, with a log, and checks the
+//! log. It writes the file's name, how the solving ended, and what the check says. Its own data are
+//! files whose optimum programs apart from this project found.
+#![tactic(auto)]
+
+use st_edge::{DiskShelf, MemorySink, Shelf, Sink, StdSink, send_all};
+use std::alloc::{AllocError, Global};
+use std::env;
+use std::process::ExitCode;
+use steiner_top::{OpenGate, Status, run};
+
+/// More bytes than any of the solutions has.
+const ROOM: u64 = 1_000_000;
+
+fn main(rt: HostRuntime) -> ExitCode {
+    let Ok(words) = env::args(&rt) else {
+        return ExitCode::from(Status::NoMemory.code());
+    };
+    let mut shelf = DiskShelf::new(&rt);
+    let mut out = StdSink::new(&rt);
+    for name in words.skip(1) {
+        if tell(rt.alloc(), &name, &mut shelf, &mut out).is_err() {
+            return ExitCode::from(Status::NoMemory.code());
+        }
+    }
+    ExitCode::SUCCESS
+}
+
+// Writes a line on a file: its name, the status of solving it, and the verdict on the log.
+fn tell<F: Shelf, K: Sink>(
+    alloc: Global,
+    name: &str,
+    shelf: &mut F,
+    out: &mut K,
+) -> Result<(), AllocError> {
+    let mut solution = MemorySink::of(alloc, ROOM, ROOM, Vec::new(alloc))?;
+    let solve = words_of(alloc, &["solve", name, "--log", "log"])?;
+    let solved = run(alloc, &solve, shelf, &mut solution, &OpenGate).status;
+    let head = format!(in alloc; "{name} {} ", solved.code())?;
+    let _ = send_all(out, head.as_bytes());
+    let check = words_of(alloc, &["check", name, "log"])?;
+    let _ = run(alloc, &check, shelf, out, &OpenGate);
+    Ok(())
+}
+
+fn words_of(alloc: Global, words: &[&str]) -> Result<Vec<String>, AllocError> {
+    let mut owned = Vec::new(alloc);
+    for word in words {
+        owned.push(String::from_str(alloc, word)?)?;
+    }
+    Ok(owned)
+}
