@@ -1,0 +1,4 @@
+pub mod Raised
+pub mod OpenVertices
+pub mod Joined
+pub mod ChargedCuts
