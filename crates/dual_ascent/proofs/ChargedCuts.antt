@@ -33,6 +33,13 @@ AreLowered-none D = record { root = refl; count = refl; kinds = refl; neighbours
 pub AreSpent-none : (E : Ends) → AreSpent E E []
 AreSpent-none E = record { count = refl; ends = refl; left = λ v. omega arith }
 
+-- what is left of an arc after cuts and others behind them
+pub lowered_twice : (xs ys : List Cut) (arc : ℕ × ℕ) (o : Option ℕ) → option_map (λ r. r - load ys arc) (option_map (λ r. r - load xs arc) o) ≡ option_map (λ r. r - load (xs ++ ys) arc) o
+lowered_twice xs ys arc None = refl
+lowered_twice xs ys arc (Some r) =
+    let same : r - load xs arc - load ys arc ≡ r - load (xs ++ ys) arc = omega (arith, load-append xs ys arc) in
+    ap Some same
+
 -- cuts behind others take what both take
 pub AreLowered-append : (D D' D'' : Digraph) (xs ys : List Cut) → AreLowered D D' xs → AreLowered D' D'' ys → AreLowered D D'' (xs ++ ys)
 AreLowered-append D D' D'' xs ys first next = record {
@@ -40,12 +47,8 @@ AreLowered-append D D' D'' xs ys first next = record {
   count = next.count ∙ first.count;
   kinds = next.kinds ∙ first.kinds;
   neighbours = λ v. next.neighbours v ∙ first.neighbours v;
-  remaining = λ u v. next.remaining u v ∙ ap (option_map (λ r. r - load ys (u, v))) (first.remaining u v) ∙ both u v (remaining D u v);
+  remaining = λ u v. next.remaining u v ∙ ap (option_map (λ r. r - load ys (u, v))) (first.remaining u v) ∙ lowered_twice xs ys (u, v) (remaining D u v);
 }
-  where
-    both : (u v : ℕ) (o : Option ℕ) → option_map (λ r. r - load ys (u, v)) (option_map (λ r. r - load xs (u, v)) o) ≡ option_map (λ r. r - load (xs ++ ys) (u, v)) o
-    both u v None = refl
-    both u v (Some r) = let same : r - load xs (u, v) - load ys (u, v) ≡ r - load (xs ++ ys) (u, v) = omega (arith, load-append xs ys (u, v)) in ap Some same
 
 pub AreSpent-append : (E E' E'' : Ends) (xs ys : List Cut) → AreSpent E E' xs → AreSpent E' E'' ys → AreSpent E E'' (xs ++ ys)
 AreSpent-append E E' E'' xs ys first next = record {

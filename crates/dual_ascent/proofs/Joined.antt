@@ -1,12 +1,12 @@
 -- A packing with raises behind its cuts.
-use Rattle.std.proofs.Common.{◌≡◌, ◌≢◌, ℕ, ◌+◌, ◌-◌, ◌<◌, ◌≤◌, Bool, true, false, ◌&&◌, List, [], Option, Some, None, inl, inr, refl, sym, ap, ◌∙◌, subst, arith}
+use Rattle.std.proofs.Common.{◌≡◌, ◌≢◌, ℕ, ◌+◌, ◌-◌, ◌<◌, ◌≤◌, Bool, true, false, ◌&&◌, List, [], Option, Some, None, ◌⊎◌, inl, inr, refl, sym, ap, ◌∙◌, subst, arith}
 use Rattle.std.specs.Prelude.{IsTrue, IsFalse, IfSome, if◌then◌else◌, All}
 use Rattle.std.specs.Option.{option_map}
 use Rattle.std.proofs.lemmas.Bool.{cases_Bool, and_parts, both_ways}
 use Rattle.std.proofs.lemmas.List.Elements.{All-append, All-nil}
 use Rattle.st_model.specs.declared.branch.Branch.{Branch}
 use Rattle.st_model.specs.Lists.{has}
-use Rattle.st_model.specs.Network.{IsVertex, link, pays}
+use Rattle.st_model.specs.Network.{Network, IsVertex, link, pays}
 use Rattle.st_model.specs.Branch.{is_present, is_certain}
 use Rattle.graph_store.specs.Graph.{Graph, IsGraph}
 use Rattle.bidirected_form.specs.declared.kind.VertexKind.TheVariants.{Must}
@@ -25,6 +25,11 @@ use Rattle.dual_ascent.specs.Laws.{joined, IsRaised}
 use Rattle.dual_ascent.proofs.ChargedCuts.{load-append, named-append}
 use Rattle.dual_ascent.proofs.OpenVertices.{certain_present, undecided_present, open_vertex, open_present, open_must, open_prized, must_certain, may_free, free_prize, linked_cost}
 use Rattle.dual_ascent.proofs.Raised.{each_cut, raises_load, raises_named}
+
+-- no cut of a packing that fits holds its root
+pub packed_apart : (I : Network) (B : Branch) (P : Packing) (root : ℕ) → Fits I B P → (P.cuts ≡ []) ⊎ (P.root ≡ Some root) → All (λ c. IsFalse (has c.set root)) P.cuts
+packed_apart I B P root fits (inl none) = rw none (All-nil (λ c. IsFalse (has c.set root)))
+packed_apart I B P root fits (inr same) = (rw same at fits.root).apart
 
 module _ (g : Graph) (B : Branch) (P : Packing) (D : Digraph) (E : Ends) (target : ℕ) (A : Packing) (h : IsRaised g B P D E target A) where
   -- what the packing's cuts leave of an arc, if it is one
@@ -112,19 +117,11 @@ module _ (g : Graph) (B : Branch) (P : Packing) (D : Digraph) (E : Ends) (target
     omega (arith, total-append (λ c. c.y) P.cuts A.cuts),
   )
     where
-      -- no cut of the packing holds the root
-      packed_apart : All (λ c. IsFalse (has c.set D.root)) P.cuts
-      packed_apart =
-          elim h.root [
-            | inl none ↦ rw none (All-nil (λ c. IsFalse (has c.set D.root)))
-            | inr same ↦ (rw same at h.fits.root).apart
-          ]
-
       root_fits : IsRoot g.network B (joined P A).cuts D.root
       root_fits = record {
         vertex = vertex;
         certain = h.certain;
-        apart = All-append (λ c. IsFalse (has c.set D.root)) P.cuts A.cuts packed_apart (each_cut (λ c. IsFalse (has c.set D.root)) A.cuts (λ before c after e. (h.raises before c after e).apart));
+        apart = All-append (λ c. IsFalse (has c.set D.root)) P.cuts A.cuts (packed_apart g.network B P D.root h.fits h.root) (each_cut (λ c. IsFalse (has c.set D.root)) A.cuts (λ before c after e. (h.raises before c after e).apart));
       }
 
       arc_fits : (u v : ℕ) → IsTrue (is_present B u) → IsTrue (is_present B v) → (price : Option ℕ) → link g.network.links u v ≡ price → IfSome price (λ p. load (joined P A).cuts (u, v) ≤ p)

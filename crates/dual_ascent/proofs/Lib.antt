@@ -2,3 +2,4 @@ pub mod Raised
 pub mod OpenVertices
 pub mod Joined
 pub mod ChargedCuts
+pub mod Extended
