@@ -11,6 +11,8 @@ mod ascent;
 mod charging;
 mod extension;
 mod law;
+#[cfg(test)]
+mod tests;
 
 pub use ascending::ascend;
 pub use ascent::Ascent;
