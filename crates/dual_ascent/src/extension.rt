@@ -1,16 +1,19 @@
-ghost use Rattle.std.specs.Prelude.{◌≡◌, ℕ, ◌-◌, IfOk};
+ghost use Rattle.std.specs.Prelude.{◌≡◌, ℕ, ◌-◌, ◌<◌, ◌^◌, length, IfOk};
 ghost use Rattle.std.specs.Option.{option_map};
+ghost use Rattle.graph_store.specs.Graph.{IsGraph};
 ghost use Rattle.bidirected_form.specs.Bidirected.{arc_cost};
 ghost use Rattle.bidirected_form.specs.Digraph.{remaining};
 ghost use Rattle.cut_packing.specs.Packing.{load};
 ghost use Rattle.dual_ascent.specs.Extension.{IsStart, IsRootFor, IsExtension, packing_of};
-ghost use Rattle.dual_ascent.specs.Left.{IsWhole};
+ghost use Rattle.dual_ascent.specs.Laws.{joined};
+ghost use Rattle.dual_ascent.specs.Left.{IsWhole, AreLeft, AreEndsOf};
 
-use crate::Ascent;
+use crate::{Ascent, ascend, charge_cuts};
 use bidirected_form::Arcs;
 use cut_packing::Packing;
 use graph_store::Store;
-use st_model::Branch;
+use prize_transform::Twins;
+use st_model::{Branch, Listed};
 use std::alloc::{AllocError, Global};
 
 /// What an ascent makes of a packing.
@@ -40,5 +43,52 @@ pub fn extend(
     ensures count { IfOk result (λ e. e.arcs.n ≡ store.now.network.n) }
     ensures left { IfOk result (λ e. (u v : ℕ) → remaining e.arcs u v ≡ option_map (λ cost. cost - load (packing_of e.ascent).cuts (u, v)) (arc_cost store.now branch.now u v)) }
 {
-    Err(AllocError)
+    let (mut arcs, mut twins) = left_by(alloc, store, branch, &packing, root)?;
+    match ascend(alloc, &mut arcs, &mut twins, order, target)? {
+        Ascent::Full(found) => Ok(Extension {
+            ascent: Ascent::Full(join(packing, found)?),
+            arcs,
+        }),
+        Ascent::Reached(found) => Ok(Extension {
+            ascent: Ascent::Reached(join(packing, found)?),
+            arcs,
+        }),
+    }
+}
+
+// What a packing leaves of a branch's arcs and prizes.
+fn left_by(
+    alloc: Global,
+    store: &Store,
+    branch: &Branch,
+    packing: &Packing,
+    root: u32,
+) -> Result<(Arcs, Twins), AllocError>
+    requires whole { IsWhole store.now }
+    requires start { IsStart store.now.network branch.now packing.now }
+    requires root { IsRootFor store.now.network branch.now packing.now root }
+    ensures root { IfOk result (λ r. r.0.root ≡ root) }
+    ensures left { IfOk result (λ r. AreLeft store.now branch.now packing.now.cuts r.0 r.1) }
+    ensures ends { IfOk result (λ r. AreEndsOf r.0 r.1) }
+    ensures graph { IsGraph store.now }
+{
+    prove!(root <= store.vertices());
+    let mut arcs = Arcs::of(alloc, store, branch, root)?;
+    let mut twins = Twins::of(alloc, &arcs)?;
+    charge_cuts(&mut arcs, &mut twins, packing.cuts.as_slice());
+    Ok((arcs, twins))
+}
+
+// The cuts of a packing with those of another behind them, and the other's root.
+fn join(packing: Packing, found: Packing) -> Result<Packing, AllocError>
+    ensures joined { IfOk result (λ both. both ≡ joined packing found) }
+    ensures few { IfOk result (λ both. length both.cuts < 2 ^ 64) }
+{
+    let mut cuts = packing.cuts.into_vec();
+    let mut added = found.cuts.into_vec();
+    cuts.append(&mut added)?;
+    Ok(Packing {
+        root: found.root,
+        cuts: Listed::of(cuts),
+    })
 }

@@ -8,8 +8,14 @@
 
 mod ascending;
 mod ascent;
+mod charging;
 mod extension;
+mod law;
+#[cfg(test)]
+mod tests;
 
 pub use ascending::ascend;
 pub use ascent::Ascent;
+pub use charging::charge_cuts;
 pub use extension::{Extension, extend};
+pub use law::joined_is_full;

@@ -1,0 +1,92 @@
+-- What is left where cuts take something, one behind another.
+use Rattle.std.proofs.Common.{◌≡◌, ◌≢◌, ℕ, ◌+◌, ◌-◌, ◌<◌, ◌≤◌, List, [], ◌++◌, length, get_or, take, drop, Option, Some, None, ◌⊎◌, inl, inr, refl, sym, ap, ◌∙◌, arith, take-append-drop}
+use Rattle.std.specs.Prelude.{◌==◌, ◌&&◌, not, if◌then◌else◌}
+use Rattle.std.specs.Option.{option_map}
+use Rattle.std.proofs.lemmas.Bool.{eq-eqb}
+use Rattle.st_model.specs.Lists.{has, total}
+use Rattle.bidirected_form.specs.declared.kind.VertexKind.{VertexKind}
+use Rattle.bidirected_form.specs.declared.kind.VertexKind.TheVariants.{Outside, Must, May}
+use Rattle.bidirected_form.specs.Digraph.{Digraph, kind_of, remaining}
+use Rattle.bidirected_form.specs.Entering.{enters, CanBear}
+use Rattle.prize_transform.specs.Twins.{Ends, left_of, prize_for}
+use Rattle.cut_packing.specs.declared.cut.Cut.{Cut}
+use Rattle.cut_packing.specs.Packing.{load, named}
+use Rattle.cut_packing.proofs.Sums.{total-append, total_more}
+use Rattle.dual_ascent.specs.Left.{AreEndsOf, AreBorne, AreLowered, AreSpent}
+
+-- what cuts lay on an arc, one list behind another
+pub load-append : (xs ys : List Cut) (arc : ℕ × ℕ) → load (xs ++ ys) arc ≡ load xs arc + load ys arc
+load-append xs ys arc = total-append (λ c. if has c.set arc.1 && not (has c.set arc.0) then c.y else 0) xs ys
+
+-- what they take of a prize
+pub named-append : (xs ys : List Cut) (q : ℕ) → named (xs ++ ys) q ≡ named xs q + named ys q
+named-append xs ys q = total-append (λ c. if c.q == q then c.y else 0) xs ys
+
+-- no cuts take nothing
+pub AreLowered-none : (D : Digraph) → AreLowered D D []
+AreLowered-none D = record { root = refl; count = refl; kinds = refl; neighbours = λ v. refl; remaining = λ u v. whole (remaining D u v) }
+  where
+    whole : (o : Option ℕ) → o ≡ option_map (λ r. r - 0) o
+    whole None = refl
+    whole (Some r) = let same : r ≡ r - 0 = omega arith in ap Some same
+
+pub AreSpent-none : (E : Ends) → AreSpent E E []
+AreSpent-none E = record { count = refl; ends = refl; left = λ v. omega arith }
+
+-- what is left of an arc after cuts and others behind them
+pub lowered_twice : (xs ys : List Cut) (arc : ℕ × ℕ) (o : Option ℕ) → option_map (λ r. r - load ys arc) (option_map (λ r. r - load xs arc) o) ≡ option_map (λ r. r - load (xs ++ ys) arc) o
+lowered_twice xs ys arc None = refl
+lowered_twice xs ys arc (Some r) =
+    let same : r - load xs arc - load ys arc ≡ r - load (xs ++ ys) arc = omega (arith, load-append xs ys arc) in
+    ap Some same
+
+-- cuts behind others take what both take
+pub AreLowered-append : (D D' D'' : Digraph) (xs ys : List Cut) → AreLowered D D' xs → AreLowered D' D'' ys → AreLowered D D'' (xs ++ ys)
+AreLowered-append D D' D'' xs ys first next = record {
+  root = next.root ∙ first.root;
+  count = next.count ∙ first.count;
+  kinds = next.kinds ∙ first.kinds;
+  neighbours = λ v. next.neighbours v ∙ first.neighbours v;
+  remaining = λ u v. next.remaining u v ∙ ap (option_map (λ r. r - load ys (u, v))) (first.remaining u v) ∙ lowered_twice xs ys (u, v) (remaining D u v);
+}
+
+pub AreSpent-append : (E E' E'' : Ends) (xs ys : List Cut) → AreSpent E E' xs → AreSpent E' E'' ys → AreSpent E E'' (xs ++ ys)
+AreSpent-append E E' E'' xs ys first next = record {
+  count = next.count ∙ first.count;
+  ends = next.ends ∙ first.ends;
+  left = λ v. omega (arith, next.left v, first.left v, named-append xs ys v);
+}
+
+-- a part of the cuts and one more take no more than all
+total_take : (f : Cut → ℕ) (cuts : List Cut) (i : ℕ) (d : Cut) → i < length cuts → total f (take i cuts) + f (get_or cuts i d) ≤ total f cuts
+total_take f cuts i d below =
+    let parts = ap (total f) (take-append-drop (i + 1) cuts) in
+    omega (arith, total_more f cuts i d below, parts, total-append f (take (i + 1) cuts) (drop (i + 1) cuts))
+
+must_or_not : (k : VertexKind) → (k ≡ Must) ⊎ (k ≢ Must)
+must_or_not Must = inl refl
+must_or_not Outside = inr (λ e. cc)
+must_or_not (May p) = inr (λ e. cc)
+
+-- of cuts that can be borne, the next one
+module _ (D D' : Digraph) (E E' : Ends) (cuts : List Cut) (i : ℕ) (c : Cut) (below : i < length cuts) (is : c ≡ get_or cuts i c) (ends : AreEndsOf D E) (borne : AreBorne D E cuts) (lowered : AreLowered D D' (take i cuts)) (spent : AreSpent E E' (take i cuts)) where
+  pub next_enough : CanBear D' c.set c.y
+  next_enough u v r enter left = by_case (remaining D u v) refl (sym (lowered.remaining u v) ∙ left)
+    where
+      by_case : (o : Option ℕ) → remaining D u v ≡ o → option_map (λ s. s - load (take i cuts) (u, v)) o ≡ Some r → c.y ≤ r
+      by_case None gone e = absurd cc
+      by_case (Some s) full e =
+          let rest : s - load (take i cuts) (u, v) ≡ r = cc in
+          let f : Cut → ℕ = λ d. if enters d.set u v then d.y else 0 in
+          let one : f c ≡ c.y = rw enter refl in
+          omega (arith, rest, total_take f cuts i c below, ap f is, one, borne.arcs u v s full)
+
+  pub next_prize : 0 < left_of E' c.q → c.y ≤ left_of E' c.q
+  next_prize some = by_kind (must_or_not (kind_of D c.q))
+    where
+      by_kind : (kind_of D c.q ≡ Must) ⊎ (kind_of D c.q ≢ Must) → c.y ≤ left_of E' c.q
+      by_kind (inl must) = absurd (omega (arith, some, spent.left c.q, ends.within c.q, ap prize_for must))
+      by_kind (inr free) =
+          let f : Cut → ℕ = λ d. if d.q == c.q then d.y else 0 in
+          let one : f c ≡ c.y = rw (eq-eqb c.q c.q refl) refl in
+          omega (arith, spent.left c.q, total_take f cuts i c below, ap f is, one, borne.prizes c.q free)

@@ -1,0 +1,62 @@
+-- What raises take of each arc and prize, together.
+use Rattle.std.proofs.Common.{◌≡◌, ◌≢◌, ℕ, ◌+◌, ◌≤◌, Bool, true, false, List, [], ◌∷◌, ◌++◌, Some, ◌⊎◌, inl, inr, refl, sym, ◌∙◌, subst, append_assoc, append-nil, arith}
+use Rattle.std.specs.Prelude.{◌==◌, if◌then◌else◌, All}
+use Rattle.std.specs.List.{AllByRecursion}
+use Rattle.std.proofs.lemmas.Bool.{eqb-true}
+use Rattle.std.proofs.lemmas.List.Elements.{All-from_recursion}
+use Rattle.st_model.specs.Lists.{total}
+use Rattle.st_model.specs.Branch.{IsVertexSet}
+use Rattle.bidirected_form.specs.declared.kind.VertexKind.TheVariants.{Must}
+use Rattle.bidirected_form.specs.Digraph.{Digraph, kind_of, remaining}
+use Rattle.bidirected_form.specs.Entering.{enters}
+use Rattle.prize_transform.specs.Twins.{Ends, left_of}
+use Rattle.cut_packing.specs.declared.cut.Cut.{Cut}
+use Rattle.cut_packing.specs.Packing.{load, named}
+use Rattle.cut_packing.proofs.Sums.{total-append}
+use Rattle.dual_ascent.specs.Raises.{AreRaises, IsRaise}
+
+-- what holds of each place in a list, that it parts into what stands before and after
+abbrev pub AtEachPlace : (List Cut → Cut → Type 0) → List Cut → Type 0
+AtEachPlace Q cuts = (before : List Cut) (c : Cut) (after : List Cut) → cuts ≡ before ++ c ∷ after → Q before c
+
+-- where each term is 0 or keeps the sum so far within a bound, the sum is within it
+pub total_within : (f : Cut → ℕ) (r : ℕ) (cuts : List Cut) → AtEachPlace (λ before c. (f c ≡ 0) ⊎ (total f before + f c ≤ r)) cuts → total f cuts ≤ r
+total_within f r cuts each = go [] cuts refl (omega arith)
+  where
+    more : (before : List Cut) (c : Cut) → total f before ≤ r → (f c ≡ 0) ⊎ (total f before + f c ≤ r) → total f (before ++ c ∷ []) ≤ r
+    more before c h (inl none) = omega (arith, total-append f before (c ∷ []))
+    more before c h (inr fits) = omega (arith, total-append f before (c ∷ []))
+
+    go : (before rest : List Cut) → cuts ≡ before ++ rest → total f before ≤ r → total f cuts ≤ r
+    go before [] e h = subst (λ (xs : List Cut). total f xs ≤ r) (sym (e ∙ append-nil before)) h
+    go before (c ∷ rest) e h = go (before ++ c ∷ []) rest (e ∙ sym (append_assoc before (c ∷ []) rest)) (more before c h (each before c rest e))
+
+-- what holds at each place holds of each cut
+pub each_cut : (Q : Cut → Type 0) (cuts : List Cut) → AtEachPlace (λ before c. Q c) cuts → All Q cuts
+each_cut Q cuts each = All-from_recursion Q cuts (go [] cuts refl)
+  where
+    go : (before rest : List Cut) → cuts ≡ before ++ rest → AllByRecursion Q rest
+    go before [] e = tt
+    go before (c ∷ rest) e = (each before c rest e, go (before ++ c ∷ []) rest (e ∙ sym (append_assoc before (c ∷ []) rest)))
+
+module _ (D : Digraph) (E : Ends) (target : ℕ) (cuts : List Cut) (raises : AreRaises D E target cuts) where
+  -- no arc bears more than what remains of it
+  pub raises_load : (u v r : ℕ) → remaining D u v ≡ Some r → load cuts (u, v) ≤ r
+  raises_load u v r left = total_within (λ c. if enters c.set u v then c.y else 0) r cuts (λ before c after e. by_case before c (raises before c after e) (enters c.set u v) refl)
+    where
+      by_case : (before : List Cut) (c : Cut) → IsRaise D E target before c → (b : Bool) → enters c.set u v ≡ b → ((if b then c.y else 0) ≡ 0) ⊎ (load before (u, v) + (if b then c.y else 0) ≤ r)
+      by_case before c raise true enter = inr (raise.least.arcs u v r enter left)
+      by_case before c raise false enter = inl refl
+
+  -- no vertex that may be left out is named for more than what is left of its prize
+  pub raises_named : (q : ℕ) → kind_of D q ≢ Must → named cuts q ≤ left_of E q
+  raises_named q free = total_within (λ c. if c.q == q then c.y else 0) (left_of E q) cuts (λ before c after e. by_case before c (raises before c after e) (c.q == q) refl)
+    where
+      by_case : (before : List Cut) (c : Cut) → IsRaise D E target before c → (b : Bool) → (c.q == q) ≡ b → ((if b then c.y else 0) ≡ 0) ⊎ (named before q + (if b then c.y else 0) ≤ left_of E q)
+      by_case before c raise true same =
+          let at_q : c.q ≡ q = eqb-true c.q q same in
+          inr (subst (λ (v : ℕ). named before v + c.y ≤ left_of E v) at_q (raise.least.prize (subst (λ (v : ℕ). kind_of D v ≢ Must) (sym at_q) free)))
+      by_case before c raise false other = inl refl
+
+  pub raises_sets : All (λ c. IsVertexSet D.n c.set) cuts
+  raises_sets = each_cut (λ c. IsVertexSet D.n c.set) cuts (λ before c after e. (raises before c after e).set)
