@@ -158,7 +158,8 @@ fn same_turn(
 fn agrees(alloc: Global, seed: u64) -> Result<bool, AllocError> {
     let mut draws = Draws { state: seed };
     let case = draws.case(alloc)?;
-    let mut arcs = arcs_of(alloc, &case, draws.vertex())?;
+    let root = draws.vertex();
+    let mut arcs = arcs_of(alloc, &case, root)?;
     let mut table = plain_table(&case);
     if !same_remaining(&arcs, &table) || !same_arcs_into(alloc, &arcs, &table)? {
         return Ok(false);
@@ -168,7 +169,7 @@ fn agrees(alloc: Global, seed: u64) -> Result<bool, AllocError> {
             return Ok(false);
         }
     }
-    Ok(same_kinds(&case, &arcs))
+    Ok(same_kinds(&case, &arcs) && arcs.root() == root && arcs.vertices() == 6)
 }
 
 #[test]

@@ -1,4 +1,4 @@
-use Rattle.std.proofs.Common.{ℕ, zero, suc, ◌+◌, ◌<◌, Bool, false, List, [], ◌∷◌, filter, get_or, sym, subst, arith, rules}
+use Rattle.std.proofs.Common.{ℕ, zero, suc, Bool, false, List, [], ◌∷◌, filter, get_or, sym, subst, arith, rules}
 use Rattle.std.specs.List.Sorted.{IsStrictlyIncreasing}
 use Rattle.std.proofs.lemmas.List.Elements.{All-filter, All-from_recursion}
 use Rattle.std.proofs.lemmas.List.Kept.{IsStrictlyIncreasing-filter}
