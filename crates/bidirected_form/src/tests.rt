@@ -3,6 +3,10 @@ ghost use Rattle.st_model.specs.Branch.{IsVertexSet};
 ghost use Rattle.st_model.specs.Lists.{has};
 ghost use Rattle.bidirected_form.specs.Digraph.{remaining};
 
+mod brute_force;
+mod drawn;
+mod plain;
+
 use crate::{Arc, Arcs, VertexKind};
 use graph_store::Store;
 use st_model::{Branch, Instance, Link, Listed, Need};
@@ -103,6 +107,7 @@ fn charge(
 ) -> Result<Vec<(u32, u32)>, AllocError>
     requires set { IsVertexSet arcs.old.n set.now }
     requires root { IsFalse (has set.now arcs.old.root) }
+    ensures { arcs.new.n ≡ arcs.old.n }
 {
     let entering = arcs.entering(alloc, set)?;
     if all_bear(arcs, &entering, y) {

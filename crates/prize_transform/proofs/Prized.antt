@@ -1,17 +1,17 @@
 -- The vertices that may be left out, one more at a time.
-use Rattle.std.proofs.Common.{◌≡◌, ℕ, zero, suc, ◌+◌, ◌-◌, ◌<◌, ◌≤◌, Bool, true, false, ◌||◌, eqb, List, [], ◌∷◌, ◌++◌, length, get_or, map, filter, cond, inl, inr, ◌⊎◌, refl, sym, ap, ◌∙◌, subst, arith, add-one}
-use Rattle.std.specs.Prelude.{All, IsTrue, IsFalse, nat_lt}
-use Rattle.std.specs.List.{AllByRecursion, list_any}
-use Rattle.std.proofs.lemmas.Bool.{cases_lt, eq-eqb, eqb-true, false≢true, or_left, or_right}
+use Rattle.std.proofs.Common.{◌≡◌, ℕ, zero, suc, ◌+◌, ◌<◌, ◌≤◌, Bool, true, false, ◌||◌, eqb, List, [], ◌∷◌, ◌++◌, length, get_or, map, filter, cond, inl, inr, ◌⊎◌, refl, sym, ap, ◌∙◌, subst, arith}
+use Rattle.std.specs.Prelude.{All, IsTrue, nat_lt}
+use Rattle.std.specs.List.{AllByRecursion}
+use Rattle.std.proofs.lemmas.Bool.{cases_lt, eq-eqb, false≢true, or_left, or_right}
 use Rattle.std.proofs.lemmas.Bool.Decides.{nat_tests}
-use Rattle.std.proofs.lemmas.List.{length_push, length-append, get_or_past, get_or_append_left, get_or_push, append-nil}
+use Rattle.std.proofs.lemmas.List.{length-append, get_or_past, get_or_append_left, get_or_push, append-nil}
 use Rattle.std.proofs.lemmas.List.Elements.{All-from_recursion, recursion_from_All, All-filter, All-push, filter-append}
 use Rattle.st_model.specs.Lists.{has, up_to}
 use Rattle.st_model.specs.Network.{IsVertex}
 use Rattle.st_model.proofs.Marked.{has-push}
 use Rattle.bidirected_form.specs.declared.kind.VertexKind.TheVariants.{Outside}
-use Rattle.bidirected_form.specs.Digraph.{Digraph, IsDigraph, kind_of}
-use Rattle.prize_transform.specs.Twins.{Ends, AreTwins, numbered_from, has_end, prize_in, prize_for, prized, left_of}
+use Rattle.bidirected_form.specs.Digraph.{Digraph, IsDigraph}
+use Rattle.prize_transform.specs.Twins.{AreTwins, numbered_from, has_end, prize_in, prize_for}
 use Rattle.prize_transform.proofs.Numbered.{has-filter}
 
 -- whether v may be left out for more than 0

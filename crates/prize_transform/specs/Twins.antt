@@ -1,5 +1,5 @@
 -- Ends of vertices that may be left out, and what is left of their prizes.
-use Rattle.std.specs.Prelude.{◌≡◌, ◌≢◌, ℕ, ◌+◌, ◌-◌, ◌<◌, ◌≤◌, ◌==◌, Bool, false, IsTrue, nat_lt, if◌then◌else◌, List, [], ◌∷◌, length, map, filter, All, slice_index_or, slice_set}
+use Rattle.std.specs.Prelude.{◌≡◌, ℕ, ◌+◌, ◌-◌, ◌≤◌, ◌==◌, Bool, false, nat_lt, if◌then◌else◌, List, [], ◌∷◌, length, map, filter, All, slice_index_or}
 use Rattle.std.specs.List.{list_any}
 use Rattle.st_model.specs.Lists.{up_to}
 use Rattle.st_model.specs.Network.{IsVertex}

@@ -1,6 +1,8 @@
-ghost use Rattle.std.specs.Prelude.{◌≡◌, IfSome, IsTrue};
+ghost use Rattle.std.specs.Prelude.{◌≡◌, IfSome, OnSome, IsTrue};
 ghost use Rattle.st_model.specs.Lists.{has};
 ghost use Rattle.prize_transform.specs.Twins.{has_end, is_end, vertex_of};
+
+mod brute_force;
 
 use crate::Twins;
 use bidirected_form::Arcs;
@@ -34,6 +36,13 @@ fn ends_at(twins: &Twins, q: u32) -> bool
     twins.ends().iter().any(|end| end.1 == q)
 }
 
+// Charges a vertex, if it has an end and as much is left.
+fn charge(twins: &mut Twins, q: u32, y: u64) {
+    if ends_at(twins, q) && twins.left(q) >= y {
+        twins.charge(q, y);
+    }
+}
+
 #[test]
 fn charges_the_one_end(rt: HostRuntime) -> Result<(), Fail> {
     let mut twins = pair(rt.alloc())?;
@@ -41,55 +50,57 @@ fn charges_the_one_end(rt: HostRuntime) -> Result<(), Fail> {
     assert_eq!(rt; twins.left(1), 3);
     assert_eq!(rt; twins.left(2), 0);
     assert!(rt; ends_at(&twins, 1) && !ends_at(&twins, 2));
-    if ends_at(&twins, 1) && twins.left(1) >= 2 {
-        twins.charge(1, 2);
-    }
+    charge(&mut twins, 1, 2);
     assert_eq!(rt; twins.left(1), 1);
     assert_eq!(rt; twins.left(2), 0);
     Ok(())
 }
 
-// Goes back from an end, where the set holds the end and its vertex.
+// The vertex of an end, if this is one.
+fn vertex_at(ends: &[(u32, u32)], end: u32) -> Option<u32>
+    ensures end { OnSome result (IsTrue (is_end ends.now end)) }
+    ensures vertex { IfSome result (λ q. q ≡ vertex_of ends.now end) }
+{
+    match ends {
+        [] => None,
+        [first, rest @ ..] => {
+            if first.0 == end {
+                Some(first.1)
+            } else {
+                vertex_at(rest, end)
+            }
+        }
+    }
+}
+
+fn holds(list: &[u32], vertex: u32) -> bool
+    ensures { result ≡ has list.now vertex }
+{
+    list.contains(&vertex)
+}
+
+// Goes back from an end, where the list holds the end and its vertex.
 fn go_back(
     alloc: Global,
     twins: &Twins,
-    set: &[u32],
+    list: &[u32],
     end: u32,
-    q: u32,
-) -> Result<Option<(Vec<u32>, u32)>, AllocError>
-    requires end { IsTrue (is_end twins.now.ends end) }
-    requires vertex { vertex_of twins.now.ends end ≡ q }
-{
-    if holds(set, end) && holds(set, q) {
-        return Ok(Some(twins.back(alloc, set, end)?));
+) -> Result<Option<(Vec<u32>, u32)>, AllocError> {
+    match vertex_at(twins.ends(), end) {
+        Some(q) if holds(list, end) && holds(list, q) => Ok(Some(twins.back(alloc, list, end)?)),
+        _ => Ok(None),
     }
-    Ok(None)
-}
-
-fn holds(set: &[u32], vertex: u32) -> bool
-    ensures { result ≡ has set.now vertex }
-{
-    set.contains(&vertex)
-}
-
-// The number of the first end, and its vertex.
-fn first_end(twins: &Twins) -> Option<(u32, u32)>
-    ensures { IfSome result (λ end. IsTrue (is_end twins.now.ends end.0) × (vertex_of twins.now.ends end.0 ≡ end.1)) }
-{
-    twins.ends().first().copied()
 }
 
 #[test]
 fn goes_back_to_the_vertex(rt: HostRuntime) -> Result<(), Fail> {
     let twins = pair(rt.alloc())?;
-    if let Some((end, q)) = first_end(&twins) {
-        let back = go_back(rt.alloc(), &twins, &[1, 3], end, q)?;
-        if let Some((set, vertex)) = back {
+    match go_back(rt.alloc(), &twins, &[1, 3], 3)? {
+        Some((set, vertex)) => {
             assert_eq!(rt; set.as_slice(), [1].as_slice());
             assert_eq!(rt; vertex, 1);
-            return Ok(());
         }
+        None => assert!(rt; false, "3 is an end"),
     }
-    assert!(rt; false);
     Ok(())
 }

@@ -1,4 +1,4 @@
-use Rattle.std.proofs.Common.{sym, ap, subst, arith}
+use Rattle.std.proofs.Common.{sym, subst, arith}
 use Rattle.std.specs.Prelude.{IsTrue}
 use Rattle.prize_transform.specs.Twins.{Ends, has_end}
 use Rattle.prize_transform.proofs.Numbered.{with_end}

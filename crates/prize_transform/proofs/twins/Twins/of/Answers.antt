@@ -1,6 +1,6 @@
-use Rattle.std.proofs.Common.{◌≡◌, ℕ, ◌+◌, ◌≤◌, ◌∙◌, List, [], ◌∷◌, ◌++◌, length, get_or, sym, ap, refl, subst, arith}
+use Rattle.std.proofs.Common.{◌≡◌, ℕ, ◌+◌, ◌∙◌, [], ◌∷◌, length, get_or, sym, ap, refl, subst, arith}
 use Rattle.std.proofs.lemmas.List.{length_push}
-use Rattle.prize_transform.specs.Twins.{Ends, AreTwins, prize_in, numbered_from}
+use Rattle.prize_transform.specs.Twins.{prize_in, numbered_from}
 use Rattle.prize_transform.proofs.Prized.{ends_next, left_next, left_all, few_prized, length-numbered, prized_to, prize_at_none, made_twins}
 use Rattle.prize_transform.proofs.twins.Twins.of.Goals as goal
 

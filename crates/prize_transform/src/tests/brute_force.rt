@@ -1,0 +1,212 @@
+ghost use Rattle.std.specs.Prelude.{◌≡◌, ◌≤◌, IfOk, slice_index_or};
+ghost use Rattle.st_model.specs.Network.{IsVertex, prize};
+
+use super::{charge, go_back};
+use crate::Twins;
+use bidirected_form::Arcs;
+use graph_store::Store;
+use st_model::{Branch, Instance, Listed, Need};
+use std::alloc::{AllocError, Global};
+use std::test::Fail;
+
+// Numbers that look random: a linear congruence modulo 2^64, its high bits.
+#[derive(Drop)]
+struct Draws {
+    state: u64,
+}
+
+impl Draws {
+    fn below_ten(&mut self) -> u64
+        ensures { result ≤ 9 }
+    {
+        self.state = self
+            .state
+            .wrapping_mul(6_364_136_223_846_793_005)
+            .wrapping_add(1_442_695_040_888_963_407);
+        (self.state >> 33) % 10
+    }
+
+    // Required in two of ten cases, else a prize of 0 to 9.
+    fn need(&mut self) -> Need
+        ensures { prize result ≤ 9 }
+    {
+        if self.below_ten() < 2 {
+            Need::Required
+        } else {
+            Need::Pays(self.below_ten())
+        }
+    }
+
+    fn instance(&mut self, alloc: Global) -> Result<Instance, AllocError>
+        ensures { IfOk result (λ instance. instance.n ≡ 6) }
+    {
+        let needs = [
+            (1, self.need()),
+            (2, self.need()),
+            (3, self.need()),
+            (4, self.need()),
+            (5, self.need()),
+            (6, self.need()),
+        ];
+        Instance::build(alloc, 6, &[], &needs)
+    }
+
+    // So many numbers from 1 to 10, some of them more than once.
+    fn numbers(&mut self, alloc: Global, count: u32) -> Result<Vec<u32>, AllocError> {
+        let mut numbers = Vec::new(alloc);
+        for _turn in 0..count {
+            numbers.push(self.below_ten() as u32 + 1)?;
+        }
+        Ok(numbers)
+    }
+
+    // A list with an end and its vertex among drawn numbers.
+    fn list_with(&mut self, alloc: Global, end: u32, q: u32) -> Result<Vec<u32>, AllocError> {
+        let mut list = self.numbers(alloc, 3)?;
+        list.push(end)?;
+        list.extend_from_slice(&self.numbers(alloc, 3)?)?;
+        list.push(q)?;
+        list.extend_from_slice(&self.numbers(alloc, 2)?)?;
+        Ok(list)
+    }
+}
+
+// The twins of an instance where one drawn number is inside and one is outside, and the prize of
+// each vertex that may be left out for more than 0.
+fn drawn(alloc: Global, draws: &mut Draws) -> Result<(Twins, Vec<(u32, u64)>), AllocError> {
+    let instance = draws.instance(alloc)?;
+    let branch = Branch {
+        inside: Listed::of(draws.numbers(alloc, 1)?),
+        outside: Listed::of(draws.numbers(alloc, 1)?),
+    };
+    let store = Store::of(alloc, &instance)?;
+    let arcs = Arcs::of(alloc, &store, &branch, 1)?;
+    let twins = Twins::of(alloc, &arcs)?;
+    Ok((twins, plain_prizes(alloc, &instance, &branch)?))
+}
+
+fn plain_prize(instance: &Instance, branch: &Branch, v: u32) -> u64
+    requires { IsVertex instance.now.n v }
+{
+    let is_decided = branch.inside.as_slice().contains(&v)
+        || branch.outside.as_slice().contains(&v);
+    match instance.need(v) {
+        Need::Pays(prize) if !is_decided => prize,
+        Need::Pays(_) | Need::Required => 0,
+    }
+}
+
+fn plain_prizes(
+    alloc: Global,
+    instance: &Instance,
+    branch: &Branch,
+) -> Result<Vec<(u32, u64)>, AllocError> {
+    let mut prizes = Vec::new(alloc);
+    for before in 0..instance.vertices() {
+        let prize = plain_prize(instance, branch, before + 1);
+        if prize > 0 {
+            prizes.push((before + 1, prize))?;
+        }
+    }
+    Ok(prizes)
+}
+
+// Each end with its vertex; they are numbered from 7 on, for there are six vertices.
+fn plain_ends(alloc: Global, prizes: &[(u32, u64)]) -> Result<Vec<(u32, u32)>, AllocError> {
+    let mut ends = Vec::new(alloc);
+    let mut number = 7u32;
+    for (q, _) in prizes {
+        ends.push((number, *q))?;
+        number = number.wrapping_add(1);
+    }
+    Ok(ends)
+}
+
+fn plain_left(prizes: &[(u32, u64)], v: u32) -> u64 {
+    for (q, left) in prizes {
+        if *q == v {
+            return *left;
+        }
+    }
+    0
+}
+
+fn lower(prizes: &mut [(u32, u64)], v: u32, y: u64) {
+    for (q, left) in prizes.iter_mut() {
+        if *q == v {
+            *left = left.saturating_sub(y);
+        }
+    }
+}
+
+fn plain_vertices(alloc: Global, list: &[u32]) -> Result<Vec<u32>, AllocError> {
+    let mut vertices = Vec::new(alloc);
+    for v in list {
+        if *v <= 6 {
+            vertices.push(*v)?;
+        }
+    }
+    Ok(vertices)
+}
+
+fn same_left(twins: &Twins, prizes: &[(u32, u64)]) -> bool {
+    for v in 0..10u32 {
+        if twins.left(v) != plain_left(prizes, v) {
+            return false;
+        }
+    }
+    true
+}
+
+// Whether each end goes back from a drawn list as in the plain program.
+fn same_back(
+    alloc: Global,
+    draws: &mut Draws,
+    twins: &Twins,
+    ends: &[(u32, u32)],
+) -> Result<bool, AllocError> {
+    for (end, q) in ends {
+        let list = draws.list_with(alloc, *end, *q)?;
+        let plain = plain_vertices(alloc, &list)?;
+        match go_back(alloc, twins, &list, *end)? {
+            Some((vertices, vertex)) if vertex == *q && vertices.as_slice() == plain.as_slice() =>
+                {}
+            _ => return Ok(false),
+        }
+    }
+    Ok(true)
+}
+
+// Whether what is left after drawn charges is as in the plain program.
+fn same_charges(draws: &mut Draws, twins: &mut Twins, prizes: &mut [(u32, u64)]) -> bool {
+    for _turn in 0..9 {
+        let q = draws.below_ten() as u32 + 1;
+        let y = draws.below_ten().min(plain_left(prizes, q));
+        charge(twins, q, y);
+        lower(prizes, q, y);
+        if !same_left(twins, prizes) {
+            return false;
+        }
+    }
+    true
+}
+
+fn agrees(alloc: Global, seed: u64) -> Result<bool, AllocError> {
+    let mut draws = Draws { state: seed };
+    let (mut twins, mut prizes) = drawn(alloc, &mut draws)?;
+    let ends = plain_ends(alloc, &prizes)?;
+    Ok(
+        twins.ends() == ends.as_slice()
+            && same_left(&twins, &prizes)
+            && same_charges(&mut draws, &mut twins, &mut prizes)
+            && same_back(alloc, &mut draws, &twins, &ends)?,
+    )
+}
+
+#[test]
+fn agrees_with_a_plain_program(rt: HostRuntime) -> Result<(), Fail> {
+    for seed in 0..20u64 {
+        assert!(rt; agrees(rt.alloc(), seed)?, "with seed {seed}");
+    }
+    Ok(())
+}
