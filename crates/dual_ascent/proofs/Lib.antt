@@ -3,3 +3,9 @@ pub mod OpenVertices
 pub mod Joined
 pub mod ChargedCuts
 pub mod Extended
+pub mod Reaching
+pub mod SoFar
+pub mod Bordering
+pub mod Queued
+pub mod Fresh
+pub mod Turned

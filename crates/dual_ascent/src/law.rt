@@ -1,7 +1,11 @@
-ghost use Rattle.dual_ascent.specs.Laws.{JoinedIsFull};
+ghost use Rattle.dual_ascent.specs.Laws.{JoinedFits, JoinedIsFull};
 
-/// The cuts of an ascent behind those of a packing that was charged before are full, where the
-/// ascent ended because all is reached.
+/// The cuts of an ascent behind those of a packing that was charged before fit the branch.
+pub fn joined_fits()
+    ensures { JoinedFits }
+{}
+
+/// They are full, where the ascent ended because all is reached.
 pub fn joined_is_full()
     ensures { JoinedIsFull }
 {}

@@ -7,15 +7,22 @@
 #![tactic(auto)]
 
 mod ascending;
+#[cfg(test)]
+mod ascending_tests;
 mod ascent;
+mod border;
 mod charging;
 mod extension;
+mod growing;
 mod law;
+mod raising;
 #[cfg(test)]
 mod tests;
+mod turning;
+mod waiting;
 
 pub use ascending::ascend;
 pub use ascent::Ascent;
 pub use charging::charge_cuts;
 pub use extension::{Extension, extend};
-pub use law::joined_is_full;
+pub use law::{joined_fits, joined_is_full};
