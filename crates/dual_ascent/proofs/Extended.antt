@@ -26,7 +26,7 @@ use Rattle.dual_ascent.specs.Laws.{joined, IsRaised}
 use Rattle.dual_ascent.proofs.ChargedCuts.{lowered_twice}
 use Rattle.dual_ascent.proofs.OpenVertices.{open_vertex, open_present, open_in_range, must_certain, may_free}
 use Rattle.dual_ascent.proofs.Raised.{raises_sets}
-use Rattle.dual_ascent.proofs.Joined.{packed_apart, joined_fits_lem, joined_full}
+use Rattle.dual_ascent.proofs.Joined.{packed_apart, together_fit, joined_full}
 
 -- cuts that all name other vertices don't name v
 named_none : (v : ℕ) (cuts : List Cut) → AllByRecursion (λ c. c.q ≢ v) cuts → named cuts v ≡ 0
@@ -90,7 +90,7 @@ module _ (g : Graph) (B : Branch) (P : Packing) (root : ℕ) (graph : IsGraph g)
     }
 
     both_fit : Fits g.network B (joined P A) × (weight g.network B (joined P A) ≡ weight g.network B P + raised A.cuts)
-    both_fit = joined_fits_lem g B P D E target A raised_is graph (rw is_root rooted.vertex)
+    both_fit = together_fit g B P D E target A raised_is graph (rw is_root rooted.vertex)
 
     both_extend : length (joined P A).cuts < 2 ^ 64 → IsExtended g.network B P (joined P A) root
     both_extend few = record {

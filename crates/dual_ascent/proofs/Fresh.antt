@@ -1,5 +1,5 @@
 -- A cut over arcs and prizes as they are, with none before it.
-use Rattle.std.proofs.Common.{◌≡◌, ◌≢◌, ℕ, zero, suc, ◌+◌, ◌<◌, ◌≤◌, Bool, true, false, ◌&&◌, not, List, [], ◌∷◌, length, get_or, min, Some, ◌⊎◌, inl, inr, refl, sym, ap, ◌∙◌, subst, arith}
+use Rattle.std.proofs.Common.{◌≡◌, ◌≢◌, ℕ, ◌+◌, ◌<◌, ◌≤◌, not, List, [], get_or, Some, ◌⊎◌, inl, inr, refl, sym, ap, ◌∙◌, subst, arith}
 use Rattle.std.specs.Prelude.{IsTrue, IsFalse, All, nat_lt}
 use Rattle.std.specs.List.Sorted.{IsStrictlyIncreasing}
 use Rattle.std.proofs.lemmas.Bool.{false≢true, and_parts, not-true, cases_lt, lt-ltb}
@@ -10,12 +10,12 @@ use Rattle.bidirected_form.specs.declared.kind.VertexKind.{VertexKind}
 use Rattle.bidirected_form.specs.declared.kind.VertexKind.TheVariants.{Outside, Must, May}
 use Rattle.bidirected_form.specs.Digraph.{Digraph, IsDigraph, kind_of, remaining}
 use Rattle.bidirected_form.specs.Entering.{enters, CanBear}
-use Rattle.prize_transform.specs.Twins.{Ends, left_of, prize_in, prized, numbered_from, has_end}
+use Rattle.prize_transform.specs.Twins.{Ends, left_of, prize_in, prized, has_end}
 use Rattle.prize_transform.proofs.Numbered.{has-filter}
 use Rattle.prize_transform.proofs.Prized.{has_end-numbered, has_up_to}
 use Rattle.cut_packing.specs.declared.cut.Cut.{Cut}
 use Rattle.dual_ascent.specs.Left.{AreEndsOf}
-use Rattle.dual_ascent.specs.Raises.{IsUsedUp, Reaches, IsOpen, UsesUpAnArc, ReachesTarget, SpendsThePrize, IsLeast, IsRaise, here, there}
+use Rattle.dual_ascent.specs.Raises.{Reaches, IsOpen, UsesUpAnArc, ReachesTarget, SpendsThePrize, IsLeast, IsRaise, here, there}
 use Rattle.dual_ascent.specs.Turns.{HasAnArcLeft, IsGrown, IsLimit}
 use Rattle.dual_ascent.proofs.Reaching.{reaches_in_range}
 

@@ -106,8 +106,8 @@ module _ (g : Graph) (B : Branch) (P : Packing) (D : Digraph) (E : Ends) (target
       reach : (v : ℕ) → IsOpen D E A.cuts v → IsReached g.network B (joined P A) D.root v
       reach v is_open_at = walked D.root v D.root (all v is_open_at) at_root
 
-  pub joined_fits_lem : IsGraph g → IsVertex g.network.n D.root → Fits g.network B (joined P A) × (weight g.network B (joined P A) ≡ weight g.network B P + raised A.cuts)
-  joined_fits_lem graph vertex = (
+  pub together_fit : IsGraph g → IsVertex g.network.n D.root → Fits g.network B (joined P A) × (weight g.network B (joined P A) ≡ weight g.network B P + raised A.cuts)
+  together_fit graph vertex = (
     record {
       root = rw h.same root_fits;
       cuts = All-append (CutFits g.network B) P.cuts A.cuts h.fits.cuts (each_cut (CutFits g.network B) A.cuts (λ before c after e. cut_fits before c (h.raises before c after e)));

@@ -1,20 +1,19 @@
 -- Who waits, from turn to turn.
-use Rattle.std.proofs.Common.{◌≡◌, ◌≢◌, ℕ, zero, suc, ◌+◌, ◌-◌, ◌<◌, ◌≤◌, Bool, true, false, ◌||◌, eqb, List, [], ◌∷◌, ◌++◌, length, get_or, Option, Some, None, ◌⊎◌, inl, inr, refl, sym, ap, ◌∙◌, subst, arith}
-use Rattle.std.specs.Prelude.{IsTrue, IsFalse, if◌then◌else◌, ◌==◌, All, IsPermutation, IfSome}
-use Rattle.std.specs.List.{HoldsAt, list_any}
+use Rattle.std.proofs.Common.{◌≡◌, ◌≢◌, ℕ, ◌+◌, ◌-◌, ◌<◌, ◌≤◌, Bool, true, false, ◌||◌, List, [], ◌∷◌, ◌++◌, length, get_or, Option, Some, None, ◌⊎◌, inl, inr, refl, sym, ap, ◌∙◌, subst, arith}
+use Rattle.std.specs.Prelude.{IsTrue, if◌then◌else◌, ◌==◌, All, IsPermutation, IfSome}
+use Rattle.std.specs.List.{HoldsAt}
 use Rattle.std.specs.Option.{option_map}
 use Rattle.std.proofs.lemmas.Bool.{false≢true, eqb-true, eq-eqb, or_cases, or_left, or_right, cases_eq, ne_eqb, cases_lt}
 use Rattle.std.proofs.lemmas.List.{get_or_past, get_or_append_left, get_or_push, length_push}
 use Rattle.std.proofs.lemmas.List.Elements.{All-nil, All-cons, All-tail, All-head, All-weaker}
 use Rattle.std.proofs.lemmas.List.Sorted.{All-permutation, list_any-IsPermutation}
-use Rattle.st_model.specs.Lists.{has}
 use Rattle.st_model.specs.Network.{IsVertex}
 use Rattle.st_model.proofs.Marked.{has_at}
 use Rattle.bidirected_form.specs.declared.kind.VertexKind.{VertexKind}
 use Rattle.bidirected_form.specs.declared.kind.VertexKind.TheVariants.{Outside, Must, May}
-use Rattle.bidirected_form.specs.Digraph.{Digraph, IsDigraph, kind_of, remaining}
+use Rattle.bidirected_form.specs.Digraph.{Digraph, IsDigraph, kind_of}
 use Rattle.bidirected_form.specs.Entering.{enters, Charges}
-use Rattle.prize_transform.specs.Twins.{Ends, left_of, prize_in, prize_for}
+use Rattle.prize_transform.specs.Twins.{Ends, left_of, prize_for}
 use Rattle.cut_packing.specs.declared.cut.Cut.{Cut}
 use Rattle.dual_ascent.specs.declared.waiting.Waiting.{Waiting}
 use Rattle.dual_ascent.specs.Left.{AreEndsOf}

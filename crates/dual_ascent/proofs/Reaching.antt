@@ -1,7 +1,7 @@
 -- What reaches a vertex over arcs with nothing left.
-use Rattle.std.proofs.Common.{◌≡◌, ℕ, zero, suc, ◌+◌, ◌<◌, ◌≤◌, Bool, true, false, cond, ◌||◌, eqb, List, [], ◌∷◌, ◌++◌, length, get_or, take, map, Some, None, ◌⊎◌, inl, inr, refl, sym, ap, ◌∙◌, subst, arith}
-use Rattle.std.specs.Prelude.{IsTrue, if◌then◌else◌, ◌==◌, ◌↔◌, All, slice_get}
-use Rattle.std.proofs.lemmas.Bool.{false≢true, eqb-true, eq-eqb, ne_eqb, or_cases, or_left, or_right}
+use Rattle.std.proofs.Common.{◌≡◌, ℕ, zero, suc, ◌+◌, ◌<◌, ◌≤◌, Bool, true, false, cond, eqb, List, [], ◌∷◌, ◌++◌, length, get_or, take, map, Some, refl, sym, ap, ◌∙◌, subst, arith}
+use Rattle.std.specs.Prelude.{IsTrue, if◌then◌else◌, ◌==◌, All, slice_get}
+use Rattle.std.proofs.lemmas.Bool.{false≢true, eqb-true, eq-eqb, ne_eqb, or_left, or_right}
 use Rattle.std.proofs.lemmas.List.{take_at, take_all, get_or_push, length_push, append-nil}
 use Rattle.std.proofs.lemmas.List.Elements.{All-nil, All-cons, All-append, All-weaker, recursion_from_All}
 use Rattle.st_model.specs.Lists.{has}
@@ -10,7 +10,7 @@ use Rattle.bidirected_form.specs.declared.arc.Arc.{Arc}
 use Rattle.bidirected_form.specs.Digraph.{Digraph, IsDigraph, arcs_into, left_from, remaining}
 use Rattle.bidirected_form.proofs.Lookups.{Rise, Rise-rest, left_from-found}
 use Rattle.cut_packing.specs.declared.cut.Cut.{Cut}
-use Rattle.cut_packing.specs.Led.{Extends, IsLed, AreLed, heads_at, start, along}
+use Rattle.cut_packing.specs.Led.{Extends, IsLed, AreLed, start, along}
 use Rattle.st_model.proofs.Marked.{at_member}
 use Rattle.cut_packing.proofs.Walked.{Extends-insert, IsWalked, IsWalked-step, AreLed-done}
 use Rattle.dual_ascent.specs.Raises.{IsUsedUp, Reaches, here, there}

@@ -1,7 +1,6 @@
 -- Whose turn it is, and that all others wait on.
-use Rattle.std.proofs.Common.{◌≡◌, ℕ, Bool, ◌||◌, List, [], ◌∷◌, ◌⊎◌, inl, inr, sym, ap, ◌∙◌, subst, arith}
-use Rattle.std.specs.Prelude.{IsTrue, ◌==◌, All, IsPermutation, IfSome, ◌↔◌}
-use Rattle.std.specs.List.{list_any}
+use Rattle.std.proofs.Common.{ℕ, ◌||◌, List, [], ◌∷◌, inl, inr, sym, ap, ◌∙◌}
+use Rattle.std.specs.Prelude.{IsTrue, ◌==◌, All, IsPermutation, ◌↔◌}
 use Rattle.std.proofs.lemmas.List.Elements.{All-cons, All-tail, All-head}
 use Rattle.std.proofs.lemmas.List.Sorted.{All-permutation, list_any-IsPermutation}
 use Rattle.st_model.specs.Lists.{has}
@@ -9,7 +8,7 @@ use Rattle.bidirected_form.specs.Digraph.{Digraph}
 use Rattle.cut_packing.specs.declared.cut.Cut.{Cut}
 use Rattle.dual_ascent.specs.declared.waiting.Waiting.{Waiting}
 use Rattle.dual_ascent.specs.Raises.{Reaches}
-use Rattle.dual_ascent.specs.Turns.{IsWaiting, Entry, waits, AreWaiting, KeepsWaiting, IsSameVertex, IsTurn}
+use Rattle.dual_ascent.specs.Turns.{IsWaiting, Entry, waits, KeepsWaiting, IsSameVertex, IsTurn}
 
 -- in another order the same wait
 pub keeps_moved : (D : Digraph) (cuts : List Cut) (old new : List Entry) → IsPermutation old new → KeepsWaiting D cuts old new

@@ -2,7 +2,8 @@
 use Rattle.std.specs.Prelude.{◌≡◌, ℕ, ◌+◌, ◌++◌, ◌⊎◌, IsTrue, [], Some}
 use Rattle.st_model.specs.declared.branch.Branch.{Branch}
 use Rattle.st_model.specs.Branch.{IsBranch, LeavesRequired, is_certain}
-use Rattle.graph_store.specs.Graph.{Graph}
+use Rattle.st_model.specs.Network.{IsVertex}
+use Rattle.graph_store.specs.Graph.{Graph, IsGraph}
 use Rattle.bidirected_form.specs.Digraph.{Digraph}
 use Rattle.prize_transform.specs.Twins.{Ends}
 use Rattle.cut_packing.specs.declared.packing.Packing.{Packing}
@@ -31,7 +32,7 @@ pub record IsRaised (g : Graph) (B : Branch) (P : Packing) (D : Digraph) (E : En
 
 -- together they fit the branch, and weigh what both weigh
 abbrev pub JoinedFits : Type 0
-JoinedFits = (g : Graph) (B : Branch) (P : Packing) (D : Digraph) (E : Ends) (target : ℕ) (A : Packing) → IsRaised g B P D E target A
+JoinedFits = (g : Graph) (B : Branch) (P : Packing) (D : Digraph) (E : Ends) (target : ℕ) (A : Packing) → IsGraph g → IsVertex g.network.n D.root → IsRaised g B P D E target A
     → Fits g.network B (joined P A) × (weight g.network B (joined P A) ≡ weight g.network B P + raised A.cuts)
 
 -- where the raises end because all is reached, both together are full

@@ -1,10 +1,9 @@
-use Rattle.std.proofs.Common.{◌≡◌, ◌∙◌, ℕ, ◌+◌, ◌-◌, ◌++◌, ◌∷◌, [], List, length, Some, ap, refl, sym, subst, arith}
+use Rattle.std.proofs.Common.{◌≡◌, ◌∙◌, ℕ, ◌+◌, ◌∷◌, length, Some, ap, refl, sym, subst, arith}
 use Rattle.std.specs.BinaryHeap.{heap_items}
 use Rattle.std.proofs.lemmas.List.Sorted.{IsPermutation-refl}
-use Rattle.cut_packing.specs.declared.cut.Cut.{Cut}
-use Rattle.dual_ascent.specs.Turns.{Entry, AreWaiting, IsWaiting}
+use Rattle.dual_ascent.specs.Turns.{AreWaiting}
 use Rattle.dual_ascent.proofs.Queued.{none_waiting, waiting_past, waiting_again}
-use Rattle.dual_ascent.proofs.SoFar.{AreSoFar, none_so_far, one_more, ends_now, ends_reached, ends_full}
+use Rattle.dual_ascent.proofs.SoFar.{one_more, ends_now, ends_full}
 use Rattle.dual_ascent.proofs.ascending.ascend.Goals as goal
 
 pub returns-in_default : goal.returns-in_default

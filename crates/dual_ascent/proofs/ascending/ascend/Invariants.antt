@@ -1,6 +1,5 @@
 use Rattle.std.proofs.Common.{◌≡◌, ◌+◌}
 use Rattle.std.specs.BinaryHeap.{heap_items, heap_len}
-use Rattle.bidirected_form.specs.Digraph.{Digraph}
 use Rattle.dual_ascent.specs.Turns.{AreWaiting}
 use Rattle.dual_ascent.proofs.SoFar.{AreSoFar}
 use Rattle.dual_ascent.proofs.ascending.ascend.Given as goal

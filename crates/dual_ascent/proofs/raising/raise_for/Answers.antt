@@ -1,4 +1,4 @@
-use Rattle.std.proofs.Common.{◌≡◌, ◌≤◌, ◌⊎◌, ◌∙◌, ℕ, sym, ap, subst}
+use Rattle.std.proofs.Common.{◌≡◌, ◌≤◌, ◌⊎◌, ℕ, sym, subst}
 use Rattle.std.specs.Prelude.{IsFalse}
 use Rattle.st_model.specs.Lists.{has}
 use Rattle.bidirected_form.specs.Entering.{CanBear}

@@ -1,4 +1,4 @@
-use Rattle.std.proofs.Common.{◌≡◌, ◌∙◌, ◌+◌, arith}
+use Rattle.std.proofs.Common.{◌∙◌, arith}
 use Rattle.std.specs.BinaryHeap.{heap_items}
 use Rattle.dual_ascent.proofs.Turned.{turn_after, keeps_back, all_back}
 use Rattle.dual_ascent.proofs.turning.next_fresh.Goals as goal
