@@ -1,19 +1,15 @@
 -- What holds at the start of a search, and at its end.
-use Rattle.std.proofs.Common.{◌≡◌, ℕ, ◌+◌, ◌^◌, ◌<◌, ◌≤◌, ◌⊎◌, inl, inr, Bool, true, false, cond, not, List, [], ◌∷◌, Option, Some, None, Result, Ok, Err, length, refl, sym, ap, take, take_all, subst, ◌∙◌, arith}
-use Rattle.std.specs.Prelude.{IsTrue, IfSome, IfOk, All}
+use Rattle.std.proofs.Common.{◌≡◌, ℕ, ◌+◌, ◌^◌, ◌<◌, ◌≤◌, ◌⊎◌, inl, inr, List, [], ◌∷◌, Option, Some, None, Result, Ok, Err, length, refl, sym, ap, subst, ◌∙◌, arith}
+use Rattle.std.specs.Prelude.{IfSome, IfOk, All}
 use Rattle.std.proofs.lemmas.Bool.{false≢true}
 use Rattle.std.proofs.lemmas.List.Elements.{All-cons, All-nil}
 use Rattle.st_model.specs.declared.branch.Branch.{Branch}
 use Rattle.st_model.specs.declared.tree.Tree.{Tree}
-use Rattle.st_model.specs.Lists.{has, sum_to, total}
+use Rattle.st_model.specs.Lists.{sum_to}
 use Rattle.st_model.specs.Network.{Network, IsInstance, IsVertex, link, pays}
-use Rattle.st_model.specs.Arborescence.{IsArborescence, IsTree, cost, arc_cost, reached}
-use Rattle.st_model.proofs.Sums.{sum_to_same}
-use Rattle.st_model.proofs.Costs.{links_fit, missed_le_prizes}
-use Rattle.st_model.specs.Branch.{LeavesRequired}
-use Rattle.level_packing.specs.Forest.{IsPresent}
+use Rattle.st_model.specs.Arborescence.{IsTree, cost}
 use Rattle.cut_packing.specs.declared.packing.Packing.{Packing}
-use Rattle.cut_packing.specs.Packing.{CutFits, outside_pays, weight}
+use Rattle.cut_packing.specs.Packing.{CutFits}
 use Rattle.cut_packing.specs.ProofTree.{ProofTree, Proves}
 use Rattle.log_format.specs.declared.proof_line.ProofLine.{ProofLine}
 use Rattle.log_format.specs.Accepts.{AcceptsFound, all_trees}
@@ -28,7 +24,7 @@ use Rattle.split_search.proofs.Turns.{free_at_first, turns_below}
 use Rattle.split_search.proofs.Continuing.{continues_at_first, continues_at_last}
 use Rattle.split_search.proofs.Steps.{lowest_below}
 use Rattle.split_search.proofs.Proved.{one_proof, proved_below}
-use Rattle.split_search.proofs.Writing.{writable_tree}
+use Rattle.split_search.proofs.Writing.{cost_fits, writable_tree}
 
 -- all trees, with no cut
 abbrev first_node : Node
@@ -90,13 +86,6 @@ ends_spent I least first left lines dual k =
     let p = continues_at_last I dual least k.light lines k.continues in
     (p.proof, p.written, omega (arith, ap length p.weigh, k.few, k.more))
 
--- what a tree costs is below all that could be paid
-cost_fits : (I : Network) (t : Tree) → IsInstance I → IsArborescence I t → cost I t < 2 ^ 63
-cost_fits I t instance arborescence =
-    let fits = links_fit I (t.start ∷ []) t.arcs (length t.arcs) instance arborescence.grows in
-    let all : total (arc_cost I) (take (length t.arcs) t.arcs) ≡ total (arc_cost I) t.arcs = ap (total (arc_cost I)) (take_all (length t.arcs) t.arcs (omega arith)) in
-    omega (arith, fits, all, missed_le_prizes I (reached t))
-
 pub ends_writable : (I : Network) (best : Tree) (least : ℕ) (first : List ProofLine) (left : List Node) (lines : List ProofLine) (dual : ℕ) → IsInstance I → IsTree I best → least ≡ cost I best → IsClosing I least first left lines [] dual → IsWritableFound least dual best lines
 ends_writable I best least first left lines dual instance tree is_cost k = record {
   primal_fits = omega (arith, is_cost, cost_fits I best instance tree.arborescence);
@@ -128,16 +117,3 @@ searched I start budget lines waiting best least (Ok s) u no_worse paid ended ac
     by_case : (waiting ≡ []) ⊎ (length lines ≡ budget) → s.dual < s.primal → IsSpent budget I s.primal s.proof
     by_case (inl none) below = absurd (omega (arith, whole none, below))
     by_case (inr taken) below = (spent.0, spent.1, omega (arith, spent.2, taken))
-
--- a branch of which every vertex is outside closes by its weight
-pub none_present : (I : Network) (B : Branch) (P : Packing) (least : ℕ) → LeavesRequired I B → ((v : ℕ) → IsPresent I B v → ⊥) → (IsNobodyRequired I → least ≤ sum_to (pays I) I.n) → least ≤ weight I B P
-none_present I B P least leaves none cheap =
-    let all : sum_to (outside_pays I B) I.n ≡ sum_to (pays I) I.n = sum_to_same (outside_pays I B) (pays I) I.n (λ v low high. ap (λ b. cond b (pays I v) 0) (is_outside v (low, high))) in
-    omega (arith, all, cheap (λ v vertex. leaves v (is_outside v vertex)))
-  where
-    by_case : (v : ℕ) → IsVertex I.n v → (o : Bool) → has B.outside v ≡ o → o ≡ true
-    by_case v vertex true is = refl
-    by_case v vertex false is = absurd (none v (record { vertex = vertex; present = ap not is }))
-
-    is_outside : (v : ℕ) → IsVertex I.n v → IsTrue (has B.outside v)
-    is_outside v vertex = by_case v vertex (has B.outside v) refl

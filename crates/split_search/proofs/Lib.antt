@@ -4,6 +4,10 @@ pub mod Halving
 pub mod Turns
 pub mod Continuing
 pub mod Writing
+pub mod Those
+pub mod Heads
 pub mod Steps
+pub mod Extended
+pub mod Closed
 pub mod Proved
 pub mod Ending

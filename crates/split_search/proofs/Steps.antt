@@ -1,13 +1,12 @@
 -- Each step of a search keeps what holds between two nodes.
-use Rattle.std.proofs.Common.{◌≡◌, ℕ, ◌+◌, ◌<◌, ◌≤◌, Bool, true, false, cond, not, ltb, List, [], ◌∷◌, ◌++◌, length, min, append-nil, refl, sym, ap, subst, ◌∙◌, length-append, arith}
-use Rattle.std.specs.Prelude.{All}
+use Rattle.std.proofs.Common.{◌≡◌, ℕ, ◌+◌, ◌≤◌, Bool, true, false, cond, not, ltb, List, [], ◌∷◌, ◌++◌, length, min, Option, Some, None, append-nil, refl, sym, ap, subst, ◌∙◌, length-append, arith}
+use Rattle.std.specs.Prelude.{All, IfSome}
 use Rattle.std.proofs.lemmas.Bool.{and_parts, false≢true}
 use Rattle.std.proofs.lemmas.Bool.Decides.{nat_tests}
 use Rattle.std.proofs.lemmas.List.Elements.{All-append, All-cons, All-nil, All-head, All-tail}
 use Rattle.st_model.specs.declared.branch.Branch.{Branch}
 use Rattle.st_model.specs.declared.tree.Tree.{Tree}
 use Rattle.st_model.specs.Network.{Network, is_required}
-use Rattle.st_model.specs.Arborescence.{IsTree, cost}
 use Rattle.st_model.specs.Branch.{is_undecided, with_inside, with_outside}
 use Rattle.cut_packing.specs.declared.packing.Packing.{Packing}
 use Rattle.cut_packing.specs.Packing.{weight}
@@ -16,7 +15,9 @@ use Rattle.log_format.specs.declared.proof_line.ProofLine.{ProofLine}
 use Rattle.log_format.specs.declared.proof_line.ProofLine.TheVariants.{Split, Close}
 use Rattle.log_format.specs.Text.{IsWritableLine, IsWritablePacking}
 use Rattle.split_search.specs.declared.node.Node.{Node}
+use Rattle.split_search.specs.declared.step.Priced.{Priced}
 use Rattle.split_search.specs.Node.{IsNode, IsNoLighter, IsChoice, inside_half, outside_half}
+use Rattle.split_search.specs.Step.{IsBetter, IsBounded, least_after, best_after}
 use Rattle.split_search.specs.Progress.{Continues, IsUnderWay, IsClosing, lowest}
 use Rattle.split_search.proofs.Halving.{inside_node, outside_node}
 use Rattle.split_search.proofs.Turns.{split_turns, close_turns}
@@ -78,19 +79,20 @@ choice_splits I B v choice =
     negated true h = absurd (false≢true h)
     negated false h = refl
 
--- after a close, with this tree as the best
-closed : (I : Network) (lines : List ProofLine) (Ns : List Node) (N : Node) (best better : Tree) (least price : ℕ) (P : Packing) → IsTree I better → price ≡ cost I better → price ≤ least → Closes I N.branch price P → IsWritablePacking P
-    → IsUnderWay I lines (Ns ++ N ∷ []) best least → IsUnderWay I (lines ++ Close P ∷ []) Ns better price
-closed I lines Ns N best better least price P tree is_cost lower closes writable u = record {
+-- with a better tree, if there is one, as the best
+pub adopt_keeps : (I : Network) (lines : List ProofLine) (waiting : List Node) (best : Tree) (least : ℕ) (better : Option Priced) → IfSome better (IsBetter I least)
+    → IsUnderWay I lines waiting best least → IsUnderWay I lines waiting (best_after best better) (least_after least better)
+adopt_keeps I lines waiting best least None h u = u
+adopt_keeps I lines waiting best least (Some p) h u = record {
   instance = u.instance;
-  tree = tree;
-  is_cost = is_cost;
-  cheap = λ nobody. omega (arith, u.cheap nobody);
-  nodes = all_front (IsNode I) Ns N u.nodes;
-  continues = λ primal below. subst (λ (light : List ℕ). Continues I primal primal light (lines ++ Close P ∷ []) Ns) (not_light (weight I N.branch P) primal (omega (arith, closes.weighs))) (continues_closed I primal primal [] lines Ns N P primal closes.fits (omega arith) (omega (arith, closes.weighs)) (u.continues primal (omega arith)));
-  few_waiting = omega (arith, u.few_waiting, length-append Ns (N ∷ []), length-append lines (Close P ∷ []));
-  turns_left = omega (arith, u.turns_left, close_turns I Ns N, length-append lines (Close P ∷ []));
-  written = all_push IsWritableLine lines (Close P) u.written writable;
+  tree = h.is_tree;
+  is_cost = h.is_price;
+  cheap = λ nobody. omega (arith, u.cheap nobody, h.cheaper);
+  nodes = u.nodes;
+  continues = λ primal below. u.continues primal (omega (arith, below, h.cheaper));
+  few_waiting = u.few_waiting;
+  turns_left = u.turns_left;
+  written = u.written;
 }
 
 -- the same state again
@@ -100,13 +102,19 @@ same_state I lines new_lines waiting new_waiting best new_best least new_least a
 
 pub close_keeps : (I : Network) (lines : List ProofLine) (Ns : List Node) (N : Node) (best : Tree) (least : ℕ) (P : Packing) → Closes I N.branch least P × IsWritablePacking P
     → IsUnderWay I lines (Ns ++ N ∷ []) best least → IsUnderWay I (lines ++ Close P ∷ []) Ns best least
-close_keeps I lines Ns N best least P (closes, writable) u = closed I lines Ns N best best least least P u.tree u.is_cost (omega arith) closes writable u
+close_keeps I lines Ns N best least P (closes, writable) u = record {
+  instance = u.instance;
+  tree = u.tree;
+  is_cost = u.is_cost;
+  cheap = u.cheap;
+  nodes = all_front (IsNode I) Ns N u.nodes;
+  continues = λ primal below. subst (λ (light : List ℕ). Continues I primal primal light (lines ++ Close P ∷ []) Ns) (not_light (weight I N.branch P) primal (omega (arith, below, closes.weighs))) (continues_closed I primal primal [] lines Ns N P primal closes.fits (omega arith) (omega (arith, below, closes.weighs)) (u.continues primal below));
+  few_waiting = omega (arith, u.few_waiting, length-append Ns (N ∷ []), length-append lines (Close P ∷ []));
+  turns_left = omega (arith, u.turns_left, close_turns I Ns N, length-append lines (Close P ∷ []));
+  written = all_push IsWritableLine lines (Close P) u.written writable;
+}
 
-pub improve_keeps : (I : Network) (lines : List ProofLine) (Ns : List Node) (N : Node) (best better : Tree) (least price : ℕ) (P : Packing) → IsTree I better × (price ≡ cost I better) × (price < least) × Closes I N.branch price P × IsWritablePacking P
-    → IsUnderWay I lines (Ns ++ N ∷ []) best least → IsUnderWay I (lines ++ Close P ∷ []) Ns better price
-improve_keeps I lines Ns N best better least price P h u = closed I lines Ns N best better least price P h.0 h.1 (omega (arith, h.2)) h.3 h.4 u
-
-pub split_keeps : (I : Network) (lines : List ProofLine) (Ns : List Node) (N M : Node) (best : Tree) (least v : ℕ) → (M.branch ≡ N.branch) × IsNoLighter I N M × IsChoice I N.branch v
+pub split_keeps : (I : Network) (lines : List ProofLine) (Ns : List Node) (N M : Node) (best : Tree) (least v : ℕ) → (M.branch ≡ N.branch) × IsNoLighter I N M × IsChoice I N.branch v × IsBounded I M least
     → IsUnderWay I lines (Ns ++ N ∷ []) best least → IsUnderWay I (lines ++ Split v ∷ []) (Ns ++ outside_half M v ∷ inside_half M v ∷ []) best least
 split_keeps I lines Ns N M best least v h u =
     let is_split = choice_splits I N.branch v h.2 in

@@ -1,6 +1,6 @@
 -- What a search answers can be written.
-use Rattle.std.proofs.Common.{◌≡◌, ℕ, zero, suc, ◌+◌, ◌^◌, ◌<◌, ◌≤◌, Bool, true, false, cond, eqb, ◌||◌, List, [], ◌∷◌, Option, Some, None, length, refl, sym, ap, ◌∙◌, arith}
-use Rattle.std.specs.Prelude.{IsFalse, IsSome, IfSome, MatchOption}
+use Rattle.std.proofs.Common.{◌≡◌, ℕ, zero, suc, ◌+◌, ◌^◌, ◌<◌, ◌≤◌, Bool, true, false, cond, eqb, ◌||◌, List, [], ◌∷◌, Option, Some, None, length, take, take_all, refl, sym, ap, ◌∙◌, arith}
+use Rattle.std.specs.Prelude.{All, IsFalse, IsSome, IfSome, MatchOption}
 use Rattle.std.specs.List.{AllByRecursion}
 use Rattle.std.proofs.lemmas.Bool.{false≢true, both_ways, eqb-true}
 use Rattle.std.proofs.lemmas.Bool.Decides.{nat_tests}
@@ -10,8 +10,9 @@ use Rattle.st_model.specs.declared.link.Link.{Link}
 use Rattle.st_model.specs.declared.tree.Tree.{Tree}
 use Rattle.st_model.specs.Lists.{has, total, sum_to}
 use Rattle.st_model.specs.Network.{Network, IsInstance, IsLinkBetween, IsVertex, joins, link}
-use Rattle.st_model.specs.Arborescence.{Grows, IsArborescence}
+use Rattle.st_model.specs.Arborescence.{Grows, IsArborescence, arc_cost, cost, reached}
 use Rattle.st_model.specs.Branch.{IsVertexSet}
+use Rattle.st_model.proofs.Costs.{links_fit, missed_le_prizes}
 use Rattle.st_model.proofs.Sums.{sum_to_same, sum_to-add, sum_to_one}
 use Rattle.cut_packing.specs.declared.cut.Cut.{Cut}
 use Rattle.cut_packing.specs.declared.packing.Packing.{Packing}
@@ -42,21 +43,29 @@ writable_cut I B c instance fits set small = record {
   };
 }
 
-writable_cuts : (I : Network) (B : Branch) (cuts : List Cut) → IsInstance I → AllByRecursion (CutFits I B) cuts → AllByRecursion (λ c. IsVertexSet I.n c.set) cuts → total (λ c. c.y) cuts < 2 ^ 64 → AllByRecursion IsWritableCut cuts
+writable_cuts : (I : Network) (B : Branch) (cuts : List Cut) → IsInstance I → AllByRecursion (CutFits I B) cuts → AllByRecursion (λ c. IsVertexSet I.n c.set) cuts → AllByRecursion (λ c. c.y < 2 ^ 64) cuts → AllByRecursion IsWritableCut cuts
 writable_cuts I B [] instance fits sets small = tt
-writable_cuts I B (c ∷ cuts) instance fits sets small = (writable_cut I B c instance fits.0 sets.0 (omega (arith, small)), writable_cuts I B cuts instance fits.1 sets.1 (omega (arith, small)))
+writable_cuts I B (c ∷ cuts) instance fits sets small = (writable_cut I B c instance fits.0 sets.0 small.0, writable_cuts I B cuts instance fits.1 sets.1 small.1)
 
 -- a packing that fits can be written where its sets ascend and its values are small
-pub writable_packing : (I : Network) (B : Branch) (P : Packing) → IsInstance I → Fits I B P → AreSets I.n P → length P.cuts < 2 ^ 64 → total (λ c. c.y) P.cuts < 2 ^ 64 → IsWritablePacking P
-writable_packing I B P instance fits sets few small = record {
+pub small_packing : (I : Network) (B : Branch) (P : Packing) → IsInstance I → Fits I B P → AreSets I.n P → length P.cuts < 2 ^ 64 → All (λ c. c.y < 2 ^ 64) P.cuts → IsWritablePacking P
+small_packing I B P instance fits sets few small = record {
   root = by_root P.root fits.root;
   few_cuts = few;
-  cuts = All-from_recursion IsWritableCut P.cuts (writable_cuts I B P.cuts instance (recursion_from_All (CutFits I B) P.cuts fits.cuts) (recursion_from_All (λ (c : Cut). IsVertexSet I.n c.set) P.cuts sets) small);
+  cuts = All-from_recursion IsWritableCut P.cuts (writable_cuts I B P.cuts instance (recursion_from_All (CutFits I B) P.cuts fits.cuts) (recursion_from_All (λ (c : Cut). IsVertexSet I.n c.set) P.cuts sets) (recursion_from_All (λ (c : Cut). c.y < 2 ^ 64) P.cuts small));
 }
   where
     by_root : (root : Option ℕ) → MatchOption root (P.cuts ≡ []) (IsRoot I B P.cuts) → IfSome root IsAnyVertex
     by_root None none = tt
     by_root (Some r) root = any_vertex I r instance root.vertex
+
+-- so they are where they sum up to little
+small_values : (cuts : List Cut) → total (λ c. c.y) cuts < 2 ^ 64 → AllByRecursion (λ c. c.y < 2 ^ 64) cuts
+small_values [] small = tt
+small_values (c ∷ cuts) small = (omega (arith, small), small_values cuts (omega (arith, small)))
+
+pub writable_packing : (I : Network) (B : Branch) (P : Packing) → IsInstance I → Fits I B P → AreSets I.n P → length P.cuts < 2 ^ 64 → total (λ c. c.y) P.cuts < 2 ^ 64 → IsWritablePacking P
+writable_packing I B P instance fits sets few small = small_packing I B P instance fits sets few (All-from_recursion (λ (c : Cut). c.y < 2 ^ 64) P.cuts (small_values P.cuts small))
 
 -- the ends of a link are vertices
 linked_ends : (n : ℕ) (links : List Link) (u v : ℕ) → AllByRecursion (IsLinkBetween n) links → IsSome (link links u v) → IsVertex n u × IsVertex n v
@@ -121,3 +130,10 @@ writable_wall I B P target instance fits sets (c, one, value) small =
     let few : length P.cuts ≡ 1 = ap length one in
     let sum : total (λ d. d.y) P.cuts ≡ c.y + 0 = ap (total (λ d. d.y)) one in
     writable_packing I B P instance fits sets (omega (arith, few)) (omega (arith, sum, value, small))
+
+-- what a tree costs is below all that could be paid
+pub cost_fits : (I : Network) (t : Tree) → IsInstance I → IsArborescence I t → cost I t < 2 ^ 63
+cost_fits I t instance arborescence =
+    let fits = links_fit I (t.start ∷ []) t.arcs (length t.arcs) instance arborescence.grows in
+    let all : total (arc_cost I) (take (length t.arcs) t.arcs) ≡ total (arc_cost I) t.arcs = ap (total (arc_cost I)) (take_all (length t.arcs) t.arcs (omega arith)) in
+    omega (arith, fits, all, missed_le_prizes I (reached t))

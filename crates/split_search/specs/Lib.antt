@@ -1,4 +1,5 @@
 pub mod Node
+pub mod Deciding
 pub mod Step
 pub mod Progress
 pub mod Searched

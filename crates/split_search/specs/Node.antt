@@ -1,5 +1,5 @@
 -- Branches that are still to be worked on, and their halves.
-use Rattle.std.specs.Prelude.{◌≡◌, ℕ, zero, suc, ◌+◌, ◌≤◌, ◌==◌, Bool, not, ◌&&◌, IsTrue, IsFalse, if◌then◌else◌, List, filter, Option, Some, None}
+use Rattle.std.specs.Prelude.{ℕ, zero, suc, ◌+◌, ◌≤◌, ◌==◌, Bool, not, ◌&&◌, IsTrue, IsFalse, if◌then◌else◌, List, filter}
 use Rattle.st_model.specs.declared.branch.Branch.{Branch}
 use Rattle.st_model.specs.Lists.{total, sum_to}
 use Rattle.st_model.specs.Network.{Network, IsVertex, is_required, pays}
@@ -58,14 +58,8 @@ turns_of (suc k) = 1 + turns_of k + turns_of k
 abbrev pub turns : Network → List Node → ℕ
 turns I nodes = total (λ N. turns_of (free_count I N.branch)) nodes
 
--- the vertex that is split at: one of greatest pays where no vertex is required or inside, and else the first free one
+-- the vertex that is split at: a free one, and of greatest pays where no vertex is required or inside
 pub record IsChoice (I : Network) (B : Branch) (v : ℕ) : Type 0 where
   pub vertex : IsVertex I.n v
   pub free : IsTrue (is_free I B v)
   pub greatest : HasNoCertain I B → (w : ℕ) → IsVertex I.n w → IsTrue (is_free I B w) → pays I w ≤ pays I v
-  pub first : (u : ℕ) → IsVertex I.n u → IsTrue (is_certain I B u) → (w : ℕ) → IsVertex I.n w → IsTrue (is_free I B w) → v ≤ w
-
--- of the vertices up to the count none is free, or this one is and pays as much as any of the free ones
-abbrev pub IsGreatest : Network → Branch → ℕ → Option (ℕ × ℕ) → Type 0
-IsGreatest I B count None = (v : ℕ) → IsVertex count v → IsFalse (is_free I B v)
-IsGreatest I B count (Some (v, prize)) = IsVertex count v × IsTrue (is_free I B v) × (prize ≡ pays I v) × ((w : ℕ) → IsVertex count w → IsTrue (is_free I B w) → pays I w ≤ prize)

@@ -1,17 +1,46 @@
 -- What the work on a node may answer.
-use Rattle.std.specs.Prelude.{◌≡◌, ℕ, ◌<◌}
+use Rattle.std.specs.Prelude.{◌≡◌, ℕ, ◌<◌, ◌⊎◌, Option, Some, None, IfSome}
+use Rattle.st_model.specs.declared.tree.Tree.{Tree}
 use Rattle.st_model.specs.Network.{Network}
 use Rattle.st_model.specs.Arborescence.{IsTree, cost}
+use Rattle.cut_packing.specs.Packing.{weight}
+use Rattle.cut_packing.specs.Full.{IsFull}
 use Rattle.cut_packing.specs.ProofTree.{Closes}
 use Rattle.log_format.specs.Text.{IsWritablePacking}
 use Rattle.split_search.specs.declared.node.Node.{Node}
-use Rattle.split_search.specs.declared.expanding.Step.{Step}
-use Rattle.split_search.specs.declared.expanding.Step.TheVariants.{Close, Improve, Split}
-use Rattle.split_search.specs.Node.{IsNoLighter, IsChoice}
+use Rattle.split_search.specs.declared.step.Priced.{Priced}
+use Rattle.split_search.specs.declared.step.End.{End}
+use Rattle.split_search.specs.declared.step.End.TheVariants.{Close, Split}
+use Rattle.split_search.specs.declared.step.Step.{Step}
+use Rattle.split_search.specs.Node.{HasNoCertain, IsNoLighter, IsChoice}
 
--- a packing that closes the branch at the least cost known; a cheaper tree, and a packing that
--- closes the branch at its cost; or a vertex to split the branch at, with a packing that is no lighter
-abbrev pub IsStep : Network → Node → ℕ → Step → Type 0
-IsStep I N least (Close P) = Closes I N.branch least P × IsWritablePacking P
-IsStep I N least (Improve tree price P) = IsTree I tree × (price ≡ cost I tree) × (price < least) × Closes I N.branch price P × IsWritablePacking P
-IsStep I N least (Split M v) = (M.branch ≡ N.branch) × IsNoLighter I N M × IsChoice I N.branch v
+-- a tree that costs this, which is less than the least cost known
+pub record IsBetter (I : Network) (least : ℕ) (p : Priced) : Type 0 where
+  pub is_tree : IsTree I p.tree
+  pub is_price : p.price ≡ cost I p.tree
+  pub cheaper : p.price < least
+
+-- the least cost known once the better tree is, if there is one
+abbrev pub least_after : ℕ → Option Priced → ℕ
+least_after least None = least
+least_after least (Some p) = p.price
+
+-- the best tree known then
+abbrev pub best_after : Tree → Option Priced → Tree
+best_after best None = best
+best_after best (Some p) = p.tree
+
+-- where some vertex is certain, the node's packing is full, and weighs less than the least cost known
+abbrev pub IsBounded : Network → Node → ℕ → Type 0
+IsBounded I M least = HasNoCertain I M.branch ⊎ (IsFull I M.branch M.packing × (weight I M.branch M.packing < least))
+
+-- a packing that closes the branch at the least cost known; or a vertex to split the branch at, with a packing
+-- that is no lighter, and that is full where it can be
+abbrev pub IsEnd : Network → Node → ℕ → End → Type 0
+IsEnd I N least (Close P) = Closes I N.branch least P × IsWritablePacking P
+IsEnd I N least (Split M v) = (M.branch ≡ N.branch) × IsNoLighter I N M × IsChoice I N.branch v × IsBounded I M least
+
+-- a better tree, if one was found, and how the node ends with the least cost known then
+pub record IsStep (I : Network) (N : Node) (least : ℕ) (step : Step) : Type 0 where
+  pub tree : IfSome step.better (IsBetter I least)
+  pub ends : IsEnd I N (least_after least step.better) step.end

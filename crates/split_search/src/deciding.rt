@@ -1,173 +1,89 @@
-ghost use Rattle.std.specs.Prelude.{◌≡◌, ◌+◌, ◌≤◌, ◌<◌, ℕ, IfOk, IfSome, IfNone, IsTrue, IsFalse};
-ghost use Rattle.std.specs.Bool.{OnTrue, OnFalse};
+ghost use Rattle.std.specs.Prelude.{◌≡◌, ◌≤◌, [], IfOk, IfSome, IfNone, IsTrue, All};
 ghost use Rattle.st_model.specs.Lists.{has};
-ghost use Rattle.st_model.specs.Network.{IsInstance, IsVertex, pays};
+ghost use Rattle.st_model.specs.Network.{IsVertex, pays};
 ghost use Rattle.st_model.specs.Branch.{is_certain};
-ghost use Rattle.level_packing.specs.Forest.{IsPresent};
-ghost use Rattle.split_search.specs.Node.{is_free, IsChoice, IsDecided, IsGreatest, HasNoCertain};
+ghost use Rattle.dual_ascent.specs.Extension.{IsRootFor};
+ghost use Rattle.split_search.specs.Deciding.{AreSides, AreThose};
+ghost use Rattle.split_search.specs.Node.{is_free, HasNoCertain, IsNode};
 
-use st_model::{Branch, Instance, Need, VertexSet};
+use crate::node::Node;
+use crate::sides::Sides;
+use st_model::{Instance, Need};
 use std::alloc::{AllocError, Global};
 
-// A vertex that is neither required nor inside nor outside: one of greatest pays where no vertex
-// is required or inside, and else the first.
-pub fn choose(
+/// The vertices that are neither required nor inside nor outside, ascending.
+pub fn free_vertices(
     alloc: Global,
     instance: &Instance,
-    branch: &Branch,
-) -> Result<Option<u32>, AllocError>
-    ensures some { IfOk result (λ free. IfSome free (IsChoice instance.now branch.now)) }
-    ensures none { IfOk result (λ free. IfNone free (IsDecided instance.now branch.now)) }
+    sides: &Sides,
+) -> Result<Vec<u32>, AllocError>
+    ensures { IfOk result (λ free. AreThose (is_free instance.now sides.now) instance.now.n free.items) }
 {
-    let places = instance.vertices() as usize + 1;
-    let inside = VertexSet::of(alloc, places, branch.inside.as_slice())?;
-    let outside = VertexSet::of(alloc, places, branch.outside.as_slice())?;
-    if has_certain(instance, branch, &inside) {
-        Ok(first_free(instance, branch, &inside, &outside))
-    } else {
-        Ok(greatest_free(instance, branch, &inside, &outside))
-    }
-}
-
-// Whether some vertex is required or inside.
-fn has_certain(instance: &Instance, branch: &Branch, inside: &VertexSet) -> bool
-    requires inside { (v : ℕ) → v ≤ instance.now.n → has inside.now.members v ≡ has branch.now.inside v }
-    ensures some { OnTrue result ((v : ℕ) × IsVertex instance.now.n v × IsTrue (is_certain instance.now branch.now v)) }
-    ensures none { OnFalse result (HasNoCertain instance.now branch.now) }
-{
+    let mut free = Vec::new(alloc);
     for before in 0..instance.vertices() {
-        if is_certain(instance, branch, inside, before + 1) {
-            return true;
+        let vertex = before + 1;
+        if sides.is_free(instance, vertex) {
+            free.push(vertex)?;
         }
     }
-    false
+    Ok(free)
 }
 
-// Whether a vertex is required or inside.
-fn is_certain(instance: &Instance, branch: &Branch, inside: &VertexSet, vertex: u32) -> bool
-    requires inside { (v : ℕ) → v ≤ instance.now.n → has inside.now.members v ≡ has branch.now.inside v }
-    requires vertex { IsVertex instance.now.n vertex }
-    ensures { result ≡ is_certain instance.now branch.now vertex }
+/// Of some vertices one that pays most.
+pub fn dearest(instance: &Instance, vertices: &[u32]) -> Option<u32>
+    requires { All (IsVertex instance.now.n) vertices.now }
+    ensures none { IfNone result (vertices.now ≡ []) }
+    ensures some { IfSome result (λ v. IsTrue (has vertices.now v)) }
+    ensures most { IfSome result (λ v. All (λ w. pays instance.now w ≤ pays instance.now v) vertices.now) }
+{
+    let mut best = None;
+    let mut most = 0;
+    for vertex in vertices {
+        let prize = prize_of(instance, *vertex);
+        if best.is_none() || prize > most {
+            best = Some(*vertex);
+            most = prize;
+        }
+    }
+    best
+}
+
+// What a vertex pays where it is left out.
+fn prize_of(instance: &Instance, vertex: u32) -> u64
+    requires { IsVertex instance.now.n vertex }
+    ensures { result ≡ pays instance.now vertex }
 {
     match instance.need(vertex) {
-        Need::Required => true,
-        Need::Pays(_) => inside.contains(vertex),
+        Need::Required => 0,
+        Need::Pays(prize) => prize,
     }
 }
 
-// What a vertex pays where it is neither required nor in one of the branch's sets.
-fn free_prize(
-    instance: &Instance,
-    branch: &Branch,
-    inside: &VertexSet,
-    outside: &VertexSet,
-    vertex: u32,
-) -> Option<u64>
-    requires inside { (v : ℕ) → v ≤ instance.now.n → has inside.now.members v ≡ has branch.now.inside v }
-    requires outside { (v : ℕ) → v ≤ instance.now.n → has outside.now.members v ≡ has branch.now.outside v }
-    requires vertex { IsVertex instance.now.n vertex }
-    ensures free { IfSome result (λ _. IsTrue (is_free instance.now branch.now vertex)) }
-    ensures prize { IfSome result (λ prize. prize ≡ pays instance.now vertex) }
-    ensures none { IfNone result (IsFalse (is_free instance.now branch.now vertex)) }
+/// A root for a node's packing and for the cuts to come: the packing's own, or else the first
+/// vertex that is required or inside, if there is one.
+pub fn root_of(instance: &Instance, sides: &Sides, node: &Node) -> Option<u32>
+    requires node { IsNode instance.now node.now }
+    requires sides { AreSides instance.now node.now.branch sides.now }
+    ensures some { IfSome result (IsRootFor instance.now node.now.branch node.now.packing) }
+    ensures none { IfNone result (HasNoCertain instance.now node.now.branch) }
 {
-    if inside.contains(vertex) || outside.contains(vertex) {
-        return None;
-    }
-    match instance.need(vertex) {
-        Need::Required => None,
-        Need::Pays(prize) => Some(prize),
+    match node.packing.root {
+        Some(root) => Some(root),
+        None => first_certain(instance, sides),
     }
 }
 
-// The first free vertex.
-fn first_free(
-    instance: &Instance,
-    branch: &Branch,
-    inside: &VertexSet,
-    outside: &VertexSet,
-) -> Option<u32>
-    requires inside { (v : ℕ) → v ≤ instance.now.n → has inside.now.members v ≡ has branch.now.inside v }
-    requires outside { (v : ℕ) → v ≤ instance.now.n → has outside.now.members v ≡ has branch.now.outside v }
+// The first vertex that is required or inside.
+fn first_certain(instance: &Instance, sides: &Sides) -> Option<u32>
     ensures vertex { IfSome result (IsVertex instance.now.n) }
-    ensures free { IfSome result (λ v. IsTrue (is_free instance.now branch.now v)) }
-    ensures first { IfSome result (λ v. (w : ℕ) → IsVertex instance.now.n w → IsTrue (is_free instance.now branch.now w) → v ≤ w) }
-    ensures none { IfNone result (IsDecided instance.now branch.now) }
+    ensures certain { IfSome result (λ v. IsTrue (is_certain instance.now sides.now v)) }
+    ensures none { IfNone result (HasNoCertain instance.now sides.now) }
 {
     for before in 0..instance.vertices() {
-        if free_prize(instance, branch, inside, outside, before + 1).is_some() {
-            return Some(before + 1);
+        let vertex = before + 1;
+        if sides.is_certain(instance, vertex) {
+            return Some(vertex);
         }
     }
     None
-}
-
-// A free vertex of greatest pays.
-fn greatest_free(
-    instance: &Instance,
-    branch: &Branch,
-    inside: &VertexSet,
-    outside: &VertexSet,
-) -> Option<u32>
-    requires inside { (v : ℕ) → v ≤ instance.now.n → has inside.now.members v ≡ has branch.now.inside v }
-    requires outside { (v : ℕ) → v ≤ instance.now.n → has outside.now.members v ≡ has branch.now.outside v }
-    ensures vertex { IfSome result (IsVertex instance.now.n) }
-    ensures free { IfSome result (λ v. IsTrue (is_free instance.now branch.now v)) }
-    ensures greatest { IfSome result (λ v. (w : ℕ) → IsVertex instance.now.n w → IsTrue (is_free instance.now branch.now w) → pays instance.now w ≤ pays instance.now v) }
-    ensures none { IfNone result (IsDecided instance.now branch.now) }
-{
-    let mut best = None;
-    for before in 0..instance.vertices() {
-        best = with_next(instance, branch, inside, outside, before, best);
-    }
-    let (vertex, _) = best?;
-    Some(vertex)
-}
-
-// Of a best free vertex so far and the next vertex the better one, and what it pays.
-fn with_next(
-    instance: &Instance,
-    branch: &Branch,
-    inside: &VertexSet,
-    outside: &VertexSet,
-    before: u32,
-    best: Option<(u32, u64)>,
-) -> Option<(u32, u64)>
-    requires inside { (v : ℕ) → v ≤ instance.now.n → has inside.now.members v ≡ has branch.now.inside v }
-    requires outside { (v : ℕ) → v ≤ instance.now.n → has outside.now.members v ≡ has branch.now.outside v }
-    requires instance { IsInstance instance.now }
-    requires before { before < instance.now.n }
-    requires best { IsGreatest instance.now branch.now before best }
-    ensures { IsGreatest instance.now branch.now (before + 1) result }
-{
-    let Some(prize) = free_prize(instance, branch, inside, outside, before + 1) else {
-        return best;
-    };
-    match best {
-        Some((vertex, most)) if prize <= most => Some((vertex, most)),
-        _ => Some((before + 1, prize)),
-    }
-}
-
-// Whether some vertex isn't outside.
-pub fn has_present(alloc: Global, instance: &Instance, branch: &Branch) -> Result<bool, AllocError>
-    ensures some { IfOk result (λ answer. OnTrue answer ((v : ℕ) × IsPresent instance.now branch.now v)) }
-    ensures none { IfOk result (λ answer. OnFalse answer ((v : ℕ) → IsPresent instance.now branch.now v → ⊥)) }
-{
-    let places = instance.vertices() as usize + 1;
-    let outside = VertexSet::of(alloc, places, branch.outside.as_slice())?;
-    Ok(misses_one(instance, branch, &outside))
-}
-
-// Whether some vertex isn't in the branch's outside.
-fn misses_one(instance: &Instance, branch: &Branch, outside: &VertexSet) -> bool
-    requires { (v : ℕ) → v ≤ instance.now.n → has outside.now.members v ≡ has branch.now.outside v }
-    ensures some { OnTrue result ((v : ℕ) × IsPresent instance.now branch.now v) }
-    ensures none { OnFalse result ((v : ℕ) → IsPresent instance.now branch.now v → ⊥) }
-{
-    for before in 0..instance.vertices() {
-        if !outside.contains(before + 1) {
-            return true;
-        }
-    }
-    false
 }

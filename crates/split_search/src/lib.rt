@@ -6,16 +6,21 @@
 //! and that both are equal unless the whole budget was spent.
 #![tactic(auto)]
 
+mod bettering;
 mod deciding;
 mod expanding;
 mod gate;
 mod law;
 mod node;
+mod picking;
 mod progress;
 mod searched;
 mod searching;
+mod sides;
+mod step;
 #[cfg(test)]
 mod tests;
+mod used_up;
 
 pub use gate::{Gate, OpenGate};
 pub use law::halves_are_no_lighter;

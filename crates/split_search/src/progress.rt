@@ -4,14 +4,18 @@ ghost use Rattle.st_model.specs.Network.{pays};
 ghost use Rattle.st_model.specs.Arborescence.{IsTree, cost};
 ghost use Rattle.log_format.specs.Accepts.{AcceptsFound};
 ghost use Rattle.log_format.specs.Text.{IsWritableFound};
+ghost use Rattle.split_search.specs.Deciding.{IsWholeOf};
 ghost use Rattle.split_search.specs.Node.{inside_half, outside_half};
 ghost use Rattle.split_search.specs.Progress.{IsUnderWay, IsClosing};
 ghost use Rattle.split_search.specs.Searched.{IsGreatestBound, IsNobodyRequired, IsSpent};
+ghost use Rattle.split_search.specs.Step.{best_after, least_after};
 
-use crate::expanding::{Step, expand};
+use crate::expanding::expand;
 use crate::node::{Node, halves, root};
+use crate::step::{End, Priced, Step};
 use crate::{Gate, Searched};
 use cut_packing::{Packing, weight};
+use graph_store::Store;
 use log_format::{Proof, ProofLine};
 use st_model::{Instance, MAX_VERTICES, Tree, tree_cost};
 use std::alloc::{AllocError, Global};
@@ -52,9 +56,11 @@ impl Progress {
         &mut self,
         alloc: Global,
         instance: &Instance,
+        store: &Store,
         budget: u64,
         gate: &G,
     ) -> Result<(), AllocError>
+        requires store { IsWholeOf instance.now store.now }
         requires under_way { IsUnderWay instance.now self.old.lines.items self.old.waiting.items self.old.best self.old.least }
         requires lines { self.old.lines.items ≡ [] }
         ensures under_way { OnOk result (IsUnderWay instance.now self.new.lines.items self.new.waiting.items self.new.best self.new.least) }
@@ -67,26 +73,43 @@ impl Progress {
                 return Ok(());
             };
             gate.at(0, taken);
-            self.take(alloc, instance, node)?;
+            self.take(alloc, instance, store, node)?;
         }
         Ok(())
     }
 
     // Works on one node.
-    fn take(&mut self, alloc: Global, instance: &Instance, node: Node) -> Result<(), AllocError>
-        requires { IsUnderWay instance.now self.old.lines.items (self.old.waiting.items ++ node ∷ []) self.old.best self.old.least }
+    fn take(
+        &mut self,
+        alloc: Global,
+        instance: &Instance,
+        store: &Store,
+        node: Node,
+    ) -> Result<(), AllocError>
+        requires store { IsWholeOf instance.now store.now }
+        requires under_way { IsUnderWay instance.now self.old.lines.items (self.old.waiting.items ++ node ∷ []) self.old.best self.old.least }
         ensures under_way { OnOk result (IsUnderWay instance.now self.new.lines.items self.new.waiting.items self.new.best self.new.least) }
         ensures no_worse { OnOk result (self.new.least ≤ self.old.least) }
         ensures line { OnOk result (length self.new.lines.items ≡ length self.old.lines.items + 1) }
     {
-        match expand(alloc, instance, node, self.least)? {
-            Step::Close(packing) => self.close(packing),
-            Step::Improve(tree, price, packing) => {
-                self.best = tree;
-                self.least = price;
-                self.close(packing)
-            }
-            Step::Split(node, vertex) => self.split(alloc, node, vertex),
+        let Step { better, end } = expand(alloc, instance, store, node, self.least)?;
+        self.adopt(better);
+        match end {
+            End::Close(packing) => self.close(packing),
+            End::Split(node, vertex) => self.split(alloc, node, vertex),
+        }
+    }
+
+    // Takes a better tree as the best, if there is one.
+    fn adopt(&mut self, better: Option<Priced>)
+        ensures lines { self.new.lines ≡ self.old.lines }
+        ensures waiting { self.new.waiting ≡ self.old.waiting }
+        ensures best { self.new.best ≡ best_after self.old.best better }
+        ensures least { self.new.least ≡ least_after self.old.least better }
+    {
+        if let Some(Priced { tree, price }) = better {
+            self.best = tree;
+            self.least = price;
         }
     }
 

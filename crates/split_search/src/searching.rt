@@ -6,6 +6,7 @@ ghost use Rattle.split_search.specs.Searched.{IsNobodyRequired, IsSearched};
 
 use crate::progress::Progress;
 use crate::{Gate, Searched};
+use graph_store::Store;
 use st_model::{Instance, Tree};
 use std::alloc::{AllocError, Global};
 
@@ -25,7 +26,8 @@ pub fn search<G: Gate>(
         → cost instance.now start ≤ sum_to (pays instance.now) instance.now.n }
     ensures { IfOk result (IsSearched instance.now start budget) }
 {
+    let store = Store::of(alloc, instance)?;
     let mut progress = Progress::begin(alloc, instance, start)?;
-    progress.run(alloc, instance, budget, gate)?;
+    progress.run(alloc, instance, &store, budget, gate)?;
     progress.finish(instance)
 }

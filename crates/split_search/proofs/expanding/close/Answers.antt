@@ -1,14 +1,9 @@
-use Rattle.std.proofs.lemmas.Bool.{OnFalse_at}
-use Rattle.split_search.proofs.Ending.{none_present}
+use Rattle.split_search.proofs.Closed.{some_present}
 use Rattle.split_search.proofs.Writing.{writable_wall}
 use Rattle.split_search.proofs.expanding.close.Goals as goal
 
-pub returns-then-not-branch : goal.returns-then-not-branch
-returns-then-not-branch c =
-    let I = c.args.instance.now in
-    let N = c.args.node in
-    let node = c.requires.node in
-    (record { fits = node.fits; weighs = none_present I N.branch N.packing c.args.least node.required (OnFalse_at c.if-not-branch.true c.in_ok-has_present.ensures.none) c.requires.cheap }, node.writable)
+pub close_all-requires-clause-some : goal.close_all-requires-clause-some
+close_all-requires-clause-some c = some_present c.args.instance.now c.args.node.branch c.args.node.packing c.args.least c.requires.node.required c.requires.light c.requires.cheap
 
 pub returns : goal.returns
 returns c =
@@ -17,4 +12,4 @@ returns c =
     let closes = rw c.in-Wall.is at c.in_ok-tree.ensures.closed in
     let sets = rw c.in-Wall.is at c.in_ok-tree.ensures.sets in
     let few = rw c.in-Wall.is at c.in_ok-tree.ensures.few in
-    (record { fits = closes.1; weighs = closes.2 }, writable_wall I B c.in-Wall.packing c.args.least c.requires.instance closes.1 sets few c.ranges.least.fits)
+    rw c.closed.ensures (record { tree = tt; ends = (record { fits = closes.1; weighs = closes.2 }, writable_wall I B c.in-Wall.packing c.args.least c.requires.instance closes.1 sets few c.ranges.least.fits) })

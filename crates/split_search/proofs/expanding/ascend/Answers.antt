@@ -1,0 +1,27 @@
+use Rattle.std.proofs.Common.{◌-◌, refl, arith}
+use Rattle.split_search.proofs.Extended.{reached_step, full_node, ends_so}
+use Rattle.split_search.proofs.Those.{any_choice}
+use Rattle.split_search.specs.Node.{IsNoLighter}
+use Rattle.split_search.proofs.expanding.ascend.Goals.{In-Full}
+use Rattle.split_search.proofs.expanding.ascend.Goals as goal
+
+pub returns-in-Reached : goal.returns-in-Reached
+returns-in-Reached c =
+    let e = rw c.in-Reached.is at c.in_ok-ascent.ensures.extended in
+    let small = rw c.as_slice.ensures at c.values_fit.ensures in
+    rw c.closed.ensures (reached_step c.args.instance.now c.args.store.now.network c.args.node c.in-Reached.packing c.args.root (c.args.least - c.weight.result) c.args.least c.requires.store.network c.requires.instance c.requires.node (omega (arith, c.weight.ensures)) e small)
+
+-- the node with its full packing is no lighter
+full : (c : In-Full) → IsNoLighter c.args.instance.now c.args.node (record { branch = c.args.node.branch; packing = c.in-Full.packing })
+full c =
+    let e = rw c.in-Full.is at c.in_ok-ascent.ensures.extended in
+    full_node c.args.instance.now c.args.store.now.network c.args.node c.in-Full.packing c.args.root (c.args.least - c.weight.result) c.args.least c.requires.store.network c.requires.instance c.requires.node (omega (arith, c.weight.ensures, c.requires.light)) c.ranges.least.fits e
+
+pub ended-requires-clause-node : goal.ended-requires-clause-node
+ended-requires-clause-node c = (full ((goal.at.ended-requires-clause-node c).In-Full)).node
+
+pub ended-requires-clause-vertex : goal.ended-requires-clause-vertex
+ended-requires-clause-vertex c = any_choice c.args.instance.now c.args.node.branch c.args.free.now c.pick-vertex.result c.args.root c.requires.free c.pick-vertex.ensures c.requires.root.vertex c.requires.root.certain
+
+pub returns-in_ok-better-in-Full : goal.returns-in_ok-better-in-Full
+returns-in_ok-better-in-Full c = ends_so c.args.instance.now c.args.node (record { branch = c.args.node.branch; packing = c.in-Full.packing }) c.args.least c.ended.result refl (full ((goal.at.returns-in_ok-better-in-Full c).In-Full)).no_lighter c.ended.ensures

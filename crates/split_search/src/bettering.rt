@@ -1,0 +1,105 @@
+ghost use Rattle.std.specs.Prelude.{◌≡◌, ◌+◌, ◌<◌, ◌≤◌, IfOk, IfSome, IfNone, length};
+ghost use Rattle.st_model.specs.Arborescence.{IsTree, cost};
+ghost use Rattle.st_model.specs.Branch.{IsBranch};
+ghost use Rattle.st_model.specs.Network.{IsVertex};
+ghost use Rattle.level_packing.specs.Forest.{lists};
+ghost use Rattle.split_search.specs.Deciding.{AreHeads, AreThose, IsWholeOf, is_left_out};
+ghost use Rattle.split_search.specs.Step.{IsBetter};
+
+use crate::sides::Sides;
+use crate::step::Priced;
+use crate::used_up::reached;
+use graph_store::Store;
+use st_model::{Branch, Instance, Listed, Tree, VertexSet, tree_cost};
+use std::alloc::{AllocError, Global};
+use tree_heuristic::{first_tree, prune};
+
+/// A tree that costs less than the least cost known, if one is found: a first tree, pruned, over
+/// the vertices to which arcs with nothing left lead from a root, and those that have to be
+/// reached. `heads` lists the heads of those arcs at their tails.
+pub fn better_tree(
+    alloc: Global,
+    instance: &Instance,
+    store: &Store,
+    branch: &Branch,
+    heads: &[Vec<u32>],
+    root: u32,
+    least: u64,
+) -> Result<Option<Priced>, AllocError>
+    requires store { IsWholeOf instance.now store.now }
+    requires branch { IsBranch instance.now branch.now }
+    requires heads { AreHeads (length heads.now) (lists heads.now) }
+    requires root { root < length heads.now }
+    ensures { IfOk result (λ better. IfSome better (IsBetter instance.now least)) }
+{
+    let reached = reached(alloc, heads, root)?;
+    let narrow = narrowed(alloc, instance, branch, &reached)?;
+    let Some(tree) = first_tree(alloc, store, &narrow)? else {
+        return Ok(None);
+    };
+    let tree = prune(alloc, instance, &narrow, tree)?;
+    Ok(priced(instance, tree, least))
+}
+
+/// A tree and its price, if that is less than the least cost known.
+pub fn priced(instance: &Instance, tree: Tree, least: u64) -> Option<Priced>
+    requires { IsTree instance.now tree }
+    ensures better { IfSome result (IsBetter instance.now least) }
+    ensures price { IfSome result (λ p. p.price ≡ cost instance.now tree) }
+    ensures none { IfNone result (least ≤ cost instance.now tree) }
+{
+    let price = tree_cost(instance, &tree);
+    if price < least {
+        Some(Priced { tree, price })
+    } else {
+        None
+    }
+}
+
+// The branch, in which each vertex is also outside that is neither required nor inside nor in a
+// set.
+fn narrowed(
+    alloc: Global,
+    instance: &Instance,
+    branch: &Branch,
+    reached: &VertexSet,
+) -> Result<Branch, AllocError>
+    requires { IsBranch instance.now branch.now }
+    ensures { IfOk result (IsBranch instance.now) }
+{
+    let sides = Sides::of(alloc, instance, branch)?;
+    let outside = left_out(alloc, instance, &sides, reached)?;
+    let inside = Vec::from_slice(alloc, branch.inside.as_slice())?;
+    Ok(Branch {
+        inside: Listed::of(inside),
+        outside: Listed::of(outside),
+    })
+}
+
+// The vertices that are outside, and those that are neither required nor inside nor in a set;
+// ascending.
+fn left_out(
+    alloc: Global,
+    instance: &Instance,
+    sides: &Sides,
+    reached: &VertexSet,
+) -> Result<Vec<u32>, AllocError>
+    ensures { IfOk result (λ out. AreThose (is_left_out instance.now sides.now reached.now.members) instance.now.n out.items) }
+{
+    let mut out = Vec::new(alloc);
+    for before in 0..instance.vertices() {
+        let vertex = before + 1;
+        if is_left_out(instance, sides, reached, vertex) {
+            out.push(vertex)?;
+        }
+    }
+    Ok(out)
+}
+
+// Whether a vertex is outside, or is neither required nor inside nor in a set.
+fn is_left_out(instance: &Instance, sides: &Sides, reached: &VertexSet, vertex: u32) -> bool
+    requires { IsVertex instance.now.n vertex }
+    ensures { result ≡ is_left_out instance.now sides.now reached.now.members vertex }
+{
+    sides.is_outside(vertex) || !(sides.is_certain(instance, vertex) || reached.contains(vertex))
+}

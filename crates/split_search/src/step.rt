@@ -1,0 +1,27 @@
+use crate::node::Node;
+use cut_packing::Packing;
+use st_model::Tree;
+
+/// A tree and what it costs.
+#[derive(Debug, Drop)]
+pub struct Priced {
+    pub tree: Tree,
+    pub price: u64,
+}
+
+/// What the work on a node gave: a tree cheaper than the least cost known, if one was found, and
+/// how the node ends.
+#[derive(Debug, Drop)]
+pub struct Step {
+    pub better: Option<Priced>,
+    pub end: End,
+}
+
+/// How a node ends.
+#[derive(Debug, Drop)]
+pub enum End {
+    /// It closes by this packing, which weighs at least the least cost known by then.
+    Close(Packing),
+    /// It splits at this vertex; it has the packing with which its halves begin.
+    Split(Node, u32),
+}
