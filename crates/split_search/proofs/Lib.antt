@@ -8,6 +8,7 @@ pub mod Those
 pub mod Heads
 pub mod Steps
 pub mod Extended
+pub mod Heavier
 pub mod Closed
 pub mod Proved
 pub mod Ending

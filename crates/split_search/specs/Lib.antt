@@ -1,5 +1,6 @@
 pub mod Node
 pub mod Deciding
+pub mod Raising
 pub mod Step
 pub mod Progress
 pub mod Searched

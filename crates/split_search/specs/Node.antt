@@ -1,5 +1,5 @@
 -- Branches that are still to be worked on, and their halves.
-use Rattle.std.specs.Prelude.{ℕ, zero, suc, ◌+◌, ◌≤◌, ◌==◌, Bool, not, ◌&&◌, IsTrue, IsFalse, if◌then◌else◌, List, filter}
+use Rattle.std.specs.Prelude.{ℕ, zero, suc, ◌+◌, ◌≤◌, ◌==◌, Bool, not, ◌&&◌, IsTrue, IsFalse, if◌then◌else◌, List, [], filter, None}
 use Rattle.st_model.specs.declared.branch.Branch.{Branch}
 use Rattle.st_model.specs.Lists.{total, sum_to}
 use Rattle.st_model.specs.Network.{Network, IsVertex, is_required, pays}
@@ -32,6 +32,10 @@ pub record IsNode (I : Network) (N : Node) : Type 0 where
 pub record IsNoLighter (I : Network) (N M : Node) : Type 0 where
   pub node : IsNode I M
   pub no_lighter : weight I N.branch N.packing ≤ weight I M.branch M.packing
+
+-- a packing without cuts
+abbrev pub no_cuts : Packing
+no_cuts = record { root = None; cuts = [] }
 
 -- the packing without the cuts that name v
 abbrev pub without : Packing → ℕ → Packing

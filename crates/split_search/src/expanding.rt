@@ -15,11 +15,12 @@ use crate::bettering::{better_tree, priced};
 use crate::deciding::{dearest, free_vertices, root_of};
 use crate::node::Node;
 use crate::picking::pick;
+use crate::raising::raise;
 use crate::sides::Sides;
 use crate::step::{End, Priced, Step};
 use crate::used_up::used_up;
 use cut_packing::{Cut, Packing, weight};
-use dual_ascent::{Ascent, Extension, extend};
+use dual_ascent::{Ascent, Extension};
 use graph_store::Store;
 use level_packing::{Leaf, close_all};
 use st_model::{Instance, Tree};
@@ -121,8 +122,7 @@ fn ascend(
     ensures { IfOk result (IsStep instance.now node least) }
 {
     let Node { branch, packing } = node;
-    let target = least - weight(instance, &branch, &packing) as u64;
-    let Extension { ascent, arcs } = extend(alloc, store, &branch, packing, root, &[], target)?;
+    let Extension { ascent, arcs } = raise(alloc, instance, store, &branch, packing, root, least)?;
     match ascent {
         Ascent::Reached(packing) => {
             values_fit(packing.cuts.as_slice());
@@ -131,7 +131,7 @@ fn ascend(
         Ascent::Full(packing) => {
             let heads = used_up(alloc, &arcs)?;
             let better = better_tree(alloc, instance, store, &branch, &heads, root, least)?;
-            let vertex = pick(&arcs, &heads, free);
+            let vertex = pick(&arcs, free);
             Ok(ended(instance, Node { branch, packing }, vertex, better, least))
         }
     }

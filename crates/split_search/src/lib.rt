@@ -14,6 +14,7 @@ mod law;
 mod node;
 mod picking;
 mod progress;
+mod raising;
 mod searched;
 mod searching;
 mod sides;

@@ -1,6 +1,6 @@
 ghost use Rattle.std.specs.Prelude.{◌≡◌, ◌==◌, not, IfOk, [], None, filter};
 ghost use Rattle.st_model.specs.Branch.{with_vertex, with_inside, with_outside};
-ghost use Rattle.split_search.specs.Node.{without, inside_half, outside_half};
+ghost use Rattle.split_search.specs.Node.{no_cuts, without, inside_half, outside_half};
 
 use cut_packing::{Cut, Packing};
 use st_model::{Branch, Listed};
@@ -23,10 +23,17 @@ pub fn root(alloc: Global) -> Node
             inside: Listed::of(Vec::new(alloc)),
             outside: Listed::of(Vec::new(alloc)),
         },
-        packing: Packing {
-            root: None,
-            cuts: Listed::of(Vec::new(alloc)),
-        },
+        packing: no_cuts(alloc),
+    }
+}
+
+// A packing without cuts.
+pub fn no_cuts(alloc: Global) -> Packing
+    ensures { result ≡ no_cuts }
+{
+    Packing {
+        root: None,
+        cuts: Listed::of(Vec::new(alloc)),
     }
 }
 

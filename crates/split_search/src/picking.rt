@@ -4,19 +4,17 @@ ghost use Rattle.st_model.specs.Network.{IsVertex};
 
 use bidirected_form::{Arc, Arcs};
 
-/// The vertex to split at, of some that may be: one that the most arcs with nothing left lead into
-/// or from. `heads` lists the heads of those arcs at their tails.
-pub fn pick(arcs: &Arcs, heads: &[Vec<u32>], free: &[u32]) -> u32
+/// The vertex to split at, of some that may be: the first that the most arcs with nothing left lead
+/// into.
+pub fn pick(arcs: &Arcs, free: &[u32]) -> u32
     requires some { 0 < length free.now }
     requires vertices { All (IsVertex arcs.now.n) free.now }
-    requires heads { length heads.now ≡ arcs.now.n + 1 }
     ensures { IsTrue (has free.now result) }
 {
     let mut best = free[0];
     let mut most = 0;
     for vertex in free {
-        let from = heads[*vertex as usize].len();
-        let count = from.saturating_add(used_up_of(arcs.arcs_into(*vertex)));
+        let count = used_up_of(arcs.arcs_into(*vertex));
         if count > most {
             best = *vertex;
             most = count;

@@ -1,4 +1,5 @@
 use Rattle.std.proofs.Common.{◌-◌, refl, arith}
+use Rattle.cut_packing.specs.Packing.{weight}
 use Rattle.split_search.proofs.Extended.{reached_step, full_node, ends_so}
 use Rattle.split_search.proofs.Those.{any_choice}
 use Rattle.split_search.specs.Node.{IsNoLighter}
@@ -9,13 +10,13 @@ pub returns-in-Reached : goal.returns-in-Reached
 returns-in-Reached c =
     let e = rw c.in-Reached.is at c.in_ok-ascent.ensures.extended in
     let small = rw c.as_slice.ensures at c.values_fit.ensures in
-    rw c.closed.ensures (reached_step c.args.instance.now c.args.store.now.network c.args.node c.in-Reached.packing c.args.root (c.args.least - c.weight.result) c.args.least c.requires.store.network c.requires.instance c.requires.node (omega (arith, c.weight.ensures)) e small)
+    rw c.closed.ensures (reached_step c.args.instance.now c.args.instance.now c.args.node c.in-Reached.packing c.args.root (c.args.least - weight c.args.instance.now c.args.node.branch c.args.node.packing) c.args.least refl c.requires.instance c.requires.node (omega arith) e small)
 
 -- the node with its full packing is no lighter
 full : (c : In-Full) → IsNoLighter c.args.instance.now c.args.node (record { branch = c.args.node.branch; packing = c.in-Full.packing })
 full c =
     let e = rw c.in-Full.is at c.in_ok-ascent.ensures.extended in
-    full_node c.args.instance.now c.args.store.now.network c.args.node c.in-Full.packing c.args.root (c.args.least - c.weight.result) c.args.least c.requires.store.network c.requires.instance c.requires.node (omega (arith, c.weight.ensures, c.requires.light)) c.ranges.least.fits e
+    full_node c.args.instance.now c.args.instance.now c.args.node c.in-Full.packing c.args.root (c.args.least - weight c.args.instance.now c.args.node.branch c.args.node.packing) c.args.least refl c.requires.instance c.requires.node (omega (arith, c.requires.light)) c.ranges.least.fits e
 
 pub ended-requires-clause-node : goal.ended-requires-clause-node
 ended-requires-clause-node c = (full ((goal.at.ended-requires-clause-node c).In-Full)).node
