@@ -108,6 +108,16 @@ fn proves_nothing_without_a_budget(rt: HostRuntime) -> Result<(), Fail> {
     Ok(())
 }
 
+/// One node proves the best cost of the triangle, but not that of the wheel, which has to split.
+#[test]
+fn proves_the_triangle_by_one_node(rt: HostRuntime) -> Result<(), Fail> {
+    let (dual, primal) = numbers_of(rt.alloc(), TRIANGLE, 1)?.ok_or("no tree")?;
+    assert!(rt; dual == 6 && 6 <= primal && primal <= 8, "{dual} {primal}");
+    let (dual, _) = numbers_of(rt.alloc(), WHEEL, 1)?.ok_or("no tree")?;
+    assert!(rt; dual < 10, "{dual}");
+    Ok(())
+}
+
 /// A bound grows with the budget, and reaches the cost at the end.
 #[test]
 fn spends_a_budget_on_the_wheel(rt: HostRuntime) -> Result<(), Fail> {
