@@ -56,7 +56,7 @@ pub offered_from : (o : Option ℕ) (cost : ℕ) → IsSomeAnd o (λ least. leas
 offered_from None cost h = absurd h
 offered_from (Some least) cost h = (least, refl, h)
 
-pub dearer_from : (o : Option ℕ) (cost : ℕ) → IfSome o (λ least. cost ≤ least) → (least : ℕ) → o ≡ Some least → cost ≤ least
+pub dearer_from : (o : Option ℕ) (cost : ℕ) → IfSome o (λ least. cost < least) → (least : ℕ) → o ≡ Some least → cost ≤ least
 dearer_from None cost h least is = absurd (let clash : ⊥ = cc in clash)
 dearer_from (Some x) cost h least is = let same : x ≡ least = cc in omega arith
 

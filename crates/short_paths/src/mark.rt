@@ -1,4 +1,4 @@
-ghost use Rattle.std.specs.Prelude.{◌≡◌, ℕ, ◌≤◌, Some, None, IsSomeAnd, IfSome};
+ghost use Rattle.std.specs.Prelude.{◌≡◌, ℕ, ◌<◌, ◌≤◌, Some, None, IsSomeAnd, IfSome};
 ghost use Rattle.std.specs.Bool.{OnTrue, OnFalse};
 ghost use Rattle.short_paths.specs.Marks.{best_of, place_in};
 
@@ -34,7 +34,7 @@ impl Mark {
     // Whether something at most so dear was offered.
     pub fn is_offered(self, cost: u64) -> bool
         ensures yes { OnTrue result (IsSomeAnd (best_of self) (λ least. least ≤ cost)) }
-        ensures no { OnFalse result (IfSome (best_of self) (λ least. cost ≤ least)) }
+        ensures no { OnFalse result (IfSome (best_of self) (λ least. cost < least)) }
     {
         if cost < self.least {
             return false;
