@@ -4,8 +4,9 @@
 # of both, so that their ratio counts, in the processor's time.
 #
 # The program is distances.txt. It becomes a crate of a copy of this repository, in a folder of its own that
-# is removed at the end, and is proved and built there: `rt try`, which proves nothing, checks each memory
-# access as it runs, and takes forty times as long.
+# is removed at the end, and is proved and built there, in some minutes where nothing of it was proved on this
+# machine before. `rt try` proves nothing, but can't stand in for it: what it runs checks each memory
+# access, and takes forty times as long.
 set -euo pipefail
 
 rounds=${1:-5}
