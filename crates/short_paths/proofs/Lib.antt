@@ -1,6 +1,7 @@
 pub mod Walks
 pub mod Paths
-pub mod Queue
+pub mod Heaps
+pub mod MarkLists
 pub mod Searches
 pub mod Settling
 pub mod Relaxing

@@ -7,9 +7,10 @@ use Rattle.std.proofs.lemmas.List.Sorted.{All-permutation, Contains-permutation}
 use Rattle.std.proofs.lemmas.Option.{slice_get_within}
 use Rattle.st_model.specs.declared.link.Link.{Link}
 use Rattle.st_model.specs.Network.{link}
+use Rattle.short_paths.specs.declared.queue.Offer.{Offer}
 use Rattle.short_paths.specs.declared.settled.Settled.{Settled}
 use Rattle.short_paths.specs.Walk.{IsWalk, stay, on}
-use Rattle.short_paths.specs.Searching.{Offer, IsOffered, Waits, place_of, IsSearch, IsSpread, IsFair}
+use Rattle.short_paths.specs.Searching.{IsOffered, Waits, place_of, IsSearch, IsSpread, IsFair}
 
 -- what has been offered at a cost has been at a higher one
 pub offered_more : (best : List (Option ℕ)) (v x y : ℕ) → x ≤ y → IsOffered best v x → IsOffered best v y
@@ -36,7 +37,7 @@ contains_cases first o queue (k, within, at) = by_place k within at
 
 -- from a settled vertex a link leads on within the limit to one that is settled, or for which an offer waits
 past_settled : (links : List Link) (n : ℕ) (sources : List ℕ) (limit : ℕ) (best places : List (Option ℕ)) (settled : List Settled) (queue : List Offer) (s u before d w : ℕ) → IsSearch links n sources limit best places settled queue → IsSpread links sources limit best settled (length settled) → Contains sources s → before + d ≤ limit → IsWalk links s u before → link links u w ≡ Some d
-    → (p : Option ℕ) → place_of places u ≡ p → IsSome (place_of places u) → IsSome (place_of places w) ⊎ ((o : Offer) × Contains queue o × (o.0.0 ≤ before + d))
+    → (p : Option ℕ) → place_of places u ≡ p → IsSome (place_of places u) → IsSome (place_of places w) ⊎ ((o : Offer) × Contains queue o × (o.cost ≤ before + d))
 past_settled links n sources limit best places settled queue s u before d w search spread source within walk next None is there = absurd (let clash : ◌≡◌ {A = Bool} false true = ap is_some (sym is) ∙ there in let no : ⊥ = cc in no)
 past_settled links n sources limit best places settled queue s u before d w search spread source within walk next (Some place) is there =
     let at = search.placed u place is in
@@ -55,7 +56,7 @@ past_settled links n sources limit best places settled queue s u before d w sear
 
 -- where a walk leads within the limit, there the search has been, or a cheaper offer waits
 pub covered : (links : List Link) (n : ℕ) (sources : List ℕ) (limit : ℕ) (best places : List (Option ℕ)) (settled : List Settled) (queue : List Offer) (s v c : ℕ) → IsSearch links n sources limit best places settled queue → IsSpread links sources limit best settled (length settled) → Contains sources s → c ≤ limit → IsWalk links s v c
-    → IsSome (place_of places v) ⊎ ((o : Offer) × Contains queue o × (o.0.0 ≤ c))
+    → IsSome (place_of places v) ⊎ ((o : Offer) × Contains queue o × (o.cost ≤ c))
 covered links n sources limit best places settled queue s v c search spread source within stay =
     let offered = spread.started s source in
     elim (search.offered s offered.0 offered.1) [
@@ -96,7 +97,7 @@ module _ (best best' : List (Option ℕ)) (to cost : ℕ) (within : to < length 
   offered_here = (cost, here, (omega arith))
 
   -- the search goes on over an offer that waits now
-  pub offer_put : (links : List Link) (n : ℕ) (sources : List ℕ) (limit : ℕ) (places : List (Option ℕ)) (settled : List Settled) (queue queue' : List Offer) (offer : Offer) → offer.0.0 ≡ cost → offer.0.1 ≡ to → IsPermutation (offer ∷ queue) queue' → IsFair links n sources limit places settled offer → IsSearch links n sources limit best places settled queue → IsSearch links n sources limit best' places settled queue'
+  pub offer_put : (links : List Link) (n : ℕ) (sources : List ℕ) (limit : ℕ) (places : List (Option ℕ)) (settled : List Settled) (queue queue' : List Offer) (offer : Offer) → offer.cost ≡ cost → offer.to ≡ to → IsPermutation (offer ∷ queue) queue' → IsFair links n sources limit places settled offer → IsSearch links n sources limit best places settled queue → IsSearch links n sources limit best' places settled queue'
   offer_put links n sources limit places settled queue queue' offer cost_is to_is moves fair search = record {
     best_long = ap length is ∙ length-set best to (Some cost) ∙ search.best_long;
     places_long = search.places_long;

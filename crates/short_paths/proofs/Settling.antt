@@ -1,21 +1,23 @@
 -- The cheapest offer is a distance, so its vertex is settled at it.
-use Rattle.std.proofs.Common.{◌≡◌, ℕ, zero, suc, ◌+◌, ◌-◌, ◌^◌, ◌<◌, ◌≤◌, Bool, true, false, cond, eqb, List, [], ◌∷◌, ◌++◌, length, get_or, set, slice_get, Contains, Option, Some, None, IsSome, is_some, unwrap_or, IsPermutation, refl, sym, ap, subst, ◌∙◌, arith, ◌⊎◌, inl, inr}
-use Rattle.std.proofs.lemmas.Bool.{cases_lt}
+use Rattle.std.proofs.Common.{◌≡◌, ℕ, zero, suc, ◌+◌, ◌-◌, ◌^◌, ◌<◌, ◌≤◌, Bool, true, false, cond, eqb, List, [], ◌∷◌, ◌++◌, length, get_or, set, slice_get, replicate, Contains, Option, Some, None, IsSome, is_some, unwrap_or, IsPermutation, refl, sym, ap, subst, ◌∙◌, arith, ◌⊎◌, inl, inr, length-append}
+use Rattle.std.proofs.lemmas.Bool.{cases_eq, cases_lt}
 use Rattle.std.proofs.lemmas.Bool.Decides.{nat_tests}
 use Rattle.std.proofs.lemmas.List.{get_or-set_same, get_or-set_other, length-set, get_or_append_left, get_or_past}
 use Rattle.std.proofs.lemmas.List.Elements.{All-tail, All-contains, All-weaker}
 use Rattle.std.proofs.lemmas.List.Sorted.{All-permutation, Contains-permutation}
 use Rattle.std.proofs.lemmas.Option.{slice_get_within}
 use Rattle.std.specs.Prelude.{All}
-use Rattle.std.specs.BinaryHeap.{heap_items, heap_len}
 use Rattle.st_model.specs.declared.link.Link.{Link}
 use Rattle.st_model.specs.Network.{IsVertex, link}
 use Rattle.graph_store.proofs.ListLemmas.{slice_get-push}
+use Rattle.short_paths.specs.declared.queue.Offer.{Offer}
+use Rattle.short_paths.specs.declared.queue.Queue.{Queue}
 use Rattle.short_paths.specs.declared.settled.Settled.{Settled}
 use Rattle.short_paths.specs.declared.search.Search.{Search}
+use Rattle.short_paths.specs.Marks.{bests_of, places_of}
 use Rattle.short_paths.specs.Walk.{IsWalk, stay, on, IsDistance, IsPath}
-use Rattle.short_paths.specs.Searching.{Offer, IsOffered, Waits, Comes, place_of, paths_of, IsSearch, IsSpread, IsFair, IsExact, IsRelaxed, open_count}
-use Rattle.short_paths.specs.Steps.{offer_of, Settles, Relaxes, Takes, IsGoing, IsInOrder}
+use Rattle.short_paths.specs.Searching.{IsOffered, Waits, Comes, place_of, paths_of, IsSearch, IsSpread, IsFair, IsExact, IsRelaxed, open_count}
+use Rattle.short_paths.specs.Steps.{offer_of, Settles, Relaxes, Takes, IsGoing}
 use Rattle.short_paths.proofs.Walks.{IsPath-one, IsPath-push}
 use Rattle.short_paths.proofs.Paths.{length-paths_of, paths_of-push, at_end}
 use Rattle.short_paths.proofs.Searches.{covered, contains_cases}
@@ -35,7 +37,7 @@ module _ (links : List Link) (n : ℕ) (sources : List ℕ) (limit : ℕ) (best 
   -- an offer that waited still does, or was the one for the vertex
   rest_waits : (v least : ℕ) → Waits before v least → (v ≡ vertex) ⊎ Waits queue v least
   rest_waits v least waits = elim (contains_cases (offer_of cost vertex from) waits.0 queue (Contains-permutation before (offer_of cost vertex from ∷ queue) waits.0 moves waits.1)) [
-    | inl same ↦ inl (sym waits.2 ∙ ap (λ (o : Offer). o.0.1) same)
+    | inl same ↦ inl (sym waits.2 ∙ ap (λ (o : Offer). o.to) same)
     | inr held ↦ inr (waits.0, held, waits.2, waits.3)
   ]
 
@@ -57,7 +59,7 @@ module _ (links : List Link) (n : ℕ) (sources : List ℕ) (limit : ℕ) (best 
     ];
   }
 
-  module _ (least : All (λ offer. cost ≤ offer.0.0) before) (spread : IsSpread links sources limit best settled (length settled)) (open_is : place_of places vertex ≡ None) where
+  module _ (least : All (λ offer. cost ≤ offer.cost) before) (spread : IsSpread links sources limit best settled (length settled)) (open_is : place_of places vertex ≡ None) where
     -- some walk leads to the vertex at the cost
     walk : (s : ℕ) × Contains sources s × IsWalk links s vertex cost
     walk = elim taken_fair.comes [
@@ -76,7 +78,7 @@ module _ (links : List Link) (n : ℕ) (sources : List ℕ) (limit : ℕ) (best 
         | inl beyond ↦ (let within = taken_fair.within in omega arith)
         | inr within ↦ elim (covered links n sources limit best places settled before s vertex c search spread source within to) [
           | inl there ↦ absurd (let clash : ◌≡◌ {A = Bool} false true = ap is_some (sym open_is) ∙ there in let no : ⊥ = cc in no)
-          | inr o ↦ (let first = All-contains (λ offer. cost ≤ offer.0.0) before o.0 least o.1 in let then = o.2 in omega arith)
+          | inr o ↦ (let first = All-contains (λ offer. cost ≤ offer.cost) before o.0 least o.1 in let then = o.2 in omega arith)
         ]
       ];
     }
@@ -97,7 +99,7 @@ module _ (links : List Link) (n : ℕ) (sources : List ℕ) (limit : ℕ) (best 
     comes_from : (f : ℕ) → f ≡ vertex → (place : ℕ) → place_of places f ≡ Some place → ⊥
     comes_from f same place at = let clash : ◌≡◌ {A = Option ℕ} None (Some place) = sym open_is ∙ ap (place_of places) (sym same) ∙ at in cc
 
-    module _ (one : Settled) (one_is : one ≡ (record { vertex = vertex; cost = cost; before = unwrap_or (place_of places from) (2 ^ 64 - 1) })) (few : length settled < 2 ^ 64 - 1) where
+    module _ (one : Settled) (one_is : one ≡ (record { vertex = vertex; cost = cost; before = unwrap_or (place_of places from) (2 ^ 32 - 1) })) (few : length settled < 2 ^ 32 - 1) where
       new_read : (v : ℕ) → place_of (set places vertex (Some (length settled))) v ≡ cond (eqb v vertex) (Some (length settled)) (place_of places v)
       new_read v = by_case (eqb v vertex) refl
         where
@@ -130,18 +132,18 @@ module _ (links : List Link) (n : ℕ) (sources : List ℕ) (limit : ℕ) (best 
       path : IsPath links sources (get_or (paths_of (settled ++ one ∷ [])) (length settled) []) vertex cost
       path = subst (λ p. IsPath links sources p vertex cost) (sym read) by_offer
         where
-          read : get_or (paths_of (settled ++ one ∷ [])) (length settled) [] ≡ get_or (paths_of settled) (unwrap_or (place_of places from) (2 ^ 64 - 1)) [] ++ vertex ∷ []
+          read : get_or (paths_of (settled ++ one ∷ [])) (length settled) [] ≡ get_or (paths_of settled) (unwrap_or (place_of places from) (2 ^ 32 - 1)) [] ++ vertex ∷ []
           read = ap (λ ps. get_or ps (length settled) []) (paths_of-push settled one) ∙ at_end (paths_of settled) (length settled) (length-paths_of settled) (get_or (paths_of settled) one.before [] ++ one.vertex ∷ []) ∙ ap (λ (x : Settled). get_or (paths_of settled) x.before [] ++ x.vertex ∷ []) one_is
 
-          by_offer : IsPath links sources (get_or (paths_of settled) (unwrap_or (place_of places from) (2 ^ 64 - 1)) [] ++ vertex ∷ []) vertex cost
+          by_offer : IsPath links sources (get_or (paths_of settled) (unwrap_or (place_of places from) (2 ^ 32 - 1)) [] ++ vertex ∷ []) vertex cost
           by_offer = elim taken_fair.comes [
             | inl source ↦
                 let none : place_of places from ≡ None = ap (place_of places) source.0 ∙ none_before (place_of places 0) refl in
-                let nothing : get_or (paths_of settled) (unwrap_or (place_of places from) (2 ^ 64 - 1)) [] ≡ [] = ap (λ o. get_or (paths_of settled) (unwrap_or o (2 ^ 64 - 1)) []) none ∙ get_or_past (paths_of settled) (2 ^ 64 - 1) [] (let long = length-paths_of settled in omega arith) in
+                let nothing : get_or (paths_of settled) (unwrap_or (place_of places from) (2 ^ 32 - 1)) [] ≡ [] = ap (λ o. get_or (paths_of settled) (unwrap_or o (2 ^ 32 - 1)) []) none ∙ get_or_past (paths_of settled) (2 ^ 32 - 1) [] (let long = length-paths_of settled in omega arith) in
                 subst (λ (p : List ℕ × ℕ). IsPath links sources (p.0 ++ vertex ∷ []) vertex p.1) (λ j. (sym nothing j, sym source.1 j)) (IsPath-one links sources vertex source.2)
             | inr linked ↦
                 let exact = search.exact linked.0 linked.1 linked.4 in
-                let place : unwrap_or (place_of places from) (2 ^ 64 - 1) ≡ linked.0 = ap (λ o. unwrap_or o (2 ^ 64 - 1)) linked.3 in
+                let place : unwrap_or (place_of places from) (2 ^ 32 - 1) ≡ linked.0 = ap (λ o. unwrap_or o (2 ^ 32 - 1)) linked.3 in
                 subst (λ (p : ℕ × ℕ). IsPath links sources (get_or (paths_of settled) p.0 [] ++ vertex ∷ []) vertex p.1) (λ j. (sym place j, sym linked.6 j)) (IsPath-push links sources (get_or (paths_of settled) linked.0 []) linked.1.vertex vertex linked.1.cost linked.2 exact.path linked.5)
           ]
 
@@ -176,10 +178,10 @@ module _ (links : List Link) (n : ℕ) (sources : List ℕ) (limit : ℕ) (best 
       still_comes f v c (inl source) = inl source
       still_comes f v c (inr linked) = inr (linked.0, linked.1, linked.2, new_other f (λ e. comes_from f e linked.0 linked.3) ∙ linked.3, old_at linked.0 linked.1 linked.4, linked.5, linked.6)
 
-      -- the search goes on with the vertex settled
-      pub settled_step : IsSearch links n sources limit best (set places vertex (Some (length settled))) (settled ++ one ∷ []) queue
-      settled_step = record {
-        best_long = search.best_long;
+      -- the search goes on with the vertex settled, where other vertices were offered what they were before
+      pub settled_step : (best' : List (Option ℕ)) → length best' ≡ length best → ((w : ℕ) → (w ≡ vertex → ⊥) → get_or best' w None ≡ get_or best w None) → IsSearch links n sources limit best' (set places vertex (Some (length settled))) (settled ++ one ∷ []) queue
+      settled_step best' long others = record {
+        best_long = long ∙ search.best_long;
         places_long = length-set places vertex (Some (length settled)) ∙ search.places_long;
         exact = new_exact;
         placed = new_placed;
@@ -187,12 +189,15 @@ module _ (links : List Link) (n : ℕ) (sources : List ℕ) (limit : ℕ) (best 
           | inl new ↦ ap is_some (ap (place_of (set places vertex (Some (length settled)))) (ap (λ (x : Settled). x.vertex) (new.1 ∙ one_is)) ∙ new_here)
           | inr old ↦ still_some s.vertex (search.found place s old)
         ];
-        fair = All-weaker (IsFair links n sources limit places settled) (IsFair links n sources limit (set places vertex (Some (length settled))) (settled ++ one ∷ [])) (λ o fair. record { in_range = fair.in_range; within = fair.within; comes = still_comes o.0.2 o.0.1 o.0.0 fair.comes }) queue rest_fair;
-        offered = λ v least at. elim (search.offered v least at) [
-          | inl h ↦ inl (still_some v h)
-          | inr waits ↦ elim (rest_waits v least waits) [
-            | inl same ↦ inl (ap is_some (ap (place_of (set places vertex (Some (length settled)))) same ∙ new_here))
-            | inr h ↦ inr h
+        fair = All-weaker (IsFair links n sources limit places settled) (IsFair links n sources limit (set places vertex (Some (length settled))) (settled ++ one ∷ [])) (λ o fair. record { in_range = fair.in_range; within = fair.within; comes = still_comes o.from o.to o.cost fair.comes }) queue rest_fair;
+        offered = λ v least at. elim (cases_eq v vertex) [
+          | inl same ↦ inl (ap is_some (ap (place_of (set places vertex (Some (length settled)))) same ∙ new_here))
+          | inr other ↦ elim (search.offered v least (sym (others v other) ∙ at)) [
+            | inl h ↦ inl (still_some v h)
+            | inr waits ↦ elim (rest_waits v least waits) [
+              | inl same ↦ inl (ap is_some (ap (place_of (set places vertex (Some (length settled)))) same ∙ new_here))
+              | inr h ↦ inr h
+            ]
           ]
         ];
       }
@@ -224,44 +229,54 @@ open_count-set (Some p ∷ places) zero place h at = absurd (let clash : ⊥ = c
 open_count-set (None ∷ places) (suc v) place h at = let rest = open_count-set places v place (omega arith) at in omega arith
 open_count-set (Some p ∷ places) (suc v) place h at = open_count-set places v place (omega arith) at
 
+-- at first all vertices are open
+pub open_count-replicate : (n : ℕ) → open_count (replicate n None) ≡ n
+open_count-replicate zero = refl
+open_count-replicate (suc n) = let rest = open_count-replicate n in omega arith
+
 -- nothing changes where the vertex was settled
-pub takes_nothing : (links : List Link) (n limit : ℕ) (old : Search) (cost vertex from : ℕ) → IsSome (place_of old.places.items vertex) → Takes links n limit old old cost vertex from
+pub takes_nothing : (links : List Link) (n limit : ℕ) (old : Search) (cost vertex from : ℕ) → IsSome (place_of (places_of old.marks.items) vertex) → Takes links n limit old old (offer_of cost vertex from)
 takes_nothing links n limit old cost vertex from there = record {
-  going = λ sources before moves least going. record { kept = skipped links n sources limit old.best.items old.places.items old.settled.items before (heap_items old.queue) cost vertex from moves going.kept there; spread = going.spread };
-  order = λ h. h;
+  going = λ sources before moves least going. record { kept = skipped links n sources limit (bests_of old.marks.items) (places_of old.marks.items) old.settled.items before old.queue.offers.items cost vertex from moves going.kept there; spread = going.spread };
+  counted = refl;
   nearer = omega arith;
 }
 
 -- else it is settled and relaxed
-pub takes_one : (links : List Link) (n limit : ℕ) (old mid new : Search) (cost vertex from : ℕ) → vertex < length old.places.items → place_of old.places.items vertex ≡ None → Settles old mid vertex cost from → Relaxes links n limit vertex cost mid new → Takes links n limit old new cost vertex from
-takes_one links n limit old mid new cost vertex from within open_is settles relaxes = record {
+pub takes_one : (links : List Link) (n limit : ℕ) (old mid new : Search) (cost vertex from : ℕ) → length old.settled.items < 2 ^ 32 - 1 → vertex < length (places_of old.marks.items) → place_of (places_of old.marks.items) vertex ≡ None → Settles old mid vertex cost from → mid.queue ≡ old.queue → Relaxes links n limit vertex cost mid new → Takes links n limit old new (offer_of cost vertex from)
+takes_one links n limit old mid new cost vertex from few within open_is settles same_queue relaxes = record {
   going = going;
-  order = λ h. relaxes.order (subst (λ q. IsInOrder (record old { queue = q })) (sym settles.queue) h);
-  nearer =
-      let counts = open_count-set old.places.items vertex (length old.settled.items) within open_is in
+  counted =
+      let counts = open_count-set (places_of old.marks.items) vertex (length old.settled.items) within open_is in
       let same = ap open_count (relaxes.places ∙ settles.places) in
-      let queue = ap heap_len settles.queue in
+      let longer = ap length (relaxes.settled ∙ settles.settled) in
+      let long = length-append old.settled.items (one ∷ []) in
+      omega arith;
+  nearer =
+      let counts = open_count-set (places_of old.marks.items) vertex (length old.settled.items) within open_is in
+      let same = ap open_count (relaxes.places ∙ settles.places) in
+      let queue = ap (λ (q : Queue). length q.offers.items) same_queue in
       let longer = relaxes.length in
       omega arith;
 }
   where
     one : Settled
-    one = record { vertex = vertex; cost = cost; before = unwrap_or (place_of old.places.items from) (2 ^ 64 - 1) }
+    one = record { vertex = vertex; cost = cost; before = unwrap_or (place_of (places_of old.marks.items) from) (2 ^ 32 - 1) }
 
-    going : (sources : List ℕ) (before : List Offer) → IsPermutation before (offer_of cost vertex from ∷ heap_items old.queue) → All (λ offer. cost ≤ offer.0.0) before → IsGoing links n sources limit old before → IsGoing links n sources limit new (heap_items new.queue)
+    going : (sources : List ℕ) (before : List Offer) → IsPermutation before (offer_of cost vertex from ∷ old.queue.offers.items) → All (λ other. cost ≤ other.cost) before → IsGoing links n sources limit old before → IsGoing links n sources limit new new.queue.offers.items
     going sources before moves least gone = record {
       kept = relaxes.keeps sources (length old.settled.items) one
-          (ap (λ p. place_of p vertex) settles.places ∙ placed_here links n sources limit old.best.items old.places.items old.settled.items before (heap_items old.queue) cost vertex from moves gone.kept least gone.spread open_is one refl settles.few)
-          (ap (λ ss. slice_get ss (length old.settled.items)) settles.settled ∙ one_here links n sources limit old.best.items old.places.items old.settled.items before (heap_items old.queue) cost vertex from moves gone.kept least gone.spread open_is one refl settles.few)
+          (ap (λ p. place_of p vertex) settles.places ∙ placed_here links n sources limit (bests_of old.marks.items) (places_of old.marks.items) old.settled.items before old.queue.offers.items cost vertex from moves gone.kept least gone.spread open_is one refl few)
+          (ap (λ ss. slice_get ss (length old.settled.items)) settles.settled ∙ one_here links n sources limit (bests_of old.marks.items) (places_of old.marks.items) old.settled.items before old.queue.offers.items cost vertex from moves gone.kept least gone.spread open_is one refl few)
           refl refl
-          (moved sources (settled_step links n sources limit old.best.items old.places.items old.settled.items before (heap_items old.queue) cost vertex from moves gone.kept least gone.spread open_is one refl settles.few));
-      spread = subst (λ ss. IsSpread links sources limit new.best.items ss (length ss)) (sym (relaxes.settled ∙ settles.settled))
-          (spread_step links n sources limit old.best.items old.places.items old.settled.items before (heap_items old.queue) cost vertex from moves gone.kept least gone.spread open_is one refl settles.few new.best.items
-          (λ w x h. relaxes.more w x (subst (λ b. IsOffered b w x) (sym settles.best) h)) relaxes.relaxed);
+          (moved sources (settled_step links n sources limit (bests_of old.marks.items) (places_of old.marks.items) old.settled.items before old.queue.offers.items cost vertex from moves gone.kept least gone.spread open_is one refl few (bests_of mid.marks.items) settles.best_long settles.others));
+      spread = subst (λ ss. IsSpread links sources limit (bests_of new.marks.items) ss (length ss)) (sym (relaxes.settled ∙ settles.settled))
+          (spread_step links n sources limit (bests_of old.marks.items) (places_of old.marks.items) old.settled.items before old.queue.offers.items cost vertex from moves gone.kept least gone.spread open_is one refl few (bests_of new.marks.items)
+          (λ w x h. relaxes.more w x (settles.more w x h)) relaxes.relaxed);
     }
       where
-        moved : (sources : List ℕ) → IsSearch links n sources limit old.best.items (set old.places.items vertex (Some (length old.settled.items))) (old.settled.items ++ one ∷ []) (heap_items old.queue) → IsSearch links n sources limit mid.best.items mid.places.items mid.settled.items (heap_items mid.queue)
-        moved sources h = subst (λ (p : List (Option ℕ) × List (Option ℕ) × List Settled × List Offer). IsSearch links n sources limit p.0 p.1 p.2 p.3) (λ j. (sym settles.best j, sym settles.places j, sym settles.settled j, ap heap_items (sym settles.queue) j)) h
+        moved : (sources : List ℕ) → IsSearch links n sources limit (bests_of mid.marks.items) (set (places_of old.marks.items) vertex (Some (length old.settled.items))) (old.settled.items ++ one ∷ []) old.queue.offers.items → IsSearch links n sources limit (bests_of mid.marks.items) (places_of mid.marks.items) mid.settled.items mid.queue.offers.items
+        moved sources h = subst (λ (p : List (Option ℕ) × List Settled × List Offer). IsSearch links n sources limit (bests_of mid.marks.items) p.0 p.1 p.2) (λ j. (sym settles.places j, sym settles.settled j, (sym same_queue j).offers.items)) h
 
 -- where there is nothing, there is None
 pub none_where : (o : Option ℕ) → is_some o ≡ false → o ≡ None
@@ -271,7 +286,7 @@ none_where (Some x) h = absurd (let clash : ⊥ = cc in clash)
 -- the offer that is taken is for a vertex, from a vertex or from none
 pub taken_range : (links : List Link) (n : ℕ) (sources : List ℕ) (limit : ℕ) (search : Search) (before queue : List Offer) (cost vertex from : ℕ) → IsPermutation before (offer_of cost vertex from ∷ queue) → IsGoing links n sources limit search before → IsVertex n vertex × (from ≤ n)
 taken_range links n sources limit search before queue cost vertex from moves going =
-    let fair = taken_fair links n sources limit search.best.items search.places.items search.settled.items before queue cost vertex from moves going.kept in (
+    let fair = taken_fair links n sources limit (bests_of search.marks.items) (places_of search.marks.items) search.settled.items before queue cost vertex from moves going.kept in (
       fair.in_range,
       elim fair.comes [
         | inl source ↦ (let zero_is = source.0 in omega arith)

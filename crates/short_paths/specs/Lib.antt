@@ -1,3 +1,5 @@
+pub mod Waiting
+pub mod Marks
 pub mod Walk
 pub mod Routes
 pub mod Searching

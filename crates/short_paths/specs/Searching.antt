@@ -1,16 +1,12 @@
 -- What a search for distances keeps: vertices that are settled, and offers to others.
 use Rattle.std.specs.Prelude.{◌≡◌, ℕ, ◌+◌, ◌<◌, ◌≤◌, ◌⊎◌, List, [], ◌∷◌, ◌++◌, length, map, drop, fold, All, Contains, slice_get, slice_index_or, Option, Some, None, IsSome}
-use Rattle.std.specs.declared.cmp.Reverse.{Reverse}
 use Rattle.std.specs.Option.{option_map}
 use Rattle.st_model.specs.declared.link.Link.{Link}
 use Rattle.st_model.specs.Network.{IsVertex, link}
+use Rattle.short_paths.specs.declared.queue.Offer.{Offer}
 use Rattle.short_paths.specs.declared.settled.Settled.{Settled}
 use Rattle.short_paths.specs.Walk.{IsDistance, IsPath}
 use Rattle.short_paths.specs.Routes.{Route}
-
--- an offer: a cost, the vertex that it reaches, and the one that it comes from (0 where that is a source itself)
-abbrev pub Offer : Type 0
-Offer = Reverse (ℕ × ℕ × ℕ)
 
 -- the paths to the settled vertices, each from the one that it comes from
 abbrev pub paths_of : List Settled → List (List ℕ)
@@ -34,7 +30,7 @@ IsOffered best v cost = (least : ℕ) × (slice_index_or best v None ≡ Some le
 
 -- an offer to v at most so dear waits
 abbrev pub Waits : List Offer → ℕ → ℕ → Type 0
-Waits queue v cost = (offer : Offer) × Contains queue offer × (offer.0.1 ≡ v) × (offer.0.0 ≤ cost)
+Waits queue v cost = (offer : Offer) × Contains queue offer × (offer.to ≡ v) × (offer.cost ≤ cost)
 
 -- a vertex is a source at cost 0, or is linked with a settled vertex
 abbrev pub Comes : List Link → List ℕ → List (Option ℕ) → List Settled → ℕ → ℕ → ℕ → Type 0
@@ -43,9 +39,9 @@ Comes links sources places settled from v cost = ((from ≡ 0) × (cost ≡ 0) �
 
 -- what holds of each offer that waits
 pub record IsFair (links : List Link) (n : ℕ) (sources : List ℕ) (limit : ℕ) (places : List (Option ℕ)) (settled : List Settled) (offer : Offer) : Type 0 where
-  pub in_range : IsVertex n offer.0.1
-  pub within : offer.0.0 ≤ limit
-  pub comes : Comes links sources places settled offer.0.2 offer.0.1 offer.0.0
+  pub in_range : IsVertex n offer.to
+  pub within : offer.cost ≤ limit
+  pub comes : Comes links sources places settled offer.from offer.to offer.cost
 
 -- what holds of the vertex that was settled at a place
 pub record IsExact (links : List Link) (n : ℕ) (sources : List ℕ) (limit : ℕ) (settled : List Settled) (place : ℕ) (s : Settled) : Type 0 where

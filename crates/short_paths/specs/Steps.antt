@@ -1,33 +1,25 @@
 -- The steps of a search: what each does to its parts.
 use Rattle.std.specs.Prelude.{◌≡◌, ℕ, ◌+◌, ◌-◌, ◌*◌, ◌^◌, ◌<◌, ◌≤◌, ◌⊎◌, List, [], ◌∷◌, ◌++◌, length, All, slice_get, slice_index_or, slice_set, unwrap_or, Some, None, IsPermutation}
-use Rattle.std.specs.declared.cmp.Ordering.{Ordering}
-use Rattle.std.specs.BinaryHeap.{heap_items, heap_len, IsHeap}
-use Rattle.std.specs.Ordering.{nat_cmp, ordering_then}
 use Rattle.st_model.specs.declared.link.Link.{Link}
 use Rattle.st_model.specs.Network.{link}
 use Rattle.graph_store.specs.declared.half.Half.{Half}
+use Rattle.short_paths.specs.declared.queue.Offer.{Offer}
 use Rattle.short_paths.specs.declared.search.Search.{Search}
 use Rattle.short_paths.specs.declared.settled.Settled.{Settled}
-use Rattle.short_paths.specs.Searching.{Offer, IsOffered, IsSearch, IsSpread, place_of, open_count}
+use Rattle.short_paths.specs.Waiting.{IsOrdered}
+use Rattle.short_paths.specs.Marks.{bests_of, places_of}
+use Rattle.short_paths.specs.Searching.{IsOffered, IsSearch, IsSpread, place_of, open_count}
 
--- the greater offer is the cheaper one
-abbrev pub offer_cmp : Offer → Offer → Ordering
-offer_cmp x y = ordering_then (nat_cmp y.0.0 x.0.0) (ordering_then (nat_cmp y.0.1 x.0.1) (nat_cmp y.0.2 x.0.2))
-
--- the offers wait in the order of a heap
-abbrev pub IsInOrder : Search → Type 0
-IsInOrder state = IsHeap offer_cmp (heap_items state.queue)
-
--- an offer, as it waits
+-- an offer of a cost, to a vertex and from one (0 where the first is a source)
 abbrev pub offer_of : ℕ → ℕ → ℕ → Offer
-offer_of cost to from = record { 0 = (cost, to, from) }
+offer_of cost to from = record { cost = cost; to = to; from = from }
 
 -- something is offered to a vertex, unless what it was offered is at most so dear
 pub record Offers (old new : Search) (cost to from : ℕ) : Type 0 where
-  pub places : new.places.items ≡ old.places.items
+  pub places : places_of new.marks.items ≡ places_of old.marks.items
   pub settled : new.settled.items ≡ old.settled.items
-  pub either : (IsOffered old.best.items to cost × (new.best.items ≡ old.best.items) × (heap_items new.queue ≡ heap_items old.queue))
-      ⊎ (((least : ℕ) → slice_index_or old.best.items to None ≡ Some least → cost ≤ least) × (new.best.items ≡ slice_set old.best.items to (Some cost)) × IsPermutation (offer_of cost to from ∷ heap_items old.queue) (heap_items new.queue))
+  pub either : (IsOffered (bests_of old.marks.items) to cost × (bests_of new.marks.items ≡ bests_of old.marks.items) × (new.queue.offers.items ≡ old.queue.offers.items))
+      ⊎ (((least : ℕ) → slice_index_or (bests_of old.marks.items) to None ≡ Some least → cost ≤ least) × (bests_of new.marks.items ≡ slice_set (bests_of old.marks.items) to (Some cost)) × IsPermutation (offer_of cost to from ∷ old.queue.offers.items) new.queue.offers.items)
 
 -- the same within a limit alone
 pub record Follows (old new : Search) (limit cost to from : ℕ) : Type 0 where
@@ -35,42 +27,41 @@ pub record Follows (old new : Search) (limit cost to from : ℕ) : Type 0 where
 
 -- what holds between a search and the one that has followed some halves from a settled vertex
 pub record HasFollowed (links : List Link) (n limit vertex cost : ℕ) (halves : List Half) (old new : Search) : Type 0 where
-  pub places : new.places.items ≡ old.places.items
+  pub places : places_of new.marks.items ≡ places_of old.marks.items
   pub settled : new.settled.items ≡ old.settled.items
-  pub best_long : length new.best.items ≡ length old.best.items
-  pub more : (w x : ℕ) → IsOffered old.best.items w x → IsOffered new.best.items w x
-  pub offered : All (λ half. (limit < cost + half.cost) ⊎ IsOffered new.best.items half.to (cost + half.cost)) halves
-  pub length : heap_len new.queue ≤ heap_len old.queue + length halves
-  pub order : IsInOrder old → IsInOrder new
-  pub keeps : (sources : List ℕ) (place : ℕ) (s : Settled) → place_of old.places.items vertex ≡ Some place → slice_get old.settled.items place ≡ Some s → s.vertex ≡ vertex → s.cost ≡ cost
-      → IsSearch links n sources limit old.best.items old.places.items old.settled.items (heap_items old.queue) → IsSearch links n sources limit new.best.items new.places.items new.settled.items (heap_items new.queue)
+  pub best_long : length (bests_of new.marks.items) ≡ length (bests_of old.marks.items)
+  pub more : (w x : ℕ) → IsOffered (bests_of old.marks.items) w x → IsOffered (bests_of new.marks.items) w x
+  pub offered : All (λ half. (limit < cost + half.cost) ⊎ IsOffered (bests_of new.marks.items) half.to (cost + half.cost)) halves
+  pub length : length new.queue.offers.items ≤ length old.queue.offers.items + length halves
+  pub order : IsOrdered new.queue.offers.items
+  pub keeps : (sources : List ℕ) (place : ℕ) (s : Settled) → place_of (places_of old.marks.items) vertex ≡ Some place → slice_get old.settled.items place ≡ Some s → s.vertex ≡ vertex → s.cost ≡ cost
+      → IsSearch links n sources limit (bests_of old.marks.items) (places_of old.marks.items) old.settled.items old.queue.offers.items → IsSearch links n sources limit (bests_of new.marks.items) (places_of new.marks.items) new.settled.items new.queue.offers.items
 
 -- all that is linked with a settled vertex has been offered what it costs by there
 pub record Relaxes (links : List Link) (n limit vertex cost : ℕ) (old new : Search) : Type 0 where
-  pub places : new.places.items ≡ old.places.items
+  pub places : places_of new.marks.items ≡ places_of old.marks.items
   pub settled : new.settled.items ≡ old.settled.items
-  pub more : (w x : ℕ) → IsOffered old.best.items w x → IsOffered new.best.items w x
-  pub relaxed : (w d : ℕ) → link links vertex w ≡ Some d → (limit < cost + d) ⊎ IsOffered new.best.items w (cost + d)
-  pub length : heap_len new.queue < heap_len old.queue + 2 ^ 64
-  pub order : IsInOrder old → IsInOrder new
-  pub keeps : (sources : List ℕ) (place : ℕ) (s : Settled) → place_of old.places.items vertex ≡ Some place → slice_get old.settled.items place ≡ Some s → s.vertex ≡ vertex → s.cost ≡ cost
-      → IsSearch links n sources limit old.best.items old.places.items old.settled.items (heap_items old.queue) → IsSearch links n sources limit new.best.items new.places.items new.settled.items (heap_items new.queue)
+  pub more : (w x : ℕ) → IsOffered (bests_of old.marks.items) w x → IsOffered (bests_of new.marks.items) w x
+  pub relaxed : (w d : ℕ) → link links vertex w ≡ Some d → (limit < cost + d) ⊎ IsOffered (bests_of new.marks.items) w (cost + d)
+  pub length : length new.queue.offers.items < length old.queue.offers.items + 2 ^ 64
+  pub keeps : (sources : List ℕ) (place : ℕ) (s : Settled) → place_of (places_of old.marks.items) vertex ≡ Some place → slice_get old.settled.items place ≡ Some s → s.vertex ≡ vertex → s.cost ≡ cost
+      → IsSearch links n sources limit (bests_of old.marks.items) (places_of old.marks.items) old.settled.items old.queue.offers.items → IsSearch links n sources limit (bests_of new.marks.items) (places_of new.marks.items) new.settled.items new.queue.offers.items
 
--- a vertex is settled
+-- a vertex is settled; what was offered to others stays as it is
 pub record Settles (old new : Search) (vertex cost from : ℕ) : Type 0 where
-  pub few : length old.settled.items < 2 ^ 64 - 1
-  pub queue : new.queue ≡ old.queue
-  pub best : new.best.items ≡ old.best.items
-  pub places : new.places.items ≡ slice_set old.places.items vertex (Some (length old.settled.items))
-  pub settled : new.settled.items ≡ old.settled.items ++ record { vertex = vertex; cost = cost; before = unwrap_or (place_of old.places.items from) (2 ^ 64 - 1) } ∷ []
+  pub best_long : length (bests_of new.marks.items) ≡ length (bests_of old.marks.items)
+  pub others : (w : ℕ) → (w ≡ vertex → ⊥) → slice_index_or (bests_of new.marks.items) w None ≡ slice_index_or (bests_of old.marks.items) w None
+  pub more : (w x : ℕ) → IsOffered (bests_of old.marks.items) w x → IsOffered (bests_of new.marks.items) w x
+  pub places : places_of new.marks.items ≡ slice_set (places_of old.marks.items) vertex (Some (length old.settled.items))
+  pub settled : new.settled.items ≡ old.settled.items ++ record { cost = cost; vertex = vertex; before = unwrap_or (place_of (places_of old.marks.items) from) (2 ^ 32 - 1) } ∷ []
 
 -- what holds of a search between two offers
 pub record IsGoing (links : List Link) (n : ℕ) (sources : List ℕ) (limit : ℕ) (state : Search) (queue : List Offer) : Type 0 where
-  pub kept : IsSearch links n sources limit state.best.items state.places.items state.settled.items queue
-  pub spread : IsSpread links sources limit state.best.items state.settled.items (length state.settled.items)
+  pub kept : IsSearch links n sources limit (bests_of state.marks.items) (places_of state.marks.items) state.settled.items queue
+  pub spread : IsSpread links sources limit (bests_of state.marks.items) state.settled.items (length state.settled.items)
 
 -- the cheapest of the offers that wait is taken, and its vertex settled if it wasn't
-pub record Takes (links : List Link) (n limit : ℕ) (old new : Search) (cost vertex from : ℕ) : Type 0 where
-  pub going : (sources : List ℕ) (before : List Offer) → IsPermutation before (offer_of cost vertex from ∷ heap_items old.queue) → All (λ offer. cost ≤ offer.0.0) before → IsGoing links n sources limit old before → IsGoing links n sources limit new (heap_items new.queue)
-  pub order : IsInOrder old → IsInOrder new
-  pub nearer : open_count new.places.items * 2 ^ 64 + heap_len new.queue ≤ open_count old.places.items * 2 ^ 64 + heap_len old.queue
+pub record Takes (links : List Link) (n limit : ℕ) (old new : Search) (offer : Offer) : Type 0 where
+  pub going : (sources : List ℕ) (before : List Offer) → IsPermutation before (offer ∷ old.queue.offers.items) → All (λ other. offer.cost ≤ other.cost) before → IsGoing links n sources limit old before → IsGoing links n sources limit new new.queue.offers.items
+  pub counted : length new.settled.items + open_count (places_of new.marks.items) ≡ length old.settled.items + open_count (places_of old.marks.items)
+  pub nearer : open_count (places_of new.marks.items) * 2 ^ 64 + length new.queue.offers.items ≤ open_count (places_of old.marks.items) * 2 ^ 64 + length old.queue.offers.items

@@ -4,6 +4,7 @@ ghost use Rattle.st_model.specs.Network.{IsVertex};
 ghost use Rattle.short_paths.specs.Routes.{route_of, AreRoutes};
 ghost use Rattle.short_paths.specs.Searching.{paths_of};
 
+use crate::mark::Mark;
 use crate::search::Search;
 use crate::settled::Settled;
 use graph_store::Store;
@@ -14,20 +15,21 @@ use std::marker::Model;
 #[derive(Drop)]
 pub struct Distances {
     settled: Vec<Settled>,
-    // By vertex, its place among those that are settled.
-    places: Vec<Option<usize>>,
+    // By vertex, what the search knew of it at its end.
+    marks: Vec<Mark>,
 }
 
 impl Model for Distances {
     ghost use Rattle.std.specs.Prelude.{List, Option};
     ghost use Rattle.short_paths.specs.Routes.{Route};
+    ghost use Rattle.short_paths.specs.Marks.{places_of};
     ghost use Rattle.short_paths.specs.Searching.{routes_of, ArePlaces};
 
     ghost Value = { List (Option Route) };
 
-    ghost view = { λ d. routes_of d.settled.items d.places.items };
+    ghost view = { λ d. routes_of d.settled.items (places_of d.marks.items) };
 
-    ghost invariant = { λ d. ArePlaces d.settled.items d.places.items };
+    ghost invariant = { λ d. ArePlaces d.settled.items (places_of d.marks.items) };
 }
 
 /// The least that a walk from one of the sources to each vertex costs, where that is at most the
@@ -43,12 +45,12 @@ pub fn from_many(
     ensures { IfOk result (AreRoutes store.now.network.links store.now.network.n sources.now limit) }
 {
     let mut search = Search::start(alloc, store.vertices(), sources)?;
-    while let Some((cost, vertex, from)) = search.next() {
-        search.take(store, limit, cost, vertex, from)?;
+    while let Some(offer) = search.next() {
+        search.take(store, limit, offer)?;
     }
     Ok(Distances {
         settled: search.settled,
-        places: search.places,
+        marks: search.marks,
     })
 }
 
@@ -58,8 +60,8 @@ impl Distances {
         requires { IsVertex (length self.now) vertex }
         ensures { result ≡ option_map (λ route. route.cost) (route_of self.now vertex) }
     {
-        let place = self.places[vertex as usize]?;
-        Some(self.settled[place].cost)
+        let place = self.marks[vertex as usize].place()?;
+        Some(self.settled[place as usize].cost)
     }
 
     /// A path from a source to a vertex, if it is within the limit: each two next vertices are
@@ -68,7 +70,7 @@ impl Distances {
         requires { IsVertex (length self.now) vertex }
         ensures { IfOk result (λ path. option_map (λ vertices. vertices.items) path ≡ option_map (λ route. route.path) (route_of self.now vertex)) }
     {
-        match self.places[vertex as usize] {
+        match self.marks[vertex as usize].place() {
             Some(place) => Ok(Some(path_back(alloc, &self.settled, place)?)),
             None => Ok(None),
         }
@@ -76,16 +78,16 @@ impl Distances {
 }
 
 // The path to the vertex that was settled at a place.
-fn path_back(alloc: Global, settled: &[Settled], place: usize) -> Result<Vec<u32>, AllocError>
+fn path_back(alloc: Global, settled: &[Settled], place: u32) -> Result<Vec<u32>, AllocError>
     requires { place < length settled.now }
     ensures { IfOk result (λ path. path.items ≡ slice_index_or (paths_of settled.now) place []) }
 {
     let mut path = Vec::new(alloc);
     let mut here = place;
-    path.push(settled[here].vertex)?;
-    while settled[here].before < here {
-        here = settled[here].before;
-        path.push(settled[here].vertex)?;
+    path.push(settled[here as usize].vertex)?;
+    while settled[here as usize].before < here {
+        here = settled[here as usize].before;
+        path.push(settled[here as usize].vertex)?;
     }
     path.reverse();
     Ok(path)

@@ -6,6 +6,8 @@
 #![tactic(auto)]
 
 mod distances;
+mod mark;
+mod queue;
 mod search;
 mod settled;
 #[cfg(test)]

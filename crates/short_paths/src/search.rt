@@ -1,24 +1,22 @@
-ghost use Rattle.std.specs.Prelude.{◌≡◌, ℕ, ◌+◌, ◌^◌, ◌<◌, ◌≤◌, length, All, IfOk, IfSome, IfNone, OnOk, OnSome, IsPermutation, ◌∷◌, None, [], List, replicate};
-ghost use Rattle.std.specs.BinaryHeap.{heap_items, heap_len, IsUpperBound};
+ghost use Rattle.std.specs.Prelude.{◌≡◌, ℕ, ◌+◌, ◌-◌, ◌^◌, ◌<◌, ◌≤◌, length, All, IfOk, IfSome, IfNone, OnOk, OnSome, IsPermutation, ◌∷◌, None, [], List, replicate};
 ghost use Rattle.st_model.specs.Network.{IsVertex};
 ghost use Rattle.st_model.specs.declared.link.Link.{Link};
-ghost use Rattle.short_paths.specs.Steps.{Offers, Follows, Relaxes, Settles, Takes, IsGoing, IsInOrder, offer_cmp, offer_of};
+ghost use Rattle.short_paths.specs.Waiting.{IsOrdered};
+ghost use Rattle.short_paths.specs.Marks.{bests_of, places_of};
+ghost use Rattle.short_paths.specs.Steps.{Offers, Follows, Relaxes, Settles, Takes, IsGoing};
 
+use crate::mark::Mark;
+use crate::queue::{Offer, Queue};
 use crate::settled::Settled;
 use graph_store::{Half, Store};
 use std::alloc::{AllocError, Global};
-use std::cmp::Reverse;
-use std::collections::BinaryHeap;
 
 // A search in progress.
 #[derive(Drop)]
 pub struct Search {
-    // Offers that wait: a cost, the vertex that it reaches, and the one that it comes from.
-    pub queue: BinaryHeap<Reverse<(u64, u32, u32)>>,
-    // By vertex, the least that it was offered.
-    pub best: Vec<Option<u64>>,
-    // By vertex, its place among those that are settled.
-    pub places: Vec<Option<usize>>,
+    pub queue: Queue,
+    // By vertex, what is known of it.
+    pub marks: Vec<Mark>,
     pub settled: Vec<Settled>,
 }
 
@@ -26,8 +24,10 @@ impl Search {
     // Nothing is settled, and each source is offered to be reached at no cost.
     pub fn start(alloc: Global, vertices: u32, sources: &[u32]) -> Result<Search, AllocError>
         requires { All (IsVertex vertices) sources.now }
-        ensures going { IfOk result (λ made. (links : List Link) (limit : ℕ) → IsGoing links vertices sources.now limit made (heap_items made.queue)) }
-        ensures order { IfOk result IsInOrder }
+        ensures going { IfOk result (λ made. (links : List Link) (limit : ℕ) → IsGoing links vertices sources.now limit made made.queue.offers.items) }
+        ensures settled { IfOk result (λ made. made.settled.items ≡ []) }
+        ensures places { IfOk result (λ made. places_of made.marks.items ≡ replicate (vertices + 1) None) }
+        ensures order { IfOk result (λ made. IsOrdered made.queue.offers.items) }
     {
         let mut search = Search::new(alloc, vertices)?;
         for &source in sources {
@@ -38,43 +38,44 @@ impl Search {
 
     // Nothing is settled, and nothing offered.
     fn new(alloc: Global, vertices: u32) -> Result<Search, AllocError>
-        ensures best { IfOk result (λ made. made.best.items ≡ replicate (vertices + 1) None) }
-        ensures places { IfOk result (λ made. made.places.items ≡ replicate (vertices + 1) None) }
+        ensures best { IfOk result (λ made. bests_of made.marks.items ≡ replicate (vertices + 1) None) }
+        ensures places { IfOk result (λ made. places_of made.marks.items ≡ replicate (vertices + 1) None) }
         ensures settled { IfOk result (λ made. made.settled.items ≡ []) }
-        ensures queue { IfOk result (λ made. heap_items made.queue ≡ []) }
-        ensures order { IfOk result IsInOrder }
+        ensures queue { IfOk result (λ made. made.queue.offers.items ≡ []) }
     {
         Ok(Search {
-            queue: BinaryHeap::new(alloc),
-            best: vec![in alloc; None; vertices as usize + 1]?,
-            places: vec![in alloc; None; vertices as usize + 1]?,
+            queue: Queue::new(alloc),
+            marks: vec![in alloc; Mark::new(); vertices as usize + 1]?,
             settled: Vec::new(alloc),
         })
     }
 
-    // Offers a vertex to be reached at a cost, unless it was offered as much before.
+    // Offers a vertex to be reached at a cost, unless it was offered as much before. Each half
+    // comes by here, so a call would cost about as much as what it does.
+    #[inline(always)]
     fn offer(&mut self, cost: u64, to: u32, from: u32) -> Result<(), AllocError>
-        requires { to < length self.old.best.items }
+        requires to { to < length self.old.marks.items }
+        requires order { IsOrdered self.old.queue.offers.items }
         ensures ok { OnOk result (Offers self.old self.new cost to from) }
-        ensures order { IsInOrder self.old → IsInOrder self.new }
-        ensures length { heap_len self.new.queue ≤ heap_len self.old.queue + 1 }
+        ensures order { IsOrdered self.new.queue.offers.items }
+        ensures length { length self.new.queue.offers.items ≤ length self.old.queue.offers.items + 1 }
     {
-        match self.best[to as usize] {
-            Some(least) if least <= cost => Ok(()),
-            _ => {
-                self.queue.push(Reverse((cost, to, from)))?;
-                self.best[to as usize] = Some(cost);
-                Ok(())
-            }
+        let mark = self.marks[to as usize];
+        if mark.is_offered(cost) {
+            return Ok(());
         }
+        self.queue.push(Offer { cost, to, from })?;
+        self.marks[to as usize] = mark.offered(cost);
+        Ok(())
     }
 
     // Offers the other end of a half what it costs by there, if that is within the limit.
     fn follow(&mut self, limit: u64, cost: u64, half: Half, from: u32) -> Result<(), AllocError>
-        requires { half.to < length self.old.best.items }
+        requires to { half.to < length self.old.marks.items }
+        requires order { IsOrdered self.old.queue.offers.items }
         ensures ok { OnOk result (Follows self.old self.new limit (cost + half.cost) half.to from) }
-        ensures order { IsInOrder self.old → IsInOrder self.new }
-        ensures length { heap_len self.new.queue ≤ heap_len self.old.queue + 1 }
+        ensures order { IsOrdered self.new.queue.offers.items }
+        ensures length { length self.new.queue.offers.items ≤ length self.old.queue.offers.items + 1 }
     {
         match cost.checked_add(half.cost) {
             Some(reach) if reach <= limit => self.offer(reach, half.to, from),
@@ -85,8 +86,10 @@ impl Search {
     // Follows each half from a settled vertex.
     fn relax(&mut self, store: &Store, limit: u64, vertex: u32, cost: u64) -> Result<(), AllocError>
         requires vertex { IsVertex store.now.network.n vertex }
-        requires best { length self.old.best.items ≡ store.now.network.n + 1 }
-        ensures { OnOk result (Relaxes store.now.network.links store.now.network.n limit vertex cost self.old self.new) }
+        requires marks { length self.old.marks.items ≡ store.now.network.n + 1 }
+        requires order { IsOrdered self.old.queue.offers.items }
+        ensures ok { OnOk result (Relaxes store.now.network.links store.now.network.n limit vertex cost self.old self.new) }
+        ensures order { IsOrdered self.new.queue.offers.items }
     {
         for half in store.neighbours(vertex) {
             self.follow(limit, cost, *half, vertex)?;
@@ -96,57 +99,52 @@ impl Search {
 
     // Settles a vertex at a cost.
     fn settle(&mut self, vertex: u32, cost: u64, from: u32) -> Result<(), AllocError>
-        requires vertex { vertex < length self.old.places.items }
-        requires from { from < length self.old.places.items }
-        ensures { OnOk result (Settles self.old self.new vertex cost from) }
+        requires vertex { vertex < length self.old.marks.items }
+        requires from { from < length self.old.marks.items }
+        requires few { length self.old.settled.items < 2 ^ 32 - 1 }
+        ensures ok { OnOk result (Settles self.old self.new vertex cost from) }
+        ensures queue { self.new.queue ≡ self.old.queue }
     {
-        let before = self.places[from as usize].unwrap_or(usize::MAX);
-        let place = self.settled.len();
+        let before = self.marks[from as usize].place().unwrap_or(u32::MAX);
+        let place = self.settled.len() as u32;
         self.settled.push(Settled {
-            vertex,
             cost,
+            vertex,
             before,
         })?;
-        self.places[vertex as usize] = Some(place);
+        self.marks[vertex as usize] = self.marks[vertex as usize].settled(place);
         Ok(())
     }
 
     // The cheapest of the offers that wait.
-    pub fn next(&mut self) -> Option<(u64, u32, u32)>
-        requires { IsInOrder self.old }
-        ensures moved { IfSome result (λ offer. IsPermutation (heap_items self.old.queue) (offer_of offer.0 offer.1 offer.2 ∷ heap_items self.new.queue)) }
-        ensures cheapest { IfSome result (λ offer. IsUpperBound offer_cmp (offer_of offer.0 offer.1 offer.2) (heap_items self.old.queue)) }
-        ensures length { OnSome result (heap_len self.new.queue + 1 ≡ heap_len self.old.queue) }
-        ensures order { IsInOrder self.new }
-        ensures empty { IfNone result (heap_items self.old.queue ≡ []) }
-        ensures none { IfNone result (heap_items self.new.queue ≡ []) }
-        ensures best { self.new.best ≡ self.old.best }
-        ensures places { self.new.places ≡ self.old.places }
+    pub fn next(&mut self) -> Option<Offer>
+        requires { IsOrdered self.old.queue.offers.items }
+        ensures moved { IfSome result (λ offer. IsPermutation self.old.queue.offers.items (offer ∷ self.new.queue.offers.items)) }
+        ensures cheapest { IfSome result (λ offer. All (λ other. offer.cost ≤ other.cost) self.old.queue.offers.items) }
+        ensures length { OnSome result (length self.new.queue.offers.items + 1 ≡ length self.old.queue.offers.items) }
+        ensures order { IsOrdered self.new.queue.offers.items }
+        ensures empty { IfNone result (self.old.queue.offers.items ≡ []) }
+        ensures none { IfNone result (self.new.queue.offers.items ≡ []) }
+        ensures marks { self.new.marks ≡ self.old.marks }
         ensures settled { self.new.settled ≡ self.old.settled }
     {
-        let Reverse(offer) = self.queue.pop()?;
-        Some(offer)
+        self.queue.pop()
     }
 
     // Takes the cheapest offer: its vertex is settled, unless it was before.
-    pub fn take(
-        &mut self,
-        store: &Store,
-        limit: u64,
-        cost: u64,
-        vertex: u32,
-        from: u32,
-    ) -> Result<(), AllocError>
-        requires vertex { IsVertex store.now.network.n vertex }
-        requires from { from ≤ store.now.network.n }
-        requires best { length self.old.best.items ≡ store.now.network.n + 1 }
-        requires places { length self.old.places.items ≡ store.now.network.n + 1 }
-        ensures { OnOk result (Takes store.now.network.links store.now.network.n limit self.old self.new cost vertex from) }
+    pub fn take(&mut self, store: &Store, limit: u64, offer: Offer) -> Result<(), AllocError>
+        requires to { IsVertex store.now.network.n offer.to }
+        requires from { offer.from ≤ store.now.network.n }
+        requires marks { length self.old.marks.items ≡ store.now.network.n + 1 }
+        requires few { length self.old.settled.items < 2 ^ 32 - 1 }
+        requires order { IsOrdered self.old.queue.offers.items }
+        ensures ok { OnOk result (Takes store.now.network.links store.now.network.n limit self.old self.new offer) }
+        ensures order { IsOrdered self.new.queue.offers.items }
     {
-        if self.places[vertex as usize].is_some() {
+        if self.marks[offer.to as usize].place().is_some() {
             return Ok(());
         }
-        self.settle(vertex, cost, from)?;
-        self.relax(store, limit, vertex, cost)
+        self.settle(offer.to, offer.cost, offer.from)?;
+        self.relax(store, limit, offer.to, offer.cost)
     }
 }

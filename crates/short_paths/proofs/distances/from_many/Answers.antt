@@ -1,39 +1,69 @@
-use Rattle.std.proofs.Common.{length, subst, ap, sym, ◌∙◌, List}
-use Rattle.std.specs.BinaryHeap.{heap_items}
-use Rattle.short_paths.specs.Searching.{Offer}
-use Rattle.short_paths.specs.Steps.{IsGoing, offer_of}
-use Rattle.short_paths.proofs.Queue.{cheapest}
-use Rattle.short_paths.proofs.Settling.{taken_range}
+use Rattle.std.proofs.Common.{◌+◌, length, subst, ap, sym, ◌∙◌, List, arith}
+use Rattle.std.specs.declared.alloc.Global.{Global}
+use Rattle.std.specs.declared.vec.Vec.{Vec}
+use Rattle.short_paths.specs.declared.mark.Mark.{Mark}
+use Rattle.short_paths.specs.declared.queue.Offer.{Offer}
+use Rattle.short_paths.specs.declared.settled.Settled.{Settled}
+use Rattle.short_paths.specs.Marks.{places_of}
+use Rattle.short_paths.specs.Searching.{open_count}
+use Rattle.short_paths.specs.Steps.{IsGoing}
+use Rattle.short_paths.proofs.MarkLists.{length-bests_of}
+use Rattle.short_paths.proofs.Settling.{taken_range, open_count-replicate}
 use Rattle.short_paths.proofs.Endings.{are_routes, are_places, going_moved}
 use Rattle.short_paths.proofs.distances.from_many.Goals as goal
 
-pub loop-cost-init : goal.loop-cost-init
-loop-cost-init c = record {
+pub loop-offer-init : goal.loop-offer-init
+loop-offer-init c = record {
   going = rw c.vertices.ensures.count at (c.in_ok-search.ensures.going c.args.store.now.network.links c.args.limit);
   order = c.in_ok-search.ensures.order;
+  counted =
+      let none = ap length c.in_ok-search.ensures.settled in
+      let all = ap open_count c.in_ok-search.ensures.places ∙ open_count-replicate (c.vertices.result + 1) in
+      let same = c.vertices.ensures.count in
+      omega arith;
 }
 
-pub take-requires-clause-vertex : goal.take-requires-clause-vertex
-take-requires-clause-vertex c = (taken_range c.args.store.now.network.links c.args.store.now.network.n c.args.sources.now c.args.limit c.loop-cost.search (heap_items c.loop-cost.search.queue) (heap_items c.next.new.self.queue) c.in-Some.cost c.in-Some.vertex c.in-Some.from c.in-Some.ensures.moved c.loop-cost.invariant.going).0
+pub take-requires-clause-to : goal.take-requires-clause-to
+take-requires-clause-to c = (taken_range c.args.store.now.network.links c.args.store.now.network.n c.args.sources.now c.args.limit c.loop-offer.search c.loop-offer.search.queue.offers.items c.next.new.self.queue.offers.items c.in-Some.offer.cost c.in-Some.offer.to c.in-Some.offer.from c.in-Some.ensures.moved c.loop-offer.invariant.going).0
 
 pub take-requires-clause-from : goal.take-requires-clause-from
-take-requires-clause-from c = (taken_range c.args.store.now.network.links c.args.store.now.network.n c.args.sources.now c.args.limit c.loop-cost.search (heap_items c.loop-cost.search.queue) (heap_items c.next.new.self.queue) c.in-Some.cost c.in-Some.vertex c.in-Some.from c.in-Some.ensures.moved c.loop-cost.invariant.going).1
+take-requires-clause-from c = (taken_range c.args.store.now.network.links c.args.store.now.network.n c.args.sources.now c.args.limit c.loop-offer.search c.loop-offer.search.queue.offers.items c.next.new.self.queue.offers.items c.in-Some.offer.cost c.in-Some.offer.to c.in-Some.offer.from c.in-Some.ensures.moved c.loop-offer.invariant.going).1
 
-pub loop-cost-preserved : goal.loop-cost-preserved
-loop-cost-preserved c = record {
-  going = c.in_ok-take.ensures.going c.args.sources.now (heap_items c.loop-cost.search.queue) c.in-Some.ensures.moved (cheapest (offer_of c.in-Some.cost c.in-Some.vertex c.in-Some.from) (heap_items c.loop-cost.search.queue) c.in-Some.ensures.cheapest)
-      (going_moved c.args.store.now.network.links c.args.store.now.network.n c.args.sources.now c.args.limit c.loop-cost.search c.next.new.self (heap_items c.loop-cost.search.queue) c.in-Some.ensures.best c.in-Some.ensures.places c.in-Some.ensures.settled c.loop-cost.invariant.going);
-  order = c.in_ok-take.ensures.order c.in-Some.ensures.order;
+pub take-requires-clause-marks : goal.take-requires-clause-marks
+take-requires-clause-marks c =
+    let long = c.loop-offer.invariant.going.kept.best_long in
+    let same = length-bests_of c.loop-offer.search.marks.items in
+    let kept = ap (λ (m : Vec Mark Global). length m.items) c.next.ensures.marks in
+    omega arith
+
+pub take-requires-clause-few : goal.take-requires-clause-few
+take-requires-clause-few c =
+    let counted = c.loop-offer.invariant.counted in
+    let most = c.vertices.ensures.graph.instance.few_vertices in
+    let kept = ap (λ (s : Vec Settled Global). length s.items) c.next.ensures.settled in
+    omega arith
+
+pub loop-offer-preserved : goal.loop-offer-preserved
+loop-offer-preserved c = record {
+  going = c.in_ok-take.ensures.ok.going c.args.sources.now c.loop-offer.search.queue.offers.items c.in-Some.ensures.moved c.in-Some.ensures.cheapest
+      (going_moved c.args.store.now.network.links c.args.store.now.network.n c.args.sources.now c.args.limit c.loop-offer.search c.next.new.self c.loop-offer.search.queue.offers.items c.next.ensures.marks c.next.ensures.settled c.loop-offer.invariant.going);
+  order = c.take.ensures.order;
+  counted =
+      let counted = c.loop-offer.invariant.counted in
+      let step = c.in_ok-take.ensures.ok.counted in
+      let same_settled = ap (λ (s : Vec Settled Global). length s.items) c.next.ensures.settled in
+      let same_places = ap (λ (m : Vec Mark Global). open_count (places_of m.items)) c.next.ensures.marks in
+      omega arith;
 }
 
 pub invariant_of-result : goal.invariant_of-result
 invariant_of-result c =
-    are_places c.args.store.now.network.links c.args.store.now.network.n c.args.sources.now c.args.limit c.next.new.self (heap_items c.loop-cost.search.queue)
-    (going_moved c.args.store.now.network.links c.args.store.now.network.n c.args.sources.now c.args.limit c.loop-cost.search c.next.new.self (heap_items c.loop-cost.search.queue) c.next.ensures.best c.next.ensures.places c.next.ensures.settled c.loop-cost.invariant.going)
+    are_places c.args.store.now.network.links c.args.store.now.network.n c.args.sources.now c.args.limit c.next.new.self c.loop-offer.search.queue.offers.items
+    (going_moved c.args.store.now.network.links c.args.store.now.network.n c.args.sources.now c.args.limit c.loop-offer.search c.next.new.self c.loop-offer.search.queue.offers.items c.next.ensures.marks c.next.ensures.settled c.loop-offer.invariant.going)
 
 pub returns : goal.returns
 returns c =
     let same = c.in_default.ensures.empty ∙ sym c.in_default.ensures.none in
     let going = subst (λ (q : List Offer). IsGoing c.args.store.now.network.links c.args.store.now.network.n c.args.sources.now c.args.limit c.next.new.self q) same
-    (going_moved c.args.store.now.network.links c.args.store.now.network.n c.args.sources.now c.args.limit c.loop-cost.search c.next.new.self (heap_items c.loop-cost.search.queue) c.next.ensures.best c.next.ensures.places c.next.ensures.settled c.loop-cost.invariant.going) in
+    (going_moved c.args.store.now.network.links c.args.store.now.network.n c.args.sources.now c.args.limit c.loop-offer.search c.next.new.self c.loop-offer.search.queue.offers.items c.next.ensures.marks c.next.ensures.settled c.loop-offer.invariant.going) in
     are_routes c.args.store.now.network.links c.args.store.now.network.n c.args.sources.now c.args.limit c.next.new.self going (ap length c.in_default.ensures.none)
