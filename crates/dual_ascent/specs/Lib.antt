@@ -3,3 +3,4 @@ pub mod Raises
 pub mod Ascent
 pub mod Extension
 pub mod Laws
+pub mod Turns

@@ -1,11 +1,16 @@
-ghost use Rattle.std.specs.Prelude.{IfOk};
+ghost use Rattle.std.specs.Prelude.{◌≡◌, IfOk};
 ghost use Rattle.dual_ascent.specs.Ascent.{IsAscent};
 ghost use Rattle.dual_ascent.specs.Left.{AreEndsOf};
 
 use crate::Ascent;
+use crate::raising::{charge, raise_for};
+use crate::waiting::{Waiting, all_open, next};
 use bidirected_form::Arcs;
+use cut_packing::{Cut, Packing};
 use prize_transform::Twins;
+use st_model::{Listed, VertexSet};
 use std::alloc::{AllocError, Global};
+use std::cmp::Reverse;
 
 /// Adds cuts until they weigh as much as the target, or until the root reaches over arcs with
 /// nothing left each vertex that has to be reached and each one of whose prize something is left.
@@ -22,5 +27,36 @@ pub fn ascend(
     requires { AreEndsOf arcs.old twins.old }
     ensures { IfOk result (IsAscent arcs.old arcs.new twins.old twins.new target) }
 {
-    Err(AllocError)
+    let mut cuts = Vec::new(alloc);
+    let mut queue = all_open(alloc, arcs, twins, order)?;
+    let mut set = VertexSet::new(alloc, arcs.vertices() as usize + 1)?;
+    let mut room = target;
+    while room > 0 {
+        let Some(waiting) = next(&mut queue) else {
+            return Ok(Ascent::Full(packing(arcs.root(), cuts)));
+        };
+        let Some(raise) = raise_for(alloc, arcs, twins, &cuts, &mut set, &waiting, room)? else {
+            continue;
+        };
+        charge(arcs, twins, &raise.cut);
+        room -= raise.cut.y;
+        queue.push(Reverse(Waiting {
+            place: waiting.place,
+            entering: raise.entering,
+            vertex: waiting.vertex,
+            last: Some(cuts.len()),
+        }))?;
+        cuts.push(raise.cut)?;
+    }
+    Ok(Ascent::Reached(packing(arcs.root(), cuts)))
+}
+
+// The cuts for a root.
+fn packing(root: u32, cuts: Vec<Cut>) -> Packing
+    ensures { result ≡ record { root = Some root; cuts = cuts.items } }
+{
+    Packing {
+        root: Some(root),
+        cuts: Listed::of(cuts),
+    }
 }

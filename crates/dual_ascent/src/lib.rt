@@ -7,8 +7,14 @@
 #![tactic(auto)]
 
 mod ascending;
+#[cfg(test)]
+mod ascending_tests;
 mod ascent;
+mod border;
 mod extension;
+mod growing;
+mod raising;
+mod waiting;
 
 pub use ascending::ascend;
 pub use ascent::Ascent;

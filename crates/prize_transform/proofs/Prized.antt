@@ -34,7 +34,7 @@ vertices-numbered : (s : ℕ) (vs : List ℕ) → map (λ (e : ℕ × ℕ). e.1)
 vertices-numbered s [] = refl
 vertices-numbered s (v ∷ vs) = ap (λ (rest : List ℕ). v ∷ rest) (vertices-numbered (s + 1) vs)
 
-has_end-numbered : (s : ℕ) (vs : List ℕ) (q : ℕ) → has_end (numbered_from s vs) q ≡ has vs q
+pub has_end-numbered : (s : ℕ) (vs : List ℕ) (q : ℕ) → has_end (numbered_from s vs) q ≡ has vs q
 has_end-numbered s [] q = refl
 has_end-numbered s (v ∷ vs) q = rw (has_end-numbered (s + 1) vs q) refl
 
@@ -93,7 +93,7 @@ vertices_to k = go k k (omega arith)
     go zero k few = λ i d below. absurd (omega (arith, below))
     go (suc m) k few = All-push (IsVertex k) (up_to m) (suc m) (go m k (omega (arith, few))) (omega arith, few)
 
-has_up_to : (k v : ℕ) → IsVertex k v → IsTrue (has (up_to k) v)
+pub has_up_to : (k v : ℕ) → IsVertex k v → IsTrue (has (up_to k) v)
 has_up_to zero v range = absurd (omega (arith, range.0, range.1))
 has_up_to (suc k) v range = rw (has-push (up_to k) (suc k) v) (by_case (has_up_to k v) (cases_lt v (suc k)))
   where

@@ -1,0 +1,122 @@
+-- A cut over arcs and prizes as they are, with none before it.
+use Rattle.std.proofs.Common.{◌≡◌, ◌≢◌, ℕ, zero, suc, ◌+◌, ◌<◌, ◌≤◌, Bool, true, false, ◌&&◌, not, List, [], ◌∷◌, length, get_or, min, Some, ◌⊎◌, inl, inr, refl, sym, ap, ◌∙◌, subst, arith}
+use Rattle.std.specs.Prelude.{IsTrue, IsFalse, All, nat_lt}
+use Rattle.std.specs.List.Sorted.{IsStrictlyIncreasing}
+use Rattle.std.proofs.lemmas.Bool.{false≢true, and_parts, not-true, cases_lt, lt-ltb}
+use Rattle.st_model.specs.Lists.{has, up_to}
+use Rattle.st_model.specs.Network.{IsVertex}
+use Rattle.st_model.proofs.Marked.{has_at, place_of}
+use Rattle.bidirected_form.specs.declared.kind.VertexKind.{VertexKind}
+use Rattle.bidirected_form.specs.declared.kind.VertexKind.TheVariants.{Outside, Must, May}
+use Rattle.bidirected_form.specs.Digraph.{Digraph, IsDigraph, kind_of, remaining}
+use Rattle.bidirected_form.specs.Entering.{enters, CanBear}
+use Rattle.prize_transform.specs.Twins.{Ends, left_of, prize_in, prized, numbered_from, has_end}
+use Rattle.prize_transform.proofs.Numbered.{has-filter}
+use Rattle.prize_transform.proofs.Prized.{has_end-numbered, has_up_to}
+use Rattle.cut_packing.specs.declared.cut.Cut.{Cut}
+use Rattle.dual_ascent.specs.Left.{AreEndsOf}
+use Rattle.dual_ascent.specs.Raises.{IsUsedUp, Reaches, IsOpen, UsesUpAnArc, ReachesTarget, SpendsThePrize, IsLeast, IsRaise, here, there}
+use Rattle.dual_ascent.specs.Turns.{HasAnArcLeft, IsGrown, IsLimit}
+use Rattle.dual_ascent.proofs.Reaching.{reaches_in_range}
+
+must_or_not : (k : VertexKind) → (k ≡ Must) ⊎ (k ≢ Must)
+must_or_not Must = inl refl
+must_or_not Outside = inr (λ e. cc)
+must_or_not (May p) = inr (λ e. cc)
+
+-- the parts of a raise
+pub record AreParts (D : Digraph) (E : Ends) (room q : ℕ) (members : List ℕ) (limit : ℕ) (c : Cut) : Type 0 where
+  pub digraph : IsDigraph D
+  pub in_range : IsVertex D.n q
+  pub still_open : IsOpen D E [] q
+  pub some : 0 < room
+  pub grown : IsGrown D q members
+  pub apart : IsFalse (has members D.root)
+  pub limited : IsLimit D E q room limit
+  pub bound : c.y ≤ limit
+  pub bears : CanBear D members c.y
+  pub attained : (c.y ≡ limit) ⊎ HasAnArcLeft D members c.y
+  pub names : c.q ≡ q
+  pub same : (v : ℕ) → has c.set v ≡ has members v
+  pub ascending : IsStrictlyIncreasing c.set
+
+module _ (D : Digraph) (E : Ends) (room q : ℕ) (members : List ℕ) (limit : ℕ) (c : Cut) (h : AreParts D E room q members limit c) where
+  kind : (kind_of D q ≡ Must) ⊎ (kind_of D q ≢ Must)
+  kind = must_or_not (kind_of D q)
+
+  enters_same : (u v : ℕ) → enters c.set u v ≡ enters members u v
+  enters_same u v = rw (h.same v, h.same u) refl
+
+  -- something is left of the prize of a q that may be left out
+  prize_left : kind_of D q ≢ Must → 0 < left_of E q
+  prize_left may = elim h.still_open [ inl must ↦ absurd (may must) | inr left ↦ left ]
+
+  limit_some : 0 < limit
+  limit_some = elim kind [ inl must ↦ omega (arith, h.limited.must must, h.some) | inr may ↦ omega (arith, h.limited.may may, h.some, prize_left may) ]
+
+  limit_room : limit ≤ room
+  limit_room = elim kind [ inl must ↦ omega (arith, h.limited.must must) | inr may ↦ omega (arith, h.limited.may may) ]
+
+  -- an arc with nothing left comes from the set
+  arc_some : HasAnArcLeft D members c.y → 0 < c.y
+  arc_some arc = elim (cases_lt 0 c.y) [
+    | inl positive ↦ positive
+    | inr none ↦
+        let parts = and_parts (has members arc.head) (not (has members arc.tail)) arc.entering in
+        let used : remaining D arc.tail arc.head ≡ Some 0 = arc.left ∙ ap Some (omega (arith, none)) in
+        let held = (h.grown arc.tail).1 (there used ((h.grown arc.head).0 parts.0)) in
+        absurd (false≢true (sym (not-true (has members arc.tail) parts.1) ∙ held))
+  ]
+
+  positive : 0 < c.y
+  positive = elim h.attained [ inl all ↦ omega (arith, all, limit_some) | inr arc ↦ arc_some arc ]
+
+  least_by : (c.y ≡ limit) ⊎ HasAnArcLeft D members c.y → UsesUpAnArc D [] c ⊎ ReachesTarget room [] c ⊎ SpendsThePrize D E [] c
+  least_by (inr arc) = inl (record { tail = arc.tail; head = arc.head; entering = enters_same arc.tail arc.head ∙ arc.entering; used = arc.left ∙ ap Some (omega arith) })
+  least_by (inl all) = elim kind [
+    | inl must ↦ inr (inl (omega (arith, all, h.limited.must must)))
+    | inr may ↦ elim (cases_lt (left_of E q) room) [
+      | inl less ↦ inr (inr (λ must. may (ap (kind_of D) (sym h.names) ∙ must), omega (arith, all, h.limited.may may, less, ap (left_of E) h.names)))
+      | inr more ↦ inr (inl (omega (arith, all, h.limited.may may, more)))
+    ]
+  ]
+
+  least : IsLeast D E room [] c
+  least = record {
+    arcs = λ u v r entering is. omega (arith, h.bears u v r (sym (enters_same u v) ∙ entering) is);
+    room = omega (arith, h.bound, limit_room);
+    prize = λ may. omega (arith, h.bound, h.limited.may (λ must. may (ap (kind_of D) h.names ∙ must)), ap (left_of E) h.names);
+    attained = least_by h.attained;
+  }
+
+  exact_here : (v : ℕ) → (IsTrue (has c.set v) → Reaches D [] c.q v) × (Reaches D [] c.q v → IsTrue (has c.set v))
+  exact_here v = (λ held. subst (λ (p : ℕ). Reaches D [] p v) (sym h.names) ((h.grown v).0 (sym (h.same v) ∙ held)), λ reaching. h.same v ∙ (h.grown v).1 (subst (λ (p : ℕ). Reaches D [] p v) h.names reaching))
+
+  pub raise_made : IsRaise D E room [] c × (c.q ≡ q)
+  raise_made = (
+    record {
+      still_open = subst (IsOpen D E []) (sym h.names) h.still_open;
+      set = record { ascending = h.ascending; in_range = λ k d below. reaches_in_range D [] h.digraph q (get_or c.set k d) h.in_range ((h.grown (get_or c.set k d)).0 (sym (h.same (get_or c.set k d)) ∙ has_at c.set k d below)) };
+      exact = exact_here;
+      apart = h.same D.root ∙ h.apart;
+      positive = positive;
+      least = least;
+    },
+    h.names,
+  )
+
+-- all that reaches a vertex is in range
+pub grown_in_range : (D : Digraph) (q : ℕ) (members : List ℕ) → IsDigraph D → IsVertex D.n q → IsGrown D q members → All (IsVertex D.n) members
+grown_in_range D q members h range grown = λ k d below. reaches_in_range D [] h q (get_or members k d) range ((grown (get_or members k d)).0 (has_at members k d below))
+
+-- the vertex of a raise is in range
+pub raised_in_range : (D : Digraph) (E : Ends) (room : ℕ) (c : Cut) → IsRaise D E room [] c → IsVertex D.n c.q
+raised_in_range D E room c r =
+    let place = place_of c.set c.q ((r.exact c.q).1 here) in
+    subst (IsVertex D.n) place.2 (r.set.in_range place.0 0 place.1)
+
+-- a vertex of whose prize something is left has an end
+pub left_has_end : (D : Digraph) (E : Ends) (q : ℕ) → AreEndsOf D E → IsVertex D.n q → 0 < left_of E q → IsTrue (has_end E.ends q)
+left_has_end D E q ends range left =
+    let pays : 0 < prize_in D q = omega (arith, left, ends.within q) in
+    rw ends.ends (has_end-numbered (D.n + 1) (prized D) q ∙ has-filter (λ v. nat_lt 0 (prize_in D v)) (up_to D.n) q (has_up_to D.n q range) (lt-ltb 0 (prize_in D q) pays))

@@ -1,0 +1,5 @@
+pub mod Reaching
+pub mod SoFar
+pub mod Bordering
+pub mod Queued
+pub mod Fresh

@@ -1,0 +1,159 @@
+-- What reaches a vertex over arcs with nothing left.
+use Rattle.std.proofs.Common.{◌≡◌, ℕ, zero, suc, ◌+◌, ◌<◌, ◌≤◌, Bool, true, false, cond, ◌||◌, eqb, List, [], ◌∷◌, ◌++◌, length, get_or, take, map, Some, None, ◌⊎◌, inl, inr, refl, sym, ap, ◌∙◌, subst, arith}
+use Rattle.std.specs.Prelude.{IsTrue, if◌then◌else◌, ◌==◌, ◌↔◌, All, slice_get}
+use Rattle.std.proofs.lemmas.Bool.{false≢true, eqb-true, eq-eqb, ne_eqb, or_cases, or_left, or_right}
+use Rattle.std.proofs.lemmas.List.{take_at, take_all, get_or_push, length_push, append-nil}
+use Rattle.std.proofs.lemmas.List.Elements.{All-nil, All-cons, All-append, All-weaker, recursion_from_All}
+use Rattle.st_model.specs.Lists.{has}
+use Rattle.st_model.specs.Network.{IsVertex}
+use Rattle.bidirected_form.specs.declared.arc.Arc.{Arc}
+use Rattle.bidirected_form.specs.Digraph.{Digraph, IsDigraph, arcs_into, left_from, remaining}
+use Rattle.bidirected_form.proofs.Lookups.{Rise, Rise-rest, left_from-found}
+use Rattle.cut_packing.specs.declared.cut.Cut.{Cut}
+use Rattle.cut_packing.specs.Led.{Extends, IsLed, AreLed, heads_at, start, along}
+use Rattle.st_model.proofs.Marked.{at_member}
+use Rattle.cut_packing.proofs.Walked.{Extends-insert, IsWalked, IsWalked-step, AreLed-done}
+use Rattle.dual_ascent.specs.Raises.{IsUsedUp, Reaches, here, there}
+use Rattle.dual_ascent.specs.Turns.{free_tails, AreSeeds, IsGrown}
+
+-- what arcs with nothing left allow, more such arcs do
+pub reaches_over : (D D' : Digraph) (C C' : List Cut) → ((u v : ℕ) → IsUsedUp D C u v → IsUsedUp D' C' u v) → (q v : ℕ) → Reaches D C q v → Reaches D' C' q v
+reaches_over D D' C C' more q v here = here
+reaches_over D D' C C' more q v (there {u = u} {v = w} used rest) = there (more u w used) (reaches_over D D' C C' more q w rest)
+
+-- the head of an arc that is there is in range, and so is its tail
+pub arc_in_range : (D : Digraph) → IsDigraph D → (u v r : ℕ) → remaining D u v ≡ Some r → IsVertex D.n u
+arc_in_range D h u v r is =
+    let found = left_from-found (arcs_into D v) u r is in
+    let a : Arc = record { tail = u; remaining = r } in
+    subst (λ (b : Arc). IsVertex D.n b.tail) (found.2 a) ((h.arcs v).tails found.0 a found.1).0
+
+pub reaches_in_range : (D : Digraph) (C : List Cut) → IsDigraph D → (q v : ℕ) → IsVertex D.n q → Reaches D C q v → IsVertex D.n v
+reaches_in_range D C h q v range here = range
+reaches_in_range D C h q v range (there {u = u} {v = w} used rest) = arc_in_range D h u w _ used
+
+-- the tails of arcs with nothing left
+pub free_tail : (arcs : List Arc) (u : ℕ) → Rise arcs → IsTrue (has (free_tails arcs) u) → left_from arcs u ≡ Some 0
+free_tail [] u h held = absurd (false≢true held)
+free_tail (a ∷ arcs) u h held = by_case (eqb a.remaining 0) (eqb a.tail u) refl refl (free_tail arcs u (Rise-rest a arcs h)) held
+  where
+    later : left_from arcs u ≡ Some 0 → eqb a.tail u ≡ true → ⊥
+    later is same =
+        let found = left_from-found arcs u 0 is in
+        let rise : a.tail < (get_or arcs found.0 a).tail = h 0 (suc found.0) a (omega arith) (omega (arith, found.1)) in
+        let tail : (get_or arcs found.0 a).tail ≡ u = ap (λ (b : Arc). b.tail) (found.2 a) in
+        omega (arith, rise, tail, eqb-true a.tail u same)
+
+    by_case : (free same : Bool) → eqb a.remaining 0 ≡ free → eqb a.tail u ≡ same → (IsTrue (has (free_tails arcs) u) → left_from arcs u ≡ Some 0) → IsTrue (has (cond free (a.tail ∷ free_tails arcs) (free_tails arcs)) u) → cond same (Some a.remaining) (left_from arcs u) ≡ Some 0
+    by_case true true e f rest held = ap Some (eqb-true a.remaining 0 e)
+    by_case true false e f rest held = rest (rw f at held)
+    by_case false true e f rest held = absurd (later (rest held) f)
+    by_case false false e f rest held = rest held
+
+pub tail_free : (arcs : List Arc) (u : ℕ) → left_from arcs u ≡ Some 0 → IsTrue (has (free_tails arcs) u)
+tail_free [] u is = absurd (let clash : ⊥ = cc in clash)
+tail_free (a ∷ arcs) u is = by_case (eqb a.remaining 0) (eqb a.tail u) refl refl (tail_free arcs u) is
+  where
+    by_case : (free same : Bool) → eqb a.remaining 0 ≡ free → eqb a.tail u ≡ same → (left_from arcs u ≡ Some 0 → IsTrue (has (free_tails arcs) u)) → cond same (Some a.remaining) (left_from arcs u) ≡ Some 0 → IsTrue (has (cond free (a.tail ∷ free_tails arcs) (free_tails arcs)) u)
+    by_case true true e f rest is = or_left (eqb a.tail u) _ f
+    by_case true false e f rest is = or_right (eqb a.tail u) _ (rest is)
+    by_case false true e f rest is = let zero_is : a.remaining ≡ 0 = cc in absurd (false≢true (sym e ∙ eq-eqb a.remaining 0 zero_is))
+    by_case false false e f rest is = rest is
+
+-- the tails of the arcs with nothing left into each vertex
+abbrev pub free_into : Digraph → List (List ℕ)
+free_into D = map free_tails D.arcs
+
+into-map : (rows : List (List Arc)) (v : ℕ) → get_or (map free_tails rows) v [] ≡ free_tails (get_or rows v [])
+into-map [] v = refl
+into-map (row ∷ rows) zero = refl
+into-map (row ∷ rows) (suc v) = into-map rows v
+
+-- whoever is led to by these tails reaches the vertex
+pub led_reaches : (D : Digraph) → IsDigraph D → (q v : ℕ) → IsLed (free_into D) q v → Reaches D [] q v
+led_reaches D h q v start = here
+led_reaches D h q v (along {u = u} {v = w} led listed) = there (free_tail (arcs_into D u) w (h.arcs u).ascending (rw (into-map D.arcs u) at listed)) (led_reaches D h q u led)
+
+pub reaches_led : (D : Digraph) (q v : ℕ) → Reaches D [] q v → IsLed (free_into D) q v
+reaches_led D q v here = start
+reaches_led D q v (there {u = u} {v = w} used rest) = along (reaches_led D q w rest) (rw (into-map D.arcs w) (tail_free (arcs_into D w) u used))
+
+-- what is led to is in the set that has all of it
+pub reached_is_in : (D : Digraph) (q v : ℕ) (members : List ℕ) → AreLed (free_into D) q members → Reaches D [] q v → IsTrue (has members v)
+reached_is_in D q v members h here = h.root
+reached_is_in D q v members h (there {u = u} {v = w} used rest) = h.closed w u (reached_is_in D q w members h rest) (rw (into-map D.arcs w) (tail_free (arcs_into D w) u used))
+
+-- one vertex more
+pub Extends-push : (old now new vertices : List ℕ) (t : ℕ) → Extends old now vertices → new ≡ (if has now t then now else now ++ t ∷ []) → Extends old new (vertices ++ t ∷ [])
+Extends-push old now new vertices t h is =
+    let k = length vertices in
+    let long = length_push vertices t in
+    let front : take k (vertices ++ t ∷ []) ≡ vertices = take_at vertices (t ∷ []) k refl in
+    let last : get_or (vertices ++ t ∷ []) k 0 ≡ t = get_or_push vertices t 0 k refl in
+    let before : Extends old now (take k (vertices ++ t ∷ [])) = subst (Extends old now) (sym front) h in
+    let pushed : new ≡ (if has now (get_or (vertices ++ t ∷ []) k 0) then now else now ++ get_or (vertices ++ t ∷ []) k 0 ∷ []) = subst (λ (x : ℕ). new ≡ (if has now x then now else now ++ x ∷ [])) (sym last) is in
+    subst (Extends old new) (take_all (k + 1) (vertices ++ t ∷ []) (omega (arith, long))) (Extends-insert old now new (vertices ++ t ∷ []) k (omega (arith, long)) before pushed)
+
+free_tails-append : (arcs more : List Arc) → free_tails (arcs ++ more) ≡ free_tails arcs ++ free_tails more
+free_tails-append [] more = refl
+free_tails-append (a ∷ arcs) more = rw (free_tails-append arcs more) (by_case (eqb a.remaining 0))
+  where
+    by_case : (b : Bool) → (if b then a.tail ∷ (free_tails arcs ++ free_tails more) else free_tails arcs ++ free_tails more) ≡ (if b then a.tail ∷ free_tails arcs else free_tails arcs) ++ free_tails more
+    by_case true = refl
+    by_case false = refl
+
+-- an arc with nothing left is looked at
+pub tails_with : (old now new : List ℕ) (arcs : List Arc) (a : Arc) → a.remaining ≡ 0 → new ≡ (if has now a.tail then now else now ++ a.tail ∷ []) → Extends old now (free_tails arcs) → Extends old new (free_tails (arcs ++ a ∷ []))
+tails_with old now new arcs a free is h = subst (Extends old new) (sym (free_tails-append arcs (a ∷ []) ∙ rw (eq-eqb a.remaining 0 free) refl)) (Extends-push old now new (free_tails arcs) a.tail h is)
+
+-- and one of which something is left
+pub tails_past : (old now : List ℕ) (arcs : List Arc) (a : Arc) → (a.remaining ≡ 0 → ⊥) → Extends old now (free_tails arcs) → Extends old now (free_tails (arcs ++ a ∷ []))
+tails_past old now arcs a some h = subst (Extends old now) (sym (free_tails-append arcs (a ∷ []) ∙ rw (ne_eqb a.remaining 0 some) (append-nil (free_tails arcs)))) h
+
+-- the first members have been asked who reaches them
+pub record IsGrowing (D : Digraph) (q next : ℕ) (members : List ℕ) : Type 0 where
+  pub walked : IsWalked (free_into D) q next members
+  pub seeds : AreSeeds D q members
+
+pub growing_from : (D : Digraph) (q : ℕ) (members : List ℕ) → AreSeeds D q members → IsGrowing D q 0 members
+growing_from D q members s = record {
+  walked = record { root = s.held; sound = All-weaker (Reaches D [] q) (IsLed (free_into D) q) (reaches_led D q) members s.reaching; closed = λ k before within v listed. absurd (omega arith) };
+  seeds = s;
+}
+
+-- more members are in range
+pub in_range_more : (D : Digraph) (v : ℕ) (members new : List ℕ) → IsDigraph D → Extends members new (free_tails (arcs_into D v)) → All (IsVertex D.n) members → All (IsVertex D.n) new
+in_range_more D v members new h e all = rw e.appended (All-append (IsVertex D.n) members e.more all (All-weaker (λ u. IsTrue (has (free_tails (arcs_into D v)) u)) (IsVertex D.n) (λ u held. arc_in_range D h u v 0 (free_tail (arcs_into D v) u (h.arcs v).ascending held)) e.more e.only))
+
+-- one member more has been asked
+pub growing_more : (D : Digraph) (q next v : ℕ) (members new : List ℕ) → IsDigraph D → slice_get members next ≡ Some v → Extends members new (free_tails (arcs_into D v)) → IsGrowing D q next members → IsGrowing D q (next + 1) new
+growing_more D q next v members new h at e g = record {
+  walked = walked;
+  seeds = record { held = walked.root; in_range = in_range_more D v members new h e g.seeds.in_range; reaching = All-weaker (IsLed (free_into D) q) (Reaches D [] q) (led_reaches D h q) new walked.sound };
+}
+  where
+    walked : IsWalked (free_into D) q (next + 1) new
+    walked = IsWalked-step (free_into D) q next v members new at (subst (Extends members new) (sym (into-map D.arcs v)) e) g.walked
+
+-- all have been asked
+pub growing_done : (D : Digraph) (q next : ℕ) (members : List ℕ) → length members ≤ next → IsGrowing D q next members → IsGrown D q members
+growing_done D q next members all g v = (λ held. at_member (Reaches D [] q) members v (recursion_from_All (Reaches D [] q) members g.seeds.reaching) held, λ reaching. reached_is_in D q v members (AreLed-done (free_into D) q next members all g.walked) reaching)
+
+-- one vertex alone
+pub alone_is_seed : (D : Digraph) (q : ℕ) → IsVertex D.n q → AreSeeds D q (q ∷ [])
+alone_is_seed D q range = record {
+  held = or_left (q == q) _ (eq-eqb q q refl);
+  in_range = All-cons (IsVertex D.n) q [] range (All-nil (IsVertex D.n));
+  reaching = All-cons (Reaches D [] q) q [] here (All-nil (Reaches D [] q));
+}
+
+-- what holds of vertices holds of them in another order
+pub all_same : (P : ℕ → Type 0) (old new : List ℕ) → Extends [] new old → All P old → All P new
+all_same P old new e all = rw e.appended (All-weaker (λ v. IsTrue (has old v)) P (λ v held. at_member P old v (recursion_from_All P old all) held) e.more e.only)
+
+pub seeds_same : (D : Digraph) (q : ℕ) (old new : List ℕ) → Extends [] new old → AreSeeds D q old → AreSeeds D q new
+seeds_same D q old new e s = record {
+  held = e.covers q s.held;
+  in_range = all_same (IsVertex D.n) old new e s.in_range;
+  reaching = all_same (Reaches D [] q) old new e s.reaching;
+}

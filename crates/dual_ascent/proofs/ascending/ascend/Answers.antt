@@ -1,0 +1,43 @@
+use Rattle.std.proofs.Common.{◌≡◌, ◌∙◌, ℕ, ◌+◌, ◌-◌, ◌++◌, ◌∷◌, [], List, length, Some, ap, refl, sym, subst, arith}
+use Rattle.std.specs.BinaryHeap.{heap_items}
+use Rattle.cut_packing.specs.declared.cut.Cut.{Cut}
+use Rattle.dual_ascent.specs.Turns.{Entry, AreWaiting, IsWaiting}
+use Rattle.dual_ascent.proofs.Queued.{none_waiting, waiting_next, waiting_past, waiting_again}
+use Rattle.dual_ascent.proofs.SoFar.{AreSoFar, none_so_far, one_more, ends_now, ends_reached, ends_full}
+use Rattle.dual_ascent.proofs.ascending.ascend.Goals as goal
+
+pub returns-in_default : goal.returns-in_default
+returns-in_default c =
+    let D = c.args.arcs.now in
+    let D' = c.loop-room.arcs in
+    let cuts = c.loop-room.cuts.items in
+    let waiting = subst (AreWaiting D' c.loop-room.twins cuts) c.in_default.ensures.empty c.loop-room.invariant.waiting in
+    ends_full D D' c.args.twins.now c.loop-room.twins c.args.target c.loop-room.room cuts c.loop-room.invariant.so_far c.packing.result (rw c.root.ensures.root at c.packing.ensures) c.ranges.target.fits c.loop-room-test.true (none_waiting D' c.loop-room.twins cuts waiting)
+
+pub raise_for-requires-clause-waiting : goal.raise_for-requires-clause-waiting
+raise_for-requires-clause-waiting c =
+    rw c.deref.ensures.value (waiting_next c.loop-room.arcs c.loop-room.twins c.loop-room.cuts.items (heap_items c.loop-room.queue) (heap_items c.next.new.queue) _ c.in-Some.ensures.moved c.loop-room.invariant.waiting)
+
+pub loop-room-preserved-in_default-2 : goal.loop-room-preserved-in_default-2
+loop-room-preserved-in_default-2 c = record {
+  so_far = c.loop-room.invariant.so_far;
+  waiting = waiting_past c.loop-room.arcs c.loop-room.twins c.loop-room.cuts.items (heap_items c.loop-room.queue) (heap_items c.next.new.queue) _ c.in-Some.ensures.moved (rw c.in_default-2.is at c.in_ok-raise.ensures.raise) c.loop-room.invariant.waiting;
+  count = c.in_ok-raise.ensures.count ∙ c.loop-room.invariant.count;
+}
+
+pub charge-requires-clause-ends : goal.charge-requires-clause-ends
+charge-requires-clause-ends c = ends_now c.args.arcs.now c.loop-room.arcs c.args.twins.now c.loop-room.twins c.args.target c.loop-room.room c.loop-room.cuts.items c.loop-room.invariant.so_far c.requires
+
+pub loop-room-preserved : goal.loop-room-preserved
+loop-room-preserved c =
+    let D' = c.loop-room.arcs in
+    let E' = c.loop-room.twins in
+    let cuts = c.loop-room.cuts.items in
+    let cut = c.in-Some-2.raise.cut in
+    let raise = rw c.in-Some-2.is at c.in_ok-raise.ensures.raise in
+    let last : c.len.result ≡ length cuts = omega (arith, c.len.ensures, c.loop-room.cuts.ok.0) in
+    record {
+      so_far = rw c.in_ok-push-2.ensures.items (one_more c.args.arcs.now D' c.args.twins.now E' c.args.target c.loop-room.room cuts c.loop-room.invariant.so_far c.charge.new.arcs c.charge.new.twins cut raise.0 c.requires c.charge.ensures.arcs c.charge.ensures.ends);
+      waiting = rw c.in_ok-push-2.ensures.items (waiting_again D' c.charge.new.arcs E' c.charge.new.twins c.loop-room.room cuts (heap_items c.loop-room.queue) (heap_items c.next.new.queue) (heap_items c.push.new.self) _ _ cut c.in-Some.ensures.moved raise.0 raise.1 c.charge.ensures.arcs c.charge.ensures.ends c.in_ok-push.ensures.permutation refl (ap Some last) c.loop-room.invariant.waiting);
+      count = c.in_ok-raise.ensures.count ∙ c.loop-room.invariant.count ∙ ap (λ (n : ℕ). n + 1) (sym c.charge.ensures.arcs.count);
+    }

@@ -1,0 +1,70 @@
+-- The turns of an ascent. Helpers' clauses cite this, and no public one.
+use Rattle.std.specs.Prelude.{◌≡◌, ◌≢◌, ℕ, ◌<◌, ◌≤◌, ◌⊎◌, ◌↔◌, ◌==◌, min, Bool, IsTrue, IsFalse, if◌then◌else◌, List, [], ◌∷◌, length, All, Contains, IfSome, Some}
+use Rattle.std.specs.List.{HoldsAt, list_any}
+use Rattle.std.specs.declared.cmp.Reverse.{Reverse}
+use Rattle.st_model.specs.Lists.{has}
+use Rattle.st_model.specs.Network.{IsVertex}
+use Rattle.bidirected_form.specs.declared.arc.Arc.{Arc}
+use Rattle.bidirected_form.specs.declared.kind.VertexKind.TheVariants.{Must}
+use Rattle.bidirected_form.specs.Digraph.{Digraph, kind_of, remaining}
+use Rattle.bidirected_form.specs.Entering.{enters}
+use Rattle.prize_transform.specs.Twins.{Ends, Charges, left_of}
+use Rattle.cut_packing.specs.declared.cut.Cut.{Cut}
+use Rattle.dual_ascent.specs.declared.waiting.Waiting.{Waiting}
+use Rattle.dual_ascent.specs.Raises.{IsOpen, Reaches}
+
+-- the tails of the arcs with nothing left
+abbrev pub free_tails : List Arc → List ℕ
+free_tails [] = []
+free_tails (a ∷ arcs) = if a.remaining == 0 then a.tail ∷ free_tails arcs else free_tails arcs
+
+-- q, and others that reach it over arcs with nothing left
+pub record AreSeeds (D : Digraph) (q : ℕ) (set : List ℕ) : Type 0 where
+  pub held : IsTrue (has set q)
+  pub in_range : All (IsVertex D.n) set
+  pub reaching : All (Reaches D [] q) set
+
+-- the vertices are those that reach q over arcs with nothing left
+abbrev pub IsGrown : Digraph → ℕ → List ℕ → Type 0
+IsGrown D q set = (v : ℕ) → IsTrue (has set v) ↔ Reaches D [] q v
+
+-- a vertex that waits; the set of its last cut, if it has one, still reaches it
+pub record IsWaiting (D : Digraph) (cuts : List Cut) (w : Waiting) : Type 0 where
+  pub in_range : IsVertex D.n w.vertex
+  pub seeds : IfSome w.last (λ place. (place < length cuts) × HoldsAt (λ c. AreSeeds D w.vertex c.set) cuts place)
+
+-- an entry of the queue
+abbrev pub Entry : Type 0
+Entry = Reverse Waiting
+
+-- whether v waits
+abbrev pub waits : List Entry → ℕ → Bool
+waits queue v = list_any (λ e. e.0.vertex == v) queue
+
+-- each open vertex waits, or is reached from the root
+pub record AreWaiting (D : Digraph) (E : Ends) (cuts : List Cut) (queue : List Entry) : Type 0 where
+  pub each : All (λ e. IsWaiting D cuts e.0) queue
+  pub others : (v : ℕ) → IsOpen D E [] v → IsTrue (waits queue v) ⊎ Reaches D [] v D.root
+
+-- the cut's value is taken from the prize of its q, where that may be left out
+pub record Spends (D : Digraph) (old new : Ends) (c : Cut) : Type 0 where
+  pub must : kind_of D c.q ≡ Must → new ≡ old
+  pub may : kind_of D c.q ≢ Must → Charges old new c.q c.y
+
+-- some arc that enters the set has so much left
+pub record HasAnArcLeft (D : Digraph) (set : List ℕ) (y : ℕ) : Type 0 where
+  pub tail : ℕ
+  pub head : ℕ
+  pub entering : IsTrue (enters set tail head)
+  pub left : remaining D tail head ≡ Some y
+
+-- the least of a limit and of what remains of those of the arcs that come from outside the set
+pub record IsLeastOf (set : List ℕ) (arcs : List Arc) (limit least : ℕ) : Type 0 where
+  pub bound : least ≤ limit
+  pub below : All (λ a. IsFalse (has set a.tail) → least ≤ a.remaining) arcs
+  pub attained : (least ≡ limit) ⊎ ((a : Arc) × Contains arcs a × IsFalse (has set a.tail) × (a.remaining ≡ least))
+
+-- the least of a room and of what is left of the prize of q, where that may be left out
+pub record IsLimit (D : Digraph) (E : Ends) (q room limit : ℕ) : Type 0 where
+  pub must : kind_of D q ≡ Must → limit ≡ room
+  pub may : kind_of D q ≢ Must → limit ≡ min room (left_of E q)

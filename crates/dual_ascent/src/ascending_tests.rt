@@ -1,0 +1,157 @@
+ghost use Rattle.std.specs.Prelude.{◌≡◌, ◌<◌, ◌≤◌, IfOk};
+ghost use Rattle.dual_ascent.specs.Left.{AreEndsOf};
+
+use crate::{Ascent, ascend};
+use bidirected_form::Arcs;
+use cut_packing::Packing;
+use graph_store::Store;
+use prize_transform::Twins;
+use st_model::{Branch, Instance, Link, Listed, Need};
+use std::alloc::{AllocError, Global};
+use std::test::Fail;
+
+fn link(a: u32, b: u32, cost: u64) -> Link
+    ensures { result ≡ record { a = a; b = b; cost = cost } }
+{
+    Link { a, b, cost }
+}
+
+// The arcs of an instance from vertex 1 on, and the ends, all whole.
+fn whole(alloc: Global, instance: &Instance) -> Result<(Arcs, Twins), AllocError>
+    requires { 1 ≤ instance.now.n }
+    ensures { IfOk result (λ made. AreEndsOf made.0 made.1) }
+{
+    let store = Store::of(alloc, instance)?;
+    let branch = Branch {
+        inside: Listed::of(Vec::new(alloc)),
+        outside: Listed::of(Vec::new(alloc)),
+    };
+    let arcs = Arcs::of(alloc, &store, &branch, 1)?;
+    let twins = Twins::of(alloc, &arcs)?;
+    Ok((arcs, twins))
+}
+
+// What an ascent over these makes, and what it leaves of them.
+fn ascend_whole(
+    alloc: Global,
+    instance: &Instance,
+    order: &[u32],
+    target: u64,
+) -> Result<(Ascent, Arcs, Twins), AllocError>
+    requires { 1 ≤ instance.now.n }
+{
+    let (mut arcs, mut twins) = whole(alloc, instance)?;
+    let ascent = ascend(alloc, &mut arcs, &mut twins, order, target)?;
+    Ok((ascent, arcs, twins))
+}
+
+// Whether the target was reached, what the cuts weigh, and how many they are.
+fn outcome(ascent: &Ascent) -> (bool, u64, usize) {
+    match ascent {
+        Ascent::Full(packing) => (false, weight(packing), packing.cuts.as_slice().len()),
+        Ascent::Reached(packing) => (true, weight(packing), packing.cuts.as_slice().len()),
+    }
+}
+
+fn weight(packing: &Packing) -> u64 {
+    let mut sum: u64 = 0;
+    for cut in packing.cuts.as_slice() {
+        sum = sum.saturating_add(cut.y);
+    }
+    sum
+}
+
+// Three terminals joined to each other at 4, and to a centre at 2.
+fn triangle(alloc: Global) -> Result<Instance, AllocError>
+    ensures { IfOk result (λ instance. instance.n ≡ 4) }
+{
+    let links = [
+        link(1, 4, 2),
+        link(2, 4, 2),
+        link(3, 4, 2),
+        link(1, 2, 4),
+        link(2, 3, 4),
+        link(1, 3, 4),
+    ];
+    let needs = [
+        (1, Need::Required),
+        (2, Need::Required),
+        (3, Need::Required),
+    ];
+    Instance::build(alloc, 4, &links, &needs)
+}
+
+#[test]
+fn raises_the_triangle_to_its_optimum(rt: HostRuntime) -> Result<(), Fail> {
+    let instance = triangle(rt.alloc())?;
+    // Two cuts of 2 round the terminal that is first, and one of 2 round the other one.
+    let orders: [&[u32]; 4] = [&[], &[3, 2], &[9, 3, 0, 3, 1, 4_000_000_000], &[4, 2]];
+    for order in orders {
+        for (target, want) in [
+            (7, (false, 6, 3)),
+            (6, (true, 6, 3)),
+            (5, (true, 5, 3)),
+            (1, (true, 1, 1)),
+            (0, (true, 0, 0)),
+        ] {
+            let (ascent, _, _) = ascend_whole(rt.alloc(), &instance, order, target)?;
+            assert_eq!(rt; outcome(&ascent), want, "up to {target} by {order:?}");
+        }
+    }
+    Ok(())
+}
+
+// Whether the first cut is round a vertex alone.
+fn is_first(ascent: &Ascent, q: u32) -> bool {
+    let (Ascent::Full(packing) | Ascent::Reached(packing)) = ascent;
+    match packing.cuts.as_slice() {
+        [cut, ..] => cut.q == q && cut.set.as_slice() == [q].as_slice(),
+        [] => false,
+    }
+}
+
+#[test]
+fn raises_first_what_is_named_first(rt: HostRuntime) -> Result<(), Fail> {
+    let instance = triangle(rt.alloc())?;
+    for (order, q) in [([2, 3], 2), ([3, 2], 3)] {
+        let (ascent, _, _) = ascend_whole(rt.alloc(), &instance, &order, 1)?;
+        assert!(rt; is_first(&ascent, q), "{q}");
+    }
+    Ok(())
+}
+
+// A root, and a vertex that may be left out for a prize, with a link of 5 between them.
+fn pair(alloc: Global, prize: u64) -> Result<Instance, AllocError>
+    requires { prize < 100 }
+    ensures { IfOk result (λ instance. instance.n ≡ 2) }
+{
+    let needs = [(1, Need::Required), (2, Need::Pays(prize))];
+    Instance::build(alloc, 2, &[link(1, 2, 5)], &needs)
+}
+
+#[test]
+fn takes_no_more_than_the_prize(rt: HostRuntime) -> Result<(), Fail> {
+    // The prize, the outcome, and what remains of the arc and of the prize.
+    for (prize, want, arc, left) in [
+        (0, (false, 0, 0), 5, 0),
+        (3, (false, 3, 1), 2, 0),
+        (5, (false, 5, 1), 0, 0),
+        (7, (false, 5, 1), 0, 2),
+    ] {
+        let instance = pair(rt.alloc(), prize)?;
+        let (ascent, arcs, twins) = ascend_whole(rt.alloc(), &instance, &[], 100)?;
+        assert_eq!(rt; outcome(&ascent), want, "for {prize}");
+        assert_eq!(rt; arcs.remaining(1, 2), Some(arc), "for {prize}");
+        assert_eq!(rt; twins.left(2), left, "for {prize}");
+    }
+    Ok(())
+}
+
+#[test]
+fn reaches_any_target_where_a_terminal_is_apart(rt: HostRuntime) -> Result<(), Fail> {
+    let needs = [(1, Need::Required), (2, Need::Required)];
+    let instance = Instance::build(rt.alloc(), 2, &[], &needs)?;
+    let (ascent, _, _) = ascend_whole(rt.alloc(), &instance, &[], u64::MAX)?;
+    assert_eq!(rt; outcome(&ascent), (true, u64::MAX, 1));
+    Ok(())
+}
