@@ -1,17 +1,17 @@
 -- One raise more, over what the cuts so far leave.
-use Rattle.std.proofs.Common.{◌≡◌, ◌≢◌, ℕ, zero, suc, ◌+◌, ◌-◌, ◌^◌, ◌<◌, ◌≤◌, Bool, true, false, cond, ◌&&◌, not, eqb, List, [], ◌∷◌, ◌++◌, length, Option, Some, None, ◌⊎◌, inl, inr, refl, sym, ap, ◌∙◌, subst, arith}
-use Rattle.std.specs.Prelude.{IsTrue, IsFalse, if◌then◌else◌, ◌==◌, ◌↔◌, All}
+use Rattle.std.proofs.Common.{◌≡◌, ◌≢◌, ℕ, ◌+◌, ◌-◌, ◌^◌, ◌<◌, ◌≤◌, Bool, true, false, ◌&&◌, not, eqb, List, [], ◌∷◌, ◌++◌, length, Option, Some, None, ◌⊎◌, inl, inr, refl, sym, ap, ◌∙◌, subst, arith}
+use Rattle.std.specs.Prelude.{IsFalse, if◌then◌else◌, ◌==◌}
 use Rattle.std.specs.Option.{option_map}
-use Rattle.std.proofs.lemmas.Bool.{false≢true, eqb-true, eq-eqb, ne_eqb, cases_eq}
+use Rattle.std.proofs.lemmas.Bool.{eqb-true, eq-eqb, ne_eqb, cases_eq}
 use Rattle.std.proofs.lemmas.List.{length_push}
-use Rattle.st_model.specs.Lists.{has, total}
+use Rattle.st_model.specs.Lists.{has}
 use Rattle.st_model.specs.Branch.{IsVertexSet}
 use Rattle.st_model.proofs.Sums.{total-append}
 use Rattle.bidirected_form.specs.declared.kind.VertexKind.{VertexKind}
 use Rattle.bidirected_form.specs.declared.kind.VertexKind.TheVariants.{Outside, Must, May}
-use Rattle.bidirected_form.specs.Digraph.{Digraph, kind_of, neighbours, remaining}
+use Rattle.bidirected_form.specs.Digraph.{Digraph, kind_of, remaining}
 use Rattle.bidirected_form.specs.Entering.{enters, Charges}
-use Rattle.prize_transform.specs.Twins.{Ends, left_of, prize_in, prize_for}
+use Rattle.prize_transform.specs.Twins.{Ends, left_of, prize_for}
 use Rattle.cut_packing.specs.declared.cut.Cut.{Cut}
 use Rattle.cut_packing.specs.Packing.{load, named}
 use Rattle.cut_packing.specs.declared.packing.Packing.{Packing}

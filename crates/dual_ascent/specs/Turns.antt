@@ -1,5 +1,5 @@
 -- The turns of an ascent. Helpers' clauses cite this, and no public one.
-use Rattle.std.specs.Prelude.{◌≡◌, ◌≢◌, ℕ, ◌<◌, ◌≤◌, ◌⊎◌, ◌↔◌, ◌==◌, min, Bool, IsTrue, IsFalse, if◌then◌else◌, List, [], ◌∷◌, length, All, Contains, IfSome, Some}
+use Rattle.std.specs.Prelude.{◌≡◌, ◌≢◌, ℕ, ◌+◌, ◌<◌, ◌≤◌, ◌⊎◌, ◌↔◌, ◌==◌, min, Bool, IsTrue, IsFalse, if◌then◌else◌, List, [], ◌∷◌, length, All, Contains, IfSome, MatchBool, Some}
 use Rattle.std.specs.List.{HoldsAt, list_any}
 use Rattle.std.specs.declared.cmp.Reverse.{Reverse}
 use Rattle.st_model.specs.Lists.{has}
@@ -10,6 +10,7 @@ use Rattle.bidirected_form.specs.Digraph.{Digraph, kind_of, remaining}
 use Rattle.bidirected_form.specs.Entering.{enters}
 use Rattle.prize_transform.specs.Twins.{Ends, Charges, left_of}
 use Rattle.cut_packing.specs.declared.cut.Cut.{Cut}
+use Rattle.dual_ascent.specs.declared.growing.Growth.{Growth}
 use Rattle.dual_ascent.specs.declared.waiting.Waiting.{Waiting}
 use Rattle.dual_ascent.specs.Raises.{IsOpen, Reaches}
 
@@ -27,6 +28,18 @@ pub record AreSeeds (D : Digraph) (q : ℕ) (set : List ℕ) : Type 0 where
 -- the vertices are those that reach q over arcs with nothing left
 abbrev pub IsGrown : Digraph → ℕ → List ℕ → Type 0
 IsGrown D q set = (v : ℕ) → IsTrue (has set v) ↔ Reaches D [] q v
+
+-- the vertices are those that reach q, and none of them is among the others; or one of the others reaches q
+abbrev pub IsGathered : Digraph → ℕ → List ℕ → List ℕ → Bool → Type 0
+IsGathered D q others set met = MatchBool met ((v : ℕ) × IsTrue (has others v) × Reaches D [] q v) (IsGrown D q set × ((v : ℕ) → IsTrue (has set v) → IsFalse (has others v)))
+
+-- the root reaches itself and others over arcs with nothing left
+pub record IsGrowth (D : Digraph) (g : Growth) : Type 0 where
+  pub set_count : g.set.count ≡ D.n + 1
+  pub in_range : All (IsVertex D.n) g.set.members
+  pub reached_count : g.reached.count ≡ D.n + 1
+  pub root : IsTrue (has g.reached.members D.root)
+  pub reached : All (λ v. Reaches D [] v D.root) g.reached.members
 
 -- a vertex that waits; the set of its last cut, if it has one, still reaches it
 pub record IsWaiting (D : Digraph) (cuts : List Cut) (w : Waiting) : Type 0 where

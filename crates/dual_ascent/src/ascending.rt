@@ -3,12 +3,13 @@ ghost use Rattle.dual_ascent.specs.Ascent.{IsAscent};
 ghost use Rattle.dual_ascent.specs.Left.{AreEndsOf};
 
 use crate::Ascent;
+use crate::growing::Growth;
 use crate::raising::{charge, raise_for};
 use crate::waiting::{Waiting, all_open, next};
 use bidirected_form::Arcs;
 use cut_packing::{Cut, Packing};
 use prize_transform::Twins;
-use st_model::{Listed, VertexSet};
+use st_model::Listed;
 use std::alloc::{AllocError, Global};
 use std::cmp::Reverse;
 
@@ -29,13 +30,13 @@ pub fn ascend(
 {
     let mut cuts = Vec::new(alloc);
     let mut queue = all_open(alloc, arcs, twins, order)?;
-    let mut set = VertexSet::new(alloc, arcs.vertices() as usize + 1)?;
+    let mut growth = Growth::start(alloc, arcs)?;
     let mut room = target;
     while room > 0 {
         let Some(waiting) = next(&mut queue) else {
             return Ok(Ascent::Full(packing(arcs.root(), cuts)));
         };
-        let Some(raise) = raise_for(alloc, arcs, twins, &cuts, &mut set, &waiting, room)? else {
+        let Some(raise) = raise_for(alloc, arcs, twins, &cuts, &mut growth, &waiting, room)? else {
             continue;
         };
         charge(arcs, twins, &raise.cut);

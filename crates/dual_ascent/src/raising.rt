@@ -1,14 +1,14 @@
-ghost use Rattle.std.specs.Prelude.{◌≡◌, ℕ, ◌+◌, ◌<◌, ◌≤◌, ◌↔◌, [], IfOk, IsTrue, MatchOption};
+ghost use Rattle.std.specs.Prelude.{◌≡◌, ℕ, ◌+◌, ◌<◌, ◌≤◌, ◌↔◌, [], IfOk, IsTrue, MatchOption, OnOk};
 ghost use Rattle.std.specs.List.Sorted.{IsStrictlyIncreasing};
 ghost use Rattle.st_model.specs.Lists.{has};
 ghost use Rattle.st_model.specs.Network.{IsVertex};
 ghost use Rattle.bidirected_form.specs.Entering.{Charges};
 ghost use Rattle.dual_ascent.specs.Left.{AreEndsOf};
 ghost use Rattle.dual_ascent.specs.Raises.{IsOpen, IsRaise, Reaches};
-ghost use Rattle.dual_ascent.specs.Turns.{IsLimit, IsWaiting, Spends};
+ghost use Rattle.dual_ascent.specs.Turns.{IsGrowth, IsLimit, IsWaiting, Spends};
 
 use crate::border::border_of;
-use crate::growing::gather;
+use crate::growing::Growth;
 use crate::waiting::{Waiting, is_certain, is_open};
 use bidirected_form::Arcs;
 use cut_packing::Cut;
@@ -31,29 +31,24 @@ pub fn raise_for(
     arcs: &Arcs,
     twins: &Twins,
     cuts: &[Cut],
-    set: &mut VertexSet,
+    growth: &mut Growth,
     waiting: &Waiting,
     room: u64,
 ) -> Result<Option<Raise>, AllocError>
     requires waiting { IsWaiting arcs.now cuts.now waiting.now }
-    requires count { set.old.count ≡ arcs.now.n + 1 }
+    requires growth { IsGrowth arcs.now growth.old }
     requires room { 0 < room }
-    ensures count { set.new.count ≡ set.old.count }
+    ensures growth { OnOk result (IsGrowth arcs.now growth.new) }
     ensures raise { IfOk result (λ found. MatchOption found
         (IsOpen arcs.now twins.now [] waiting.now.vertex → Reaches arcs.now [] waiting.now.vertex arcs.now.root)
         (λ raise. IsRaise arcs.now twins.now room [] raise.cut × (raise.cut.q ≡ waiting.now.vertex))) }
 {
     let q = waiting.vertex;
-    let root = arcs.root();
-    if !is_open(arcs, twins, q) {
+    if !is_open(arcs, twins, q) || growth.is_reached(arcs, cuts, waiting)? {
         return Ok(None);
     }
-    gather(arcs, cuts, set, waiting)?;
-    if set.contains(root) {
-        return Ok(None);
-    }
-    let border = border_of(arcs, set, limit(arcs, twins, q, room));
-    let cut = cut_round(alloc, set, q, border.least)?;
+    let border = border_of(arcs, &growth.set, limit(arcs, twins, q, room));
+    let cut = cut_round(alloc, &growth.set, q, border.least)?;
     Ok(Some(Raise {
         cut,
         entering: border.arcs,

@@ -1,9 +1,8 @@
-use Rattle.std.proofs.Common.{◌≡◌, ◌∙◌, ℕ, ◌+◌, ◌-◌, ◌++◌, ◌∷◌, [], List, length, Some, ap, refl, sym, subst, arith}
+use Rattle.std.proofs.Common.{◌≡◌, length, Some, ap, refl, subst, arith}
 use Rattle.std.specs.BinaryHeap.{heap_items}
-use Rattle.cut_packing.specs.declared.cut.Cut.{Cut}
-use Rattle.dual_ascent.specs.Turns.{Entry, AreWaiting, IsWaiting}
-use Rattle.dual_ascent.proofs.Queued.{none_waiting, waiting_next, waiting_past, waiting_again}
-use Rattle.dual_ascent.proofs.SoFar.{AreSoFar, none_so_far, one_more, ends_now, ends_reached, ends_full}
+use Rattle.dual_ascent.specs.Turns.{AreWaiting}
+use Rattle.dual_ascent.proofs.Queued.{growth_still, none_waiting, waiting_next, waiting_past, waiting_again}
+use Rattle.dual_ascent.proofs.SoFar.{one_more, ends_now, ends_full}
 use Rattle.dual_ascent.proofs.ascending.ascend.Goals as goal
 
 pub returns-in_default : goal.returns-in_default
@@ -22,7 +21,7 @@ pub loop-room-preserved-in_default-2 : goal.loop-room-preserved-in_default-2
 loop-room-preserved-in_default-2 c = record {
   so_far = c.loop-room.invariant.so_far;
   waiting = waiting_past c.loop-room.arcs c.loop-room.twins c.loop-room.cuts.items (heap_items c.loop-room.queue) (heap_items c.next.new.queue) _ c.in-Some.ensures.moved (rw c.in_default-2.is at c.in_ok-raise.ensures.raise) c.loop-room.invariant.waiting;
-  count = c.in_ok-raise.ensures.count ∙ c.loop-room.invariant.count;
+  growth = c.in_ok-raise.ensures.growth;
 }
 
 pub charge-requires-clause-ends : goal.charge-requires-clause-ends
@@ -39,5 +38,5 @@ loop-room-preserved c =
     record {
       so_far = rw c.in_ok-push-2.ensures.items (one_more c.args.arcs.now D' c.args.twins.now E' c.args.target c.loop-room.room cuts c.loop-room.invariant.so_far c.charge.new.arcs c.charge.new.twins cut raise.0 c.requires c.charge.ensures.arcs c.charge.ensures.ends);
       waiting = rw c.in_ok-push-2.ensures.items (waiting_again D' c.charge.new.arcs E' c.charge.new.twins c.loop-room.room cuts (heap_items c.loop-room.queue) (heap_items c.next.new.queue) (heap_items c.push.new.self) _ _ cut c.in-Some.ensures.moved raise.0 raise.1 c.charge.ensures.arcs c.charge.ensures.ends c.in_ok-push.ensures.permutation refl (ap Some last) c.loop-room.invariant.waiting);
-      count = c.in_ok-raise.ensures.count ∙ c.loop-room.invariant.count ∙ ap (λ (n : ℕ). n + 1) (sym c.charge.ensures.arcs.count);
+      growth = growth_still D' c.charge.new.arcs cut.set cut.y c.raise_for.new.growth c.charge.ensures.arcs c.in_ok-raise.ensures.growth;
     }

@@ -1,6 +1,6 @@
-use Rattle.std.proofs.Common.{◌≡◌, ℕ, ◌∙◌, ◌++◌, ◌∷◌, [], List, get_or, take, ap, sym, subst}
-use Rattle.std.proofs.lemmas.List.{take_more, take_all}
-use Rattle.dual_ascent.proofs.Bordering.{IsLeastInto, least_into_more, least_borne, least_attained}
+use Rattle.std.proofs.Common.{ℕ, List, get_or, take, sym, subst}
+use Rattle.std.proofs.lemmas.List.{take_more}
+use Rattle.dual_ascent.proofs.Bordering.{IsLeastInto, least_into_more}
 use Rattle.dual_ascent.proofs.border.border_of.Goals as goal
 
 pub loop-vertex-preserved : goal.loop-vertex-preserved

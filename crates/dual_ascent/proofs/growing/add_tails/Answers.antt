@@ -1,6 +1,5 @@
-use Rattle.std.proofs.Common.{◌≡◌, ◌∙◌, List, get_or, take, refl, ap, sym, subst, arith}
+use Rattle.std.proofs.Common.{◌∙◌, List, get_or, take, refl, sym, subst}
 use Rattle.std.proofs.lemmas.List.{take_more}
-use Rattle.st_model.specs.VertexSet.{VertexSet}
 use Rattle.bidirected_form.specs.declared.arc.Arc.{Arc}
 use Rattle.cut_packing.specs.Led.{Extends}
 use Rattle.cut_packing.proofs.Walked.{Extends-none}

@@ -1,4 +1,4 @@
-use Rattle.std.proofs.Common.{◌∙◌, ◌+◌, refl, sym, arith}
+use Rattle.std.proofs.Common.{refl, arith}
 use Rattle.std.specs.BinaryHeap.{heap_items}
 use Rattle.std.proofs.lemmas.Bool.{iff_false}
 use Rattle.dual_ascent.proofs.Queued.{listed_none, listed_more, listed_past, all_listed}

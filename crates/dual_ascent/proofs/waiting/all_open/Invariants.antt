@@ -1,4 +1,3 @@
-use Rattle.std.proofs.Common.{◌≡◌, ◌+◌, length}
 use Rattle.std.specs.BinaryHeap.{heap_items}
 use Rattle.dual_ascent.proofs.Queued.{AreListed}
 use Rattle.dual_ascent.proofs.waiting.all_open.Given as goal
