@@ -8,7 +8,7 @@ use Rattle.st_model.specs.Network.{IsVertex}
 use Rattle.st_model.proofs.Marked.{has_at, place_of}
 use Rattle.bidirected_form.specs.declared.kind.VertexKind.{VertexKind}
 use Rattle.bidirected_form.specs.declared.kind.VertexKind.TheVariants.{Outside, Must, May}
-use Rattle.bidirected_form.specs.Digraph.{Digraph, IsDigraph, kind_of, remaining}
+use Rattle.bidirected_form.specs.Digraph.{Digraph, kind_of, remaining}
 use Rattle.bidirected_form.specs.Entering.{enters, CanBear}
 use Rattle.prize_transform.specs.Twins.{Ends, left_of, prize_in, prized, has_end}
 use Rattle.prize_transform.proofs.Numbered.{has-filter}
@@ -17,7 +17,6 @@ use Rattle.cut_packing.specs.declared.cut.Cut.{Cut}
 use Rattle.dual_ascent.specs.Left.{AreEndsOf}
 use Rattle.dual_ascent.specs.Raises.{Reaches, IsOpen, UsesUpAnArc, ReachesTarget, SpendsThePrize, IsLeast, IsRaise, here, there}
 use Rattle.dual_ascent.specs.Turns.{HasAnArcLeft, IsGrown, IsLimit}
-use Rattle.dual_ascent.proofs.Reaching.{reaches_in_range}
 
 must_or_not : (k : VertexKind) → (k ≡ Must) ⊎ (k ≢ Must)
 must_or_not Must = inl refl
@@ -26,8 +25,7 @@ must_or_not (May p) = inr (λ e. cc)
 
 -- the parts of a raise
 pub record AreParts (D : Digraph) (E : Ends) (room q : ℕ) (members : List ℕ) (limit : ℕ) (c : Cut) : Type 0 where
-  pub digraph : IsDigraph D
-  pub in_range : IsVertex D.n q
+  pub in_range : All (IsVertex D.n) members
   pub still_open : IsOpen D E [] q
   pub some : 0 < room
   pub grown : IsGrown D q members
@@ -92,11 +90,16 @@ module _ (D : Digraph) (E : Ends) (room q : ℕ) (members : List ℕ) (limit : �
   exact_here : (v : ℕ) → (IsTrue (has c.set v) → Reaches D [] c.q v) × (Reaches D [] c.q v → IsTrue (has c.set v))
   exact_here v = (λ held. subst (λ (p : ℕ). Reaches D [] p v) (sym h.names) ((h.grown v).0 (sym (h.same v) ∙ held)), λ reaching. h.same v ∙ (h.grown v).1 (subst (λ (p : ℕ). Reaches D [] p v) h.names reaching))
 
+  in_range : All (IsVertex D.n) c.set
+  in_range = λ k d below.
+      let place = place_of members (get_or c.set k d) (sym (h.same (get_or c.set k d)) ∙ has_at c.set k d below) in
+      subst (IsVertex D.n) place.2 (h.in_range place.0 0 place.1)
+
   pub raise_made : IsRaise D E room [] c × (c.q ≡ q)
   raise_made = (
     record {
       still_open = subst (IsOpen D E []) (sym h.names) h.still_open;
-      set = record { ascending = h.ascending; in_range = λ k d below. reaches_in_range D [] h.digraph q (get_or c.set k d) h.in_range ((h.grown (get_or c.set k d)).0 (sym (h.same (get_or c.set k d)) ∙ has_at c.set k d below)) };
+      set = record { ascending = h.ascending; in_range = in_range };
       exact = exact_here;
       apart = h.same D.root ∙ h.apart;
       positive = positive;
@@ -104,10 +107,6 @@ module _ (D : Digraph) (E : Ends) (room q : ℕ) (members : List ℕ) (limit : �
     },
     h.names,
   )
-
--- all that reaches a vertex is in range
-pub grown_in_range : (D : Digraph) (q : ℕ) (members : List ℕ) → IsDigraph D → IsVertex D.n q → IsGrown D q members → All (IsVertex D.n) members
-grown_in_range D q members h range grown = λ k d below. reaches_in_range D [] h q (get_or members k d) range ((grown (get_or members k d)).0 (has_at members k d below))
 
 -- the vertex of a raise is in range
 pub raised_in_range : (D : Digraph) (E : Ends) (room : ℕ) (c : Cut) → IsRaise D E room [] c → IsVertex D.n c.q

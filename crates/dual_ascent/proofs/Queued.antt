@@ -7,6 +7,7 @@ use Rattle.std.proofs.lemmas.Bool.{false≢true, eqb-true, eq-eqb, or_cases, or_
 use Rattle.std.proofs.lemmas.List.{get_or_past, get_or_append_left, get_or_push, length_push}
 use Rattle.std.proofs.lemmas.List.Elements.{All-nil, All-cons, All-tail, All-head, All-weaker}
 use Rattle.std.proofs.lemmas.List.Sorted.{All-permutation, list_any-IsPermutation}
+use Rattle.st_model.specs.Lists.{has}
 use Rattle.st_model.specs.Network.{IsVertex}
 use Rattle.st_model.proofs.Marked.{has_at}
 use Rattle.bidirected_form.specs.declared.kind.VertexKind.{VertexKind}
@@ -15,10 +16,11 @@ use Rattle.bidirected_form.specs.Digraph.{Digraph, IsDigraph, kind_of}
 use Rattle.bidirected_form.specs.Entering.{enters, Charges}
 use Rattle.prize_transform.specs.Twins.{Ends, left_of, prize_for}
 use Rattle.cut_packing.specs.declared.cut.Cut.{Cut}
+use Rattle.dual_ascent.specs.declared.growing.Growth.{Growth}
 use Rattle.dual_ascent.specs.declared.waiting.Waiting.{Waiting}
 use Rattle.dual_ascent.specs.Left.{AreEndsOf}
 use Rattle.dual_ascent.specs.Raises.{IsUsedUp, Reaches, IsOpen, IsRaise, here}
-use Rattle.dual_ascent.specs.Turns.{AreSeeds, IsWaiting, Entry, waits, AreWaiting, Spends}
+use Rattle.dual_ascent.specs.Turns.{AreSeeds, IsGrowth, IsWaiting, Entry, waits, AreWaiting, Spends}
 use Rattle.dual_ascent.proofs.Reaching.{reaches_over}
 
 -- an open vertex is in range
@@ -103,6 +105,16 @@ used_still D D' set y h u v used = h.remaining u v ∙ rw used (by_case (enters 
     by_case : (b : Bool) → (if b then option_map (λ r. r - y) (Some 0) else Some 0) ≡ Some 0
     by_case true = ap Some (omega arith)
     by_case false = refl
+
+-- and the root reaches whom it reached
+pub growth_still : (D D' : Digraph) (set : List ℕ) (y : ℕ) (g : Growth) → Charges D D' set y → IsGrowth D g → IsGrowth D' g
+growth_still D D' set y g charges h = record {
+  set_count = h.set_count ∙ ap (λ (n : ℕ). n + 1) (sym charges.count);
+  in_range = subst (λ (n : ℕ). All (IsVertex n) g.set.members) (sym charges.count) h.in_range;
+  reached_count = h.reached_count ∙ ap (λ (n : ℕ). n + 1) (sym charges.count);
+  root = subst (λ (r : ℕ). IsTrue (has g.reached.members r)) (sym charges.root) h.root;
+  reached = All-weaker (λ v. Reaches D [] v D.root) (λ v. Reaches D' [] v D'.root) (λ v reached. subst (Reaches D' [] v) (sym charges.root) (reaches_over D D' [] [] (used_still D D' set y charges) v D.root reached)) g.reached.members h.reached;
+}
 
 open_before : (D D' : Digraph) (E E' : Ends) (c : Cut) → Charges D D' c.set c.y → Spends D E E' c → (v : ℕ) → IsOpen D' E' [] v → IsOpen D E [] v
 open_before D D' E E' c arcs spends v (inl must) = inl (sym (ap (λ (ks : List VertexKind). get_or ks v Outside) arcs.kinds) ∙ must)

@@ -1,9 +1,10 @@
 -- What reaches a vertex over arcs with nothing left.
-use Rattle.std.proofs.Common.{◌≡◌, ℕ, zero, suc, ◌+◌, ◌<◌, ◌≤◌, Bool, true, false, cond, eqb, List, [], ◌∷◌, ◌++◌, length, get_or, take, map, Some, refl, sym, ap, ◌∙◌, subst, arith}
-use Rattle.std.specs.Prelude.{IsTrue, if◌then◌else◌, ◌==◌, All, slice_get}
-use Rattle.std.proofs.lemmas.Bool.{false≢true, eqb-true, eq-eqb, ne_eqb, or_left, or_right}
-use Rattle.std.proofs.lemmas.List.{take_at, take_all, get_or_push, length_push, append-nil}
-use Rattle.std.proofs.lemmas.List.Elements.{All-nil, All-cons, All-append, All-weaker, recursion_from_All}
+use Rattle.std.proofs.Common.{◌≡◌, ℕ, zero, suc, ◌+◌, ◌<◌, ◌≤◌, Bool, true, false, cond, eqb, List, [], ◌∷◌, ◌++◌, length, get_or, take, map, Some, inl, inr, refl, sym, ap, ◌∙◌, subst, arith}
+use Rattle.std.specs.Prelude.{IsTrue, IsFalse, if◌then◌else◌, ◌==◌, All, slice_get}
+use Rattle.std.proofs.lemmas.Bool.{cases_lt, false_from_ne_true, false≢true, eqb-true, eq-eqb, ne_eqb, or_left, or_right}
+use Rattle.std.proofs.lemmas.List.{take_at, take_all, get_or_push, length_push, append-nil, get_or_append_left}
+use Rattle.std.proofs.lemmas.Option.{get_or_from_slice_get, slice_get_within}
+use Rattle.std.proofs.lemmas.List.Elements.{All-nil, All-cons, All-append, All-push, All-weaker, recursion_from_All}
 use Rattle.st_model.specs.Lists.{has}
 use Rattle.st_model.specs.Network.{IsVertex}
 use Rattle.bidirected_form.specs.declared.arc.Arc.{Arc}
@@ -11,10 +12,11 @@ use Rattle.bidirected_form.specs.Digraph.{Digraph, IsDigraph, arcs_into, left_fr
 use Rattle.bidirected_form.proofs.Lookups.{Rise, Rise-rest, left_from-found}
 use Rattle.cut_packing.specs.declared.cut.Cut.{Cut}
 use Rattle.cut_packing.specs.Led.{Extends, IsLed, AreLed, start, along}
-use Rattle.st_model.proofs.Marked.{at_member}
+use Rattle.st_model.proofs.Marked.{at_member, has-push, place_of}
 use Rattle.cut_packing.proofs.Walked.{Extends-insert, IsWalked, IsWalked-step, AreLed-done}
+use Rattle.dual_ascent.specs.declared.growing.Growth.{Growth}
 use Rattle.dual_ascent.specs.Raises.{IsUsedUp, Reaches, here, there}
-use Rattle.dual_ascent.specs.Turns.{free_tails, AreSeeds, IsGrown}
+use Rattle.dual_ascent.specs.Turns.{free_tails, AreSeeds, IsGathered, IsGrowth}
 
 -- what arcs with nothing left allow, more such arcs do
 pub reaches_over : (D D' : Digraph) (C C' : List Cut) → ((u v : ℕ) → IsUsedUp D C u v → IsUsedUp D' C' u v) → (q v : ℕ) → Reaches D C q v → Reaches D' C' q v
@@ -135,9 +137,37 @@ growing_more D q next v members new h at e g = record {
     walked : IsWalked (free_into D) q (next + 1) new
     walked = IsWalked-step (free_into D) q next v members new at (subst (Extends members new) (sym (into-map D.arcs v)) e) g.walked
 
+-- none of the first members is among the others
+abbrev pub AreApart : List ℕ → ℕ → List ℕ → Type 0
+AreApart others next members = (k : ℕ) → k < next → k < length members → IsFalse (has others (get_or members k 0))
+
+pub apart_more : (others : List ℕ) (next v : ℕ) (members new vertices : List ℕ) → slice_get members next ≡ Some v → IsFalse (has others v) → Extends members new vertices → AreApart others next members → AreApart others (next + 1) new
+apart_more others next v members new vertices at out e h k before within = elim (cases_lt k next) [
+  | inl earlier ↦ rw (front k (omega (arith, earlier, below))) (h k earlier (omega (arith, earlier, below)))
+  | inr later ↦ let same : k ≡ next = omega (arith, before, later) in rw (same, front next below, get_or_from_slice_get members next v 0 at) out
+]
+  where
+    below : next < length members
+    below = slice_get_within members next v at
+
+    front : (j : ℕ) → j < length members → get_or new j 0 ≡ get_or members j 0
+    front j inside = rw e.appended (get_or_append_left members e.more 0 j inside)
+
+-- a member is among the others
+pub growing_met : (D : Digraph) (q next v : ℕ) (others members : List ℕ) → slice_get members next ≡ Some v → IsTrue (has others v) → IsGrowing D q next members → IsGathered D q others members true
+growing_met D q next v others members at met g = (v, met, subst (Reaches D [] q) (get_or_from_slice_get members next v 0 at) (g.seeds.reaching next 0 (slice_get_within members next v at)))
+
 -- all have been asked
-pub growing_done : (D : Digraph) (q next : ℕ) (members : List ℕ) → length members ≤ next → IsGrowing D q next members → IsGrown D q members
-growing_done D q next members all g v = (λ held. at_member (Reaches D [] q) members v (recursion_from_All (Reaches D [] q) members g.seeds.reaching) held, λ reaching. reached_is_in D q v members (AreLed-done (free_into D) q next members all g.walked) reaching)
+pub growing_done : (D : Digraph) (q next : ℕ) (others members : List ℕ) → length members ≤ next → AreApart others next members → IsGrowing D q next members → IsGathered D q others members false
+growing_done D q next others members all apart g = (λ v. (λ held. at_member (Reaches D [] q) members v (recursion_from_All (Reaches D [] q) members g.seeds.reaching) held, λ reaching. reached_is_in D q v members (AreLed-done (free_into D) q next members all g.walked) reaching), λ v held. out v (place_of members v held))
+  where
+    out : (v : ℕ) → (k : ℕ) × (k < length members) × (get_or members k 0 ≡ v) → IsFalse (has others v)
+    out v p = subst (λ (w : ℕ). IsFalse (has others w)) p.2 (apart p.0 (omega (arith, p.1, all)) p.1)
+
+-- whom one reaches that the root reaches, the root reaches
+pub reaches_through : (D : Digraph) (C : List Cut) (q v w : ℕ) → Reaches D C q v → Reaches D C v w → Reaches D C q w
+reaches_through D C q v w near here = near
+reaches_through D C q v w near (there {u = u} {v = x} used rest) = there used (reaches_through D C q v x near rest)
 
 -- one vertex alone
 pub alone_is_seed : (D : Digraph) (q : ℕ) → IsVertex D.n q → AreSeeds D q (q ∷ [])
@@ -157,3 +187,35 @@ seeds_same D q old new e s = record {
   in_range = all_same (IsVertex D.n) old new e s.in_range;
   reaching = all_same (Reaches D [] q) old new e s.reaching;
 }
+
+-- the root reaches itself
+pub growth_start : (D : Digraph) (g : Growth) → g.set.count ≡ D.n + 1 → g.set.members ≡ [] → g.reached.count ≡ D.n + 1 → g.reached.members ≡ D.root ∷ [] → IsGrowth D g
+growth_start D g set empty reached is = record {
+  set_count = set;
+  in_range = rw empty (All-nil (IsVertex D.n));
+  reached_count = reached;
+  root = rw is (or_left (D.root == D.root) _ (eq-eqb D.root D.root refl));
+  reached = rw is (All-cons (λ v. Reaches D [] v D.root) D.root [] here (All-nil (λ v. Reaches D [] v D.root)));
+}
+
+-- and one vertex more
+pub growth_more : (D : Digraph) (old new : Growth) (q : ℕ) → new.set.count ≡ old.set.count → All (IsVertex D.n) new.set.members → new.reached.count ≡ old.reached.count → new.reached.members ≡ (if has old.reached.members q then old.reached.members else old.reached.members ++ q ∷ []) → Reaches D [] q D.root → IsGrowth D old → IsGrowth D new
+growth_more D old new q set in_range count is reaching h = by_case (has old.reached.members q) is
+  where
+    by_case : (b : Bool) → new.reached.members ≡ (if b then old.reached.members else old.reached.members ++ q ∷ []) → IsGrowth D new
+    by_case true e = record { set_count = set ∙ h.set_count; in_range = in_range; reached_count = count ∙ h.reached_count; root = rw e h.root; reached = rw e h.reached }
+    by_case false e = record {
+      set_count = set ∙ h.set_count;
+      in_range = in_range;
+      reached_count = count ∙ h.reached_count;
+      root = rw (e, has-push old.reached.members q D.root) (or_left _ _ h.root);
+      reached = rw e (All-push (λ v. Reaches D [] v D.root) old.reached.members q h.reached reaching);
+    }
+
+-- whom a vertex reaches that the root reaches
+pub met_reached : (D : Digraph) (q : ℕ) (g : Growth) (set : List ℕ) → IsGrowth D g → IsGathered D q g.reached.members set true → Reaches D [] q D.root
+met_reached D q g set h met = reaches_through D [] q met.0 D.root met.2 (at_member (λ v. Reaches D [] v D.root) g.reached.members met.0 (recursion_from_All (λ v. Reaches D [] v D.root) g.reached.members h.reached) met.1)
+
+-- a set with none of those that the root reaches doesn't have the root
+pub root_apart : (D : Digraph) (q : ℕ) (g : Growth) (set : List ℕ) → IsGrowth D g → IsGathered D q g.reached.members set false → IsFalse (has set D.root)
+root_apart D q g set h gathered = false_from_ne_true (has set D.root) (λ held. false≢true (sym (gathered.1 D.root held) ∙ h.root))

@@ -1,14 +1,13 @@
 -- Whose turn it is, and that all others wait on.
-use Rattle.std.proofs.Common.{ℕ, ◌||◌, List, [], ◌∷◌, inl, inr, sym, ap, ◌∙◌}
-use Rattle.std.specs.Prelude.{IsTrue, ◌==◌, All, IsPermutation, ◌↔◌}
+use Rattle.std.proofs.Common.{ℕ, ◌||◌, List, ◌∷◌, inl, inr, sym, ap, subst, ◌∙◌}
+use Rattle.std.specs.Prelude.{◌==◌, All, IsPermutation}
 use Rattle.std.proofs.lemmas.List.Elements.{All-cons, All-tail, All-head}
 use Rattle.std.proofs.lemmas.List.Sorted.{All-permutation, list_any-IsPermutation}
-use Rattle.st_model.specs.Lists.{has}
 use Rattle.bidirected_form.specs.Digraph.{Digraph}
 use Rattle.cut_packing.specs.declared.cut.Cut.{Cut}
+use Rattle.dual_ascent.specs.declared.turning.Turn.{Turn}
 use Rattle.dual_ascent.specs.declared.waiting.Waiting.{Waiting}
-use Rattle.dual_ascent.specs.Raises.{Reaches}
-use Rattle.dual_ascent.specs.Turns.{IsWaiting, Entry, waits, KeepsWaiting, IsSameVertex, IsTurn}
+use Rattle.dual_ascent.specs.Turns.{IsWaiting, Entry, waits, KeepsWaiting, IsSameVertex, IsLooked, IsTurn}
 
 -- in another order the same wait
 pub keeps_moved : (D : Digraph) (cuts : List Cut) (old new : List Entry) → IsPermutation old new → KeepsWaiting D cuts old new
@@ -44,25 +43,25 @@ pub rest_waiting : (D : Digraph) (cuts : List Cut) (old new : List Entry) (w : W
 rest_waiting D cuts old new w moved each = All-tail (λ (x : Entry). IsWaiting D cuts x.0) (record { 0 = w }) new (All-permutation (λ (x : Entry). IsWaiting D cuts x.0) old (record { 0 = w } ∷ new) moved each)
 
 -- the first one is taken, and looked at
-pub turn_made : (D : Digraph) (cuts : List Cut) (members : List ℕ) (old new : List Entry) (w w' : Waiting) → IsPermutation old (record { 0 = w } ∷ new) → All (λ (e : Entry). IsWaiting D cuts e.0) old → IsSameVertex w w' → ((v : ℕ) → IsTrue (has members v) ↔ Reaches D [] w.vertex v)
-    → IsTurn D cuts members old new w'
-turn_made D cuts members old new w w' moved each same gathered = record {
-  waiting = same_waiting D cuts w w' same (first_waiting D cuts old new w moved each);
-  waited = λ E h. keeps_looked D cuts w w' new same E (keeps_moved D cuts old (record { 0 = w } ∷ new) moved E h);
-  gathered = rw same.vertex gathered;
+pub turn_made : (D : Digraph) (cuts : List Cut) (members : List ℕ) (old new : List Entry) (w : Waiting) (t : Turn) → IsPermutation old (record { 0 = w } ∷ new) → All (λ (e : Entry). IsWaiting D cuts e.0) old → IsSameVertex w t.waiting → IsLooked D members w.vertex t.is_reached
+    → IsTurn D cuts members old new t
+turn_made D cuts members old new w t moved each same looked = record {
+  waiting = same_waiting D cuts w t.waiting same (first_waiting D cuts old new w moved each);
+  waited = λ E h. keeps_looked D cuts w t.waiting new same E (keeps_moved D cuts old (record { 0 = w } ∷ new) moved E h);
+  looked = subst (λ (q : ℕ). IsLooked D members q t.is_reached) (sym same.vertex) looked;
 }
 
 -- what waits in the first queue waits in the second, of which the turn is
-pub turn_after : (D : Digraph) (cuts : List Cut) (members : List ℕ) (first old new : List Entry) (w : Waiting) → KeepsWaiting D cuts first old → IsTurn D cuts members old new w → IsTurn D cuts members first new w
-turn_after D cuts members first old new w keeps turn = record {
+pub turn_after : (D : Digraph) (cuts : List Cut) (members : List ℕ) (first old new : List Entry) (t : Turn) → KeepsWaiting D cuts first old → IsTurn D cuts members old new t → IsTurn D cuts members first new t
+turn_after D cuts members first old new t keeps turn = record {
   waiting = turn.waiting;
   waited = λ E h. turn.waited E (keeps E h);
-  gathered = turn.gathered;
+  looked = turn.looked;
 }
 
 -- the one whose turn it is waits on
-pub keeps_back : (D : Digraph) (cuts : List Cut) (members : List ℕ) (first old new back : List Entry) (w : Waiting) → KeepsWaiting D cuts first old → IsTurn D cuts members old new w → IsPermutation (record { 0 = w } ∷ new) back → KeepsWaiting D cuts first back
-keeps_back D cuts members first old new back w keeps turn pushed = λ E h. keeps_moved D cuts (record { 0 = w } ∷ new) back pushed E (turn.waited E (keeps E h))
+pub keeps_back : (D : Digraph) (cuts : List Cut) (members : List ℕ) (first old new back : List Entry) (t : Turn) → KeepsWaiting D cuts first old → IsTurn D cuts members old new t → IsPermutation (record { 0 = t.waiting } ∷ new) back → KeepsWaiting D cuts first back
+keeps_back D cuts members first old new back t keeps turn pushed = λ E h. keeps_moved D cuts (record { 0 = t.waiting } ∷ new) back pushed E (turn.waited E (keeps E h))
 
-pub all_back : (D : Digraph) (cuts : List Cut) (members : List ℕ) (old new back : List Entry) (w : Waiting) → All (λ (e : Entry). IsWaiting D cuts e.0) new → IsTurn D cuts members old new w → IsPermutation (record { 0 = w } ∷ new) back → All (λ (e : Entry). IsWaiting D cuts e.0) back
-all_back D cuts members old new back w rest turn pushed = All-permutation (λ (x : Entry). IsWaiting D cuts x.0) (record { 0 = w } ∷ new) back pushed (All-cons (λ (x : Entry). IsWaiting D cuts x.0) (record { 0 = w }) new turn.waiting rest)
+pub all_back : (D : Digraph) (cuts : List Cut) (members : List ℕ) (old new back : List Entry) (t : Turn) → All (λ (e : Entry). IsWaiting D cuts e.0) new → IsTurn D cuts members old new t → IsPermutation (record { 0 = t.waiting } ∷ new) back → All (λ (e : Entry). IsWaiting D cuts e.0) back
+all_back D cuts members old new back t rest turn pushed = All-permutation (λ (x : Entry). IsWaiting D cuts x.0) (record { 0 = t.waiting } ∷ new) back pushed (All-cons (λ (x : Entry). IsWaiting D cuts x.0) (record { 0 = t.waiting }) new turn.waiting rest)

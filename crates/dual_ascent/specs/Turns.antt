@@ -1,5 +1,5 @@
 -- The turns of an ascent. Helpers' clauses cite this, and no public one.
-use Rattle.std.specs.Prelude.{◌≡◌, ◌≢◌, ℕ, ◌<◌, ◌≤◌, ◌⊎◌, ◌↔◌, ◌==◌, min, Bool, IsTrue, IsFalse, if◌then◌else◌, List, [], ◌∷◌, length, All, Contains, IfSome, Some}
+use Rattle.std.specs.Prelude.{◌≡◌, ◌≢◌, ℕ, ◌+◌, ◌<◌, ◌≤◌, ◌⊎◌, ◌↔◌, ◌==◌, min, Bool, IsTrue, IsFalse, if◌then◌else◌, List, [], ◌∷◌, length, All, Contains, IfSome, MatchBool, Some}
 use Rattle.std.specs.List.{HoldsAt, list_any}
 use Rattle.std.specs.declared.cmp.Reverse.{Reverse}
 use Rattle.st_model.specs.Lists.{has}
@@ -10,6 +10,8 @@ use Rattle.bidirected_form.specs.Digraph.{Digraph, kind_of, remaining}
 use Rattle.bidirected_form.specs.Entering.{enters}
 use Rattle.prize_transform.specs.Twins.{Ends, Charges, left_of}
 use Rattle.cut_packing.specs.declared.cut.Cut.{Cut}
+use Rattle.dual_ascent.specs.declared.growing.Growth.{Growth}
+use Rattle.dual_ascent.specs.declared.turning.Turn.{Turn}
 use Rattle.dual_ascent.specs.declared.waiting.Waiting.{Waiting}
 use Rattle.dual_ascent.specs.Raises.{IsOpen, Reaches}
 
@@ -27,6 +29,18 @@ pub record AreSeeds (D : Digraph) (q : ℕ) (set : List ℕ) : Type 0 where
 -- the vertices are those that reach q over arcs with nothing left
 abbrev pub IsGrown : Digraph → ℕ → List ℕ → Type 0
 IsGrown D q set = (v : ℕ) → IsTrue (has set v) ↔ Reaches D [] q v
+
+-- the vertices are those that reach q, and none of them is among the others; or one of the others reaches q
+abbrev pub IsGathered : Digraph → ℕ → List ℕ → List ℕ → Bool → Type 0
+IsGathered D q others set met = MatchBool met ((v : ℕ) × IsTrue (has others v) × Reaches D [] q v) (IsGrown D q set × ((v : ℕ) → IsTrue (has set v) → IsFalse (has others v)))
+
+-- the root reaches itself and others over arcs with nothing left
+pub record IsGrowth (D : Digraph) (g : Growth) : Type 0 where
+  pub set_count : g.set.count ≡ D.n + 1
+  pub in_range : All (IsVertex D.n) g.set.members
+  pub reached_count : g.reached.count ≡ D.n + 1
+  pub root : IsTrue (has g.reached.members D.root)
+  pub reached : All (λ v. Reaches D [] v D.root) g.reached.members
 
 -- a vertex that waits; the set of its last cut, if it has one, still reaches it
 pub record IsWaiting (D : Digraph) (cuts : List Cut) (w : Waiting) : Type 0 where
@@ -55,11 +69,15 @@ pub record IsSameVertex (w w' : Waiting) : Type 0 where
   pub vertex : w'.vertex ≡ w.vertex
   pub last : w'.last ≡ w.last
 
--- the one whose turn it is, who waited, before those who wait on; the set in hand is all that reaches it
-pub record IsTurn (D : Digraph) (cuts : List Cut) (members : List ℕ) (old new : List Entry) (w : Waiting) : Type 0 where
-  pub waiting : IsWaiting D cuts w
-  pub waited : KeepsWaiting D cuts old (record { 0 = w } ∷ new)
-  pub gathered : (v : ℕ) → IsTrue (has members v) ↔ Reaches D [] w.vertex v
+-- the root reaches the vertex; or it doesn't, and the set in hand is all that does
+abbrev pub IsLooked : Digraph → List ℕ → ℕ → Bool → Type 0
+IsLooked D members q met = MatchBool met (Reaches D [] q D.root) (IsGrown D q members × IsFalse (has members D.root))
+
+-- the one whose turn it is, who waited, before those who wait on, has been looked at
+pub record IsTurn (D : Digraph) (cuts : List Cut) (members : List ℕ) (old new : List Entry) (t : Turn) : Type 0 where
+  pub waiting : IsWaiting D cuts t.waiting
+  pub waited : KeepsWaiting D cuts old (record { 0 = t.waiting } ∷ new)
+  pub looked : IsLooked D members t.waiting.vertex t.is_reached
 
 -- the cut's value is taken from the prize of its q, where that may be left out
 pub record Spends (D : Digraph) (old new : Ends) (c : Cut) : Type 0 where

@@ -3,13 +3,14 @@ ghost use Rattle.dual_ascent.specs.Ascent.{IsAscent};
 ghost use Rattle.dual_ascent.specs.Left.{AreEndsOf};
 
 use crate::Ascent;
+use crate::growing::Growth;
 use crate::raising::{charge, raise_for};
 use crate::turning::next_fresh;
 use crate::waiting::{Waiting, all_open};
 use bidirected_form::Arcs;
 use cut_packing::{Cut, Packing};
 use prize_transform::Twins;
-use st_model::{Listed, VertexSet};
+use st_model::Listed;
 use std::alloc::{AllocError, Global};
 use std::cmp::Reverse;
 
@@ -30,21 +31,21 @@ pub fn ascend(
 {
     let mut cuts = Vec::new(alloc);
     let mut queue = all_open(alloc, arcs, twins, order)?;
-    let mut set = VertexSet::new(alloc, arcs.vertices() as usize + 1)?;
+    let mut growth = Growth::start(alloc, arcs)?;
     let mut room = target;
     while room > 0 {
-        let Some(waiting) = next_fresh(arcs, &cuts, &mut set, &mut queue)? else {
+        let Some(turn) = next_fresh(arcs, &cuts, &mut growth, &mut queue)? else {
             return Ok(Ascent::Full(packing(arcs.root(), cuts)));
         };
-        let Some(raise) = raise_for(alloc, arcs, twins, &set, waiting.vertex, room)? else {
+        let Some(raise) = raise_for(alloc, arcs, twins, &growth.set, &turn, room)? else {
             continue;
         };
         charge(arcs, twins, &raise.cut);
         room -= raise.cut.y;
         queue.push(Reverse(Waiting {
-            place: waiting.place,
+            place: turn.waiting.place,
             entering: raise.entering,
-            vertex: waiting.vertex,
+            vertex: turn.waiting.vertex,
             last: Some(cuts.len()),
         }))?;
         cuts.push(raise.cut)?;

@@ -1,13 +1,14 @@
-ghost use Rattle.std.specs.Prelude.{◌≡◌, ℕ, ◌+◌, ◌<◌, ◌≤◌, ◌↔◌, [], IfOk, IsTrue, MatchOption};
+ghost use Rattle.std.specs.Prelude.{◌≡◌, ℕ, ◌+◌, ◌<◌, ◌≤◌, ◌↔◌, [], All, IfOk, IsTrue, MatchOption};
 ghost use Rattle.std.specs.List.Sorted.{IsStrictlyIncreasing};
 ghost use Rattle.st_model.specs.Lists.{has};
 ghost use Rattle.st_model.specs.Network.{IsVertex};
 ghost use Rattle.bidirected_form.specs.Entering.{Charges};
 ghost use Rattle.dual_ascent.specs.Left.{AreEndsOf};
 ghost use Rattle.dual_ascent.specs.Raises.{IsOpen, IsRaise, Reaches};
-ghost use Rattle.dual_ascent.specs.Turns.{IsLimit, Spends};
+ghost use Rattle.dual_ascent.specs.Turns.{IsLimit, IsLooked, Spends};
 
 use crate::border::border_of;
+use crate::turning::Turn;
 use crate::waiting::{is_certain, is_open};
 use bidirected_form::Arcs;
 use cut_packing::Cut;
@@ -23,29 +24,26 @@ pub struct Raise {
     pub entering: usize,
 }
 
-// A cut round the set of all that reaches a vertex, for at most so much; none where the vertex
-// isn't open or the root reaches it.
+// A cut round the set in hand, which is all that reaches the vertex whose turn it is, for at most
+// so much; none where the vertex isn't open or the root reaches it.
 pub fn raise_for(
     alloc: Global,
     arcs: &Arcs,
     twins: &Twins,
     set: &VertexSet,
-    q: u32,
+    turn: &Turn,
     room: u64,
 ) -> Result<Option<Raise>, AllocError>
-    requires in_range { IsVertex arcs.now.n q }
-    requires count { set.now.count ≡ arcs.now.n + 1 }
-    requires exact { (v : ℕ) → IsTrue (has set.now.members v) ↔ Reaches arcs.now [] q v }
+    requires vertex { IsVertex arcs.now.n turn.now.waiting.vertex }
+    requires in_range { All (IsVertex arcs.now.n) set.now.members }
+    requires looked { IsLooked arcs.now set.now.members turn.now.waiting.vertex turn.now.is_reached }
     requires room { 0 < room }
     ensures { IfOk result (λ found. MatchOption found
-        (IsOpen arcs.now twins.now [] q → Reaches arcs.now [] q arcs.now.root)
-        (λ raise. IsRaise arcs.now twins.now room [] raise.cut × (raise.cut.q ≡ q))) }
+        (IsOpen arcs.now twins.now [] turn.now.waiting.vertex → Reaches arcs.now [] turn.now.waiting.vertex arcs.now.root)
+        (λ raise. IsRaise arcs.now twins.now room [] raise.cut × (raise.cut.q ≡ turn.now.waiting.vertex))) }
 {
-    let root = arcs.root();
-    if !is_open(arcs, twins, q) {
-        return Ok(None);
-    }
-    if set.contains(root) {
+    let q = turn.waiting.vertex;
+    if turn.is_reached || !is_open(arcs, twins, q) {
         return Ok(None);
     }
     let border = border_of(arcs, set, limit(arcs, twins, q, room));

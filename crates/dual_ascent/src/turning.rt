@@ -1,17 +1,21 @@
-ghost use Rattle.std.specs.Prelude.{◌≡◌, ℕ, ◌+◌, [], ◌↔◌, All, IfNone, IfOk, IfSome, IsTrue, OnOk};
+ghost use Rattle.std.specs.Prelude.{◌≡◌, ◌+◌, [], All, IfNone, IfOk, IfSome, OnOk};
 ghost use Rattle.std.specs.BinaryHeap.{heap_items, heap_len};
-ghost use Rattle.st_model.specs.Lists.{has};
-ghost use Rattle.dual_ascent.specs.Raises.{Reaches};
-ghost use Rattle.dual_ascent.specs.Turns.{IsSameVertex, IsTurn, IsWaiting};
+ghost use Rattle.dual_ascent.specs.Turns.{IsGrowth, IsLooked, IsSameVertex, IsTurn, IsWaiting};
 
 use crate::border::border_of;
-use crate::growing::gather;
+use crate::growing::Growth;
 use crate::waiting::{Queue, Waiting, next};
 use bidirected_form::Arcs;
 use cut_packing::Cut;
-use st_model::VertexSet;
 use std::alloc::AllocError;
 use std::cmp::Reverse;
+
+// A vertex whose turn it is, and whether the root reaches it.
+#[derive(Clone, Copy)]
+pub struct Turn {
+    pub waiting: Waiting,
+    pub is_reached: bool,
+}
 
 // The vertex whose turn it is, by the number of arcs that enter its set now. That number was
 // counted when the set was last looked at, so it is counted anew, and the vertex waits on where it
@@ -19,29 +23,29 @@ use std::cmp::Reverse;
 pub fn next_fresh(
     arcs: &Arcs,
     cuts: &[Cut],
-    set: &mut VertexSet,
+    growth: &mut Growth,
     queue: &mut Queue,
-) -> Result<Option<Waiting>, AllocError>
+) -> Result<Option<Turn>, AllocError>
     requires waiting { All (λ e. IsWaiting arcs.now cuts.now e.0) (heap_items queue.old) }
-    requires count { set.old.count ≡ arcs.now.n + 1 }
-    ensures count { set.new.count ≡ set.old.count }
-    ensures turn { IfOk result (λ found. IfSome found (IsTurn arcs.now cuts.now set.new.members (heap_items queue.old) (heap_items queue.new))) }
+    requires growth { IsGrowth arcs.now growth.old }
+    ensures growth { OnOk result (IsGrowth arcs.now growth.new) }
+    ensures turn { IfOk result (λ found. IfSome found (IsTurn arcs.now cuts.now growth.new.set.members (heap_items queue.old) (heap_items queue.new))) }
     ensures len { IfOk result (λ found. IfSome found (λ _. heap_len queue.new + 1 ≡ heap_len queue.old)) }
     ensures empty { IfOk result (λ found. IfNone found (heap_items queue.old ≡ [])) }
 {
     for _ in 0..queue.len() {
-        let Some(waiting) = turn(arcs, cuts, set, queue)? else {
+        let Some(turn) = take_turn(arcs, cuts, growth, queue)? else {
             return Ok(None);
         };
-        if comes_first(&waiting, queue) {
-            return Ok(Some(waiting));
+        if turn.is_reached || comes_first(&turn.waiting, queue) {
+            return Ok(Some(turn));
         }
-        queue.push(Reverse(waiting))?;
+        queue.push(Reverse(turn.waiting))?;
     }
-    let Some(waiting) = turn(arcs, cuts, set, queue)? else {
+    let Some(turn) = take_turn(arcs, cuts, growth, queue)? else {
         return Ok(None);
     };
-    Ok(Some(waiting))
+    Ok(Some(turn))
 }
 
 // Whether a vertex comes before all that wait, or at the same place as one of them.
@@ -55,46 +59,52 @@ fn comes_first(waiting: &Waiting, queue: &Queue) -> bool {
 }
 
 // The vertex that comes first, looked at anew.
-fn turn(
+fn take_turn(
     arcs: &Arcs,
     cuts: &[Cut],
-    set: &mut VertexSet,
+    growth: &mut Growth,
     queue: &mut Queue,
-) -> Result<Option<Waiting>, AllocError>
+) -> Result<Option<Turn>, AllocError>
     requires waiting { All (λ e. IsWaiting arcs.now cuts.now e.0) (heap_items queue.old) }
-    requires count { set.old.count ≡ arcs.now.n + 1 }
-    ensures count { set.new.count ≡ set.old.count }
-    ensures turn { IfOk result (λ found. IfSome found (IsTurn arcs.now cuts.now set.new.members (heap_items queue.old) (heap_items queue.new))) }
+    requires growth { IsGrowth arcs.now growth.old }
+    ensures growth { OnOk result (IsGrowth arcs.now growth.new) }
+    ensures turn { IfOk result (λ found. IfSome found (IsTurn arcs.now cuts.now growth.new.set.members (heap_items queue.old) (heap_items queue.new))) }
     ensures waiting { IfOk result (λ found. IfSome found (λ _. All (λ e. IsWaiting arcs.now cuts.now e.0) (heap_items queue.new))) }
     ensures len { IfOk result (λ found. IfSome found (λ _. heap_len queue.new + 1 ≡ heap_len queue.old)) }
     ensures empty { IfOk result (λ found. IfNone found (heap_items queue.old ≡ [])) }
 {
     match next(queue) {
-        Some(waiting) => Ok(Some(look(arcs, cuts, set, waiting)?)),
+        Some(waiting) => Ok(Some(look(arcs, cuts, growth, waiting)?)),
         None => Ok(None),
     }
 }
 
-// Makes the set all that reaches a waiting vertex, and counts the arcs that enter it unless it
-// holds the root.
+// Looks whether the root reaches a waiting vertex; if it doesn't, counts the arcs that enter the
+// set of all that reaches the vertex.
 fn look(
     arcs: &Arcs,
     cuts: &[Cut],
-    set: &mut VertexSet,
+    growth: &mut Growth,
     waiting: Waiting,
-) -> Result<Waiting, AllocError>
+) -> Result<Turn, AllocError>
     requires waiting { IsWaiting arcs.now cuts.now waiting }
-    requires count { set.old.count ≡ arcs.now.n + 1 }
-    ensures count { set.new.count ≡ set.old.count }
-    ensures same { IfOk result (IsSameVertex waiting) }
-    ensures gathered { OnOk result ((v : ℕ) → IsTrue (has set.new.members v) ↔ Reaches arcs.now [] waiting.vertex v) }
+    requires growth { IsGrowth arcs.now growth.old }
+    ensures growth { OnOk result (IsGrowth arcs.now growth.new) }
+    ensures same { IfOk result (λ t. IsSameVertex waiting t.waiting) }
+    ensures looked { IfOk result (λ t. IsLooked arcs.now growth.new.set.members waiting.vertex t.is_reached) }
 {
-    gather(arcs, cuts, set, &waiting)?;
-    if set.contains(arcs.root()) {
-        return Ok(waiting);
+    if growth.is_reached(arcs, cuts, &waiting)? {
+        return Ok(Turn {
+            waiting,
+            is_reached: true,
+        });
     }
-    Ok(Waiting {
-        entering: border_of(arcs, set, 0).arcs,
-        ..waiting
+    let entering = border_of(arcs, &growth.set, 0).arcs;
+    Ok(Turn {
+        waiting: Waiting {
+            entering,
+            ..waiting
+        },
+        is_reached: false,
     })
 }

@@ -1,5 +1,5 @@
-use super::{APART, PRIZES, TRIANGLE, WHEEL, ends, shelf_of, text_of};
-use crate::{OpenGate, Outcome, Status, solve_bytes};
+use super::{APART, PRIZES, TRIANGLE, WHEEL, ends, shelf_of, sink_of, text_of, words_of};
+use crate::{OpenGate, Outcome, Status, run, solve_bytes};
 use log_format::{Claim, read_log, write_log};
 use std::alloc::Global;
 use std::process::Abort;
@@ -111,7 +111,13 @@ fn proves_nothing_without_a_budget(rt: HostRuntime) -> Result<(), Fail> {
 /// One node proves the best cost of the triangle, but not that of the wheel, which has to split.
 #[test]
 fn proves_the_triangle_by_one_node(rt: HostRuntime) -> Result<(), Fail> {
-    let (dual, primal) = numbers_of(rt.alloc(), TRIANGLE, 1)?.ok_or("no tree")?;
+    let mut shelf = shelf_of(rt.alloc(), TRIANGLE, &[])?;
+    let words = words_of(rt.alloc(), "solve a.stp --nodes 1 --plain")?;
+    let mut out = sink_of(rt.alloc())?;
+    let ended = run(rt.alloc(), &words, &mut shelf, &mut out, &OpenGate);
+    let Some(Outcome::Found { primal, dual, .. }) = ended.outcome else {
+        return Err(Fail::new("no tree"));
+    };
     assert!(rt; dual == 6 && 6 <= primal && primal <= 8, "{dual} {primal}");
     let (dual, _) = numbers_of(rt.alloc(), WHEEL, 1)?.ok_or("no tree")?;
     assert!(rt; dual < 10, "{dual}");

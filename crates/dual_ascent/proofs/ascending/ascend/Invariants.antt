@@ -1,6 +1,6 @@
-use Rattle.std.proofs.Common.{◌≡◌, ◌+◌}
+use Rattle.std.proofs.Common.{◌+◌}
 use Rattle.std.specs.BinaryHeap.{heap_items, heap_len}
-use Rattle.dual_ascent.specs.Turns.{AreWaiting}
+use Rattle.dual_ascent.specs.Turns.{AreWaiting, IsGrowth}
 use Rattle.dual_ascent.proofs.SoFar.{AreSoFar}
 use Rattle.dual_ascent.proofs.ascending.ascend.Given as goal
 
@@ -8,7 +8,7 @@ abbrev pub invariant-loop-room : goal.invariant-loop-room
 invariant-loop-room l = record {
   so_far : AreSoFar l.fn.arcs l.arcs l.fn.twins l.twins l.target l.room l.cuts.items;
   waiting : AreWaiting l.arcs l.twins l.cuts.items (heap_items l.queue);
-  count : l.set.count ≡ l.arcs.n + 1;
+  growth : IsGrowth l.arcs l.growth;
 }
 
 abbrev pub decreases-loop-room : goal.decreases-loop-room

@@ -1,10 +1,10 @@
 use Rattle.st_model.specs.Network.{IsVertex}
-use Rattle.std.proofs.lemmas.Result.{on_ok_weaker}
+use Rattle.std.proofs.lemmas.Result.{IfOk-weaker}
 use Rattle.dual_ascent.proofs.Reaching.{all_same, seeds_same}
 use Rattle.dual_ascent.proofs.growing.gather_from.Goals as goal
 
 pub grow-requires-clause-members : goal.grow-requires-clause-members
 grow-requires-clause-members c = all_same (IsVertex c.args.arcs.now.n) c.args.vertices.now c.add_all.new.set.members (rw c.clear.ensures.members at c.in_ok-add_all.ensures.extends) c.requires.vertices
 
-pub returns-clause-exact : goal.returns-clause-exact
-returns-clause-exact c = on_ok_weaker c.grow.result (λ grown q seeds. grown q (seeds_same c.args.arcs.now q c.args.vertices.now c.add_all.new.set.members (rw c.clear.ensures.members at c.in_ok-add_all.ensures.extends) seeds)) c.grow.ensures.exact
+pub returns-clause-gathered : goal.returns-clause-gathered
+returns-clause-gathered c = IfOk-weaker c.grow.result _ _ (λ met gathered q seeds. gathered q (seeds_same c.args.arcs.now q c.args.vertices.now c.add_all.new.set.members (rw c.clear.ensures.members at c.in_ok-add_all.ensures.extends) seeds)) c.grow.ensures.gathered

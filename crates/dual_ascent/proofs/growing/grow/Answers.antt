@@ -2,11 +2,11 @@ use Rattle.std.proofs.Common.{◌∙◌, sym, subst, arith}
 use Rattle.std.proofs.lemmas.Option.{slice_get_within, get_or_from_slice_get}
 use Rattle.st_model.specs.Network.{IsVertex}
 use Rattle.cut_packing.proofs.Walked.{slice_get-None}
-use Rattle.dual_ascent.proofs.Reaching.{growing_from, growing_more, growing_done, in_range_more}
+use Rattle.dual_ascent.proofs.Reaching.{apart_more, growing_from, growing_met, growing_more, growing_done, in_range_more}
 use Rattle.dual_ascent.proofs.growing.grow.Goals as goal
 
 pub loop-vertex-init : goal.loop-vertex-init
-loop-vertex-init c = record { count = c.requires.count; in_range = c.requires.members; growing = λ q seeds. growing_from c.args.arcs.now q c.args.set.now.members seeds }
+loop-vertex-init c = record { count = c.requires.count; in_range = c.requires.members; apart = λ k before within. absurd (omega (arith, before)); growing = λ q seeds. growing_from c.args.arcs.now q c.args.set.now.members seeds }
 
 pub arcs_into-requires : goal.arcs_into-requires
 arcs_into-requires c =
@@ -35,8 +35,12 @@ loop-vertex-preserved c =
     record {
       count = c.add_tails.ensures.count ∙ c.loop-vertex.invariant.count;
       in_range = in_range_more D c.in-Some.vertex c.loop-vertex.set.members c.add_tails.new.set.members c.arcs_into.ensures.digraph extends c.loop-vertex.invariant.in_range;
+      apart = apart_more c.args.reached.now.members c.loop-vertex.next c.in-Some.vertex c.loop-vertex.set.members c.add_tails.new.set.members _ (sym c.in-Some.ensures.member) (sym c.contains.ensures ∙ c.if-contains.false) extends c.loop-vertex.invariant.apart;
       growing = λ q seeds. growing_more D q c.loop-vertex.next c.in-Some.vertex c.loop-vertex.set.members c.add_tails.new.set.members c.arcs_into.ensures.digraph (sym c.in-Some.ensures.member) extends (c.loop-vertex.invariant.growing q seeds);
     }
 
-pub returns-clause-exact : goal.returns-clause-exact
-returns-clause-exact c = λ q seeds. growing_done c.args.arcs.now q c.loop-vertex.next c.loop-vertex.set.members (slice_get-None _ _ (sym c.in_default.ensures.member)) (c.loop-vertex.invariant.growing q seeds)
+pub returns-then-contains-clause-gathered : goal.returns-then-contains-clause-gathered
+returns-then-contains-clause-gathered c = λ q seeds. growing_met c.args.arcs.now q c.loop-vertex.next c.in-Some.vertex c.args.reached.now.members c.loop-vertex.set.members (sym c.in-Some.ensures.member) (sym c.contains.ensures ∙ c.if-contains.true) (c.loop-vertex.invariant.growing q seeds)
+
+pub returns-clause-gathered : goal.returns-clause-gathered
+returns-clause-gathered c = λ q seeds. growing_done c.args.arcs.now q c.loop-vertex.next c.args.reached.now.members c.loop-vertex.set.members (slice_get-None _ _ (sym c.in_default.ensures.member)) c.loop-vertex.invariant.apart (c.loop-vertex.invariant.growing q seeds)

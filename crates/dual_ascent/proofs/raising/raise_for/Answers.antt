@@ -1,26 +1,21 @@
 use Rattle.std.proofs.Common.{◌≡◌, ◌≤◌, ◌⊎◌, ℕ, sym, subst}
-use Rattle.std.specs.Prelude.{IsFalse}
-use Rattle.st_model.specs.Lists.{has}
 use Rattle.bidirected_form.specs.Entering.{CanBear}
 use Rattle.dual_ascent.specs.Turns.{HasAnArcLeft}
-use Rattle.dual_ascent.proofs.Fresh.{grown_in_range, raise_made}
+use Rattle.dual_ascent.proofs.Fresh.{raise_made}
 use Rattle.dual_ascent.proofs.raising.raise_for.Goals as goal
-
-pub border_of-border-requires : goal.border_of-border-requires
-border_of-border-requires c = grown_in_range c.args.arcs.now c.args.q c.args.set.now.members c.root-root.ensures.digraph c.requires.in_range c.requires.exact
 
 pub returns : goal.returns
 returns c =
     let y = sym c.in_ok-cut.ensures.y in
+    let gathered = rw c.if-turn.false at c.requires.looked in
     let members = c.args.set.now.members in
     let limit = c.limit.result in
-    raise_made c.args.arcs.now c.args.twins.now c.args.room c.args.q members limit c.in_ok-cut.cut (record {
-      digraph = c.root-root.ensures.digraph;
+    raise_made c.args.arcs.now c.args.twins.now c.args.room c.args.turn.now.waiting.vertex members limit c.in_ok-cut.cut (record {
       in_range = c.requires.in_range;
       still_open = c.is_open.ensures.0 c.if-not-is_open.false;
       some = c.requires.room;
-      grown = c.requires.exact;
-      apart = subst (λ (r : ℕ). IsFalse (has members r)) c.root-root.ensures.root (sym c.if-contains.ensures);
+      grown = gathered.0;
+      apart = gathered.1;
       limited = c.limit.ensures;
       bound = subst (λ (x : ℕ). x ≤ limit) y c.border_of-border.ensures.limit;
       bears = subst (CanBear c.args.arcs.now members) y c.border_of-border.ensures.arcs;

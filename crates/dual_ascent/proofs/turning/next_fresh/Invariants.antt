@@ -1,7 +1,7 @@
 use Rattle.std.proofs.Common.{◌≡◌}
 use Rattle.std.specs.Prelude.{All}
 use Rattle.std.specs.BinaryHeap.{heap_items, heap_len}
-use Rattle.dual_ascent.specs.Turns.{IsWaiting, KeepsWaiting, Entry}
+use Rattle.dual_ascent.specs.Turns.{IsWaiting, IsGrowth, KeepsWaiting, Entry}
 use Rattle.dual_ascent.proofs.turning.next_fresh.Given as goal
 
 abbrev pub invariant-loop : goal.invariant-loop
@@ -9,5 +9,5 @@ invariant-loop l = record {
   waiting : All (λ (e : Entry). IsWaiting l.fn.arcs l.fn.cuts e.0) (heap_items l.queue);
   keeps : KeepsWaiting l.fn.arcs l.fn.cuts (heap_items l.fn.queue) (heap_items l.queue);
   len : heap_len l.queue ≡ heap_len l.fn.queue;
-  count : l.set.count ≡ l.fn.set.count;
+  growth : IsGrowth l.fn.arcs l.growth;
 }
