@@ -11,11 +11,12 @@ use Rattle.st_model.specs.declared.link.Link.{Link}
 use Rattle.st_model.specs.Lists.{has}
 use Rattle.st_model.specs.Network.{Network, joins, link}
 use Rattle.st_model.proofs.Distinct.{joins-ends}
-use Rattle.level_packing.specs.Forest.{Groups, AreClusters, IsPresent, IsPresentLink, IsForest, IsGrown, IsToCome, AreToCome, cluster_of, members_of, formed_at}
+use Rattle.level_packing.specs.Forest.{Groups, AreClusters, IsCounted, IsPresent, IsPresentLink, IsForest, IsGrown, IsToCome, AreToCome, cluster_of, members_of, formed_at}
 use Rattle.level_packing.specs.Growing.{IsRaised, IsMerged, IsMergedInto, IsJoinedBy}
 use Rattle.level_packing.proofs.Members.{All-from_has, any_first}
 use Rattle.level_packing.proofs.Raising.{raise, weaker_limit}
 use Rattle.level_packing.proofs.Joining.{join}
+use Rattle.level_packing.proofs.Counted.{joined_counts}
 
 -- a forest in which a cluster was raised
 pub record AfterRaise (I : Network) (B : Branch) (root x c : ℕ) (rest : List Link) (F G : Groups) : Type 0 where
@@ -115,11 +116,11 @@ later_cost_more ls i d up within k e short =
 
 -- one more link is taken
 pub take_skip : (I : Network) (B : Branch) (root : ℕ) (l : Link) (rest : List Link) (F : Groups) → IsGrown I B root (l ∷ rest) F → cluster_of F l.a ≡ cluster_of F l.b → IsGrown I B root rest F
-take_skip I B root l rest F (limit, forest, later) same = (limit, skip I B root limit l rest F same forest, All-tail (λ (m : Link). limit ≤ m.cost) l rest later)
+take_skip I B root l rest F (limit, forest, later, counted) same = (limit, skip I B root limit l rest F same forest, All-tail (λ (m : Link). limit ≤ m.cost) l rest later, counted)
 
 pub take_join : (I : Network) (B : Branch) (root : ℕ) (l : Link) (rest : List Link) (F F1 F2 G : Groups) → IsGrown I B root (l ∷ rest) F → IsPresentLink I B l → All (λ m. l.cost ≤ m.cost) rest → cluster_of F l.a ≢ cluster_of F l.b
     → IsRaised F (cluster_of F root) (cluster_of F l.a) l.cost F1 → IsRaised F1 (cluster_of F root) (cluster_of F l.b) l.cost F2 → IsMerged (cluster_of F l.a) (cluster_of F l.b) l F2 G → IsGrown I B root rest G
-take_join I B root l rest F F1 F2 G (limit, forest, later) present above apart first second merged =
+take_join I B root l rest F F1 F2 G (limit, forest, later, counted) present above apart first second merged =
     let le : limit ≤ l.cost = All-head (λ (m : Link). limit ≤ m.cost) l rest later in
     let one = after_raise I B root limit (cluster_of F l.a) l.cost (l ∷ rest) F F1 forest le (forest.clusters.own l.a present.a) (forest.clusters.settled l.a present.a) first in
     let same_cluster : (v : ℕ) → cluster_of F1 v ≡ cluster_of F v = λ v. ap (λ xs. get_or xs v 0) one.cluster in
@@ -128,11 +129,19 @@ take_join I B root l rest F F1 F2 G (limit, forest, later) present above apart f
     let still : (v : ℕ) → cluster_of F2 v ≡ cluster_of F v = λ v. ap (λ xs. get_or xs v 0) two.cluster ∙ same_cluster v in
     let a_raised : cluster_of F l.a ≢ cluster_of F2 root → formed_at F2 (cluster_of F l.a) ≡ l.cost = λ off. two.others (cluster_of F l.a) apart ∙ one.raised (λ e. off (e ∙ sym (still root))) in
     let b_raised : cluster_of F l.b ≢ cluster_of F2 root → formed_at F2 (cluster_of F l.b) ≡ l.cost = λ off. two.raised (λ e. off (e ∙ same_cluster root ∙ sym (still root))) in
-    by_case two.forest (still l.a) (still l.b) a_raised b_raised merged
+    let more = joined_counts I.n l F F1 F2 G (cluster_of F root) (cluster_of F l.a) (cluster_of F l.b) apart (filled l.a present.a) (filled l.b present.b) first second merged counted in
+    by_case two.forest (still l.a) (still l.b) a_raised b_raised merged more
   where
-    by_case : IsForest I B root l.cost (l ∷ rest) F2 → cluster_of F2 l.a ≡ cluster_of F l.a → cluster_of F2 l.b ≡ cluster_of F l.b → (cluster_of F l.a ≢ cluster_of F2 root → formed_at F2 (cluster_of F l.a) ≡ l.cost) → (cluster_of F l.b ≢ cluster_of F2 root → formed_at F2 (cluster_of F l.b) ≡ l.cost) → IsMerged (cluster_of F l.a) (cluster_of F l.b) l F2 G → IsGrown I B root rest G
-    by_case f a b a_raised b_raised (inl m) = (l.cost, joined I B root l rest (cluster_of F l.a) (cluster_of F l.b) F2 G f above present (inl (a, b)) apart a_raised b_raised m, above)
-    by_case f a b a_raised b_raised (inr m) = (l.cost, joined I B root l rest (cluster_of F l.b) (cluster_of F l.a) F2 G f above present (inr (a, b)) (λ e. apart (sym e)) b_raised a_raised m, above)
+    -- the cluster of a present vertex holds one at least
+    filled : (v : ℕ) → IsPresent I B v → IsTrue (has (members_of F (cluster_of F v)) (cluster_of F v))
+    filled v pv =
+        let own = forest.clusters.own v pv in
+        let settled = forest.clusters.settled v pv in
+        (forest.clusters.members (cluster_of F v) (cluster_of F v) own settled).1 (own, settled)
+
+    by_case : IsForest I B root l.cost (l ∷ rest) F2 → cluster_of F2 l.a ≡ cluster_of F l.a → cluster_of F2 l.b ≡ cluster_of F l.b → (cluster_of F l.a ≢ cluster_of F2 root → formed_at F2 (cluster_of F l.a) ≡ l.cost) → (cluster_of F l.b ≢ cluster_of F2 root → formed_at F2 (cluster_of F l.b) ≡ l.cost) → IsMerged (cluster_of F l.a) (cluster_of F l.b) l F2 G → IsCounted I.n G → IsGrown I B root rest G
+    by_case f a b a_raised b_raised (inl m) more = (l.cost, joined I B root l rest (cluster_of F l.a) (cluster_of F l.b) F2 G f above present (inl (a, b)) apart a_raised b_raised m, above, more)
+    by_case f a b a_raised b_raised (inr m) more = (l.cost, joined I B root l rest (cluster_of F l.b) (cluster_of F l.a) F2 G f above present (inr (a, b)) (λ e. apart (sym e)) b_raised a_raised m, above, more)
 
 -- the same from what one call says of the clusters' names
 pub take_joined : (I : Network) (B : Branch) (root : ℕ) (l : Link) (rest : List Link) (F G : Groups) (of_root first second : ℕ) → IsGrown I B root (l ∷ rest) F → IsPresentLink I B l → All (λ m. l.cost ≤ m.cost) rest → first ≢ second

@@ -1,5 +1,5 @@
 -- Clusters of vertices that links have joined so far, and the cuts round them.
-use Rattle.std.specs.Prelude.{◌≡◌, ◌≢◌, ℕ, ◌+◌, ◌≤◌, ◌↔◌, ◌==◌, Bool, IsTrue, IsFalse, IsSome, IfSome, if◌then◌else◌, List, [], length, map, All, Any, Some, not, ◌&&◌, slice_index_or}
+use Rattle.std.specs.Prelude.{◌≡◌, ◌≢◌, ℕ, ◌+◌, ◌*◌, ◌≤◌, ◌↔◌, ◌==◌, Bool, IsTrue, IsFalse, IsSome, IfSome, if◌then◌else◌, List, [], ◌∷◌, length, map, All, Any, Some, not, ◌&&◌, slice_index_or}
 use Rattle.std.specs.Prelude.{Vec}
 use Rattle.std.specs.declared.alloc.Global.{Global}
 use Rattle.st_model.specs.declared.branch.Branch.{Branch}
@@ -96,9 +96,20 @@ pub record IsForest (I : Network) (B : Branch) (root limit : ℕ) (rest : List L
   pub levels : AreLevel I B root limit F
   pub to_come : AreToCome I B rest F
 
+-- one, where the list holds anything
+abbrev pub one_if_any : List ℕ → ℕ
+one_if_any [] = 0
+one_if_any (x ∷ xs) = 1
+
+-- each chosen link made one cluster of two, after at most two cuts
+pub record IsCounted (n : ℕ) (F : Groups) : Type 0 where
+  -- place 0, which is no vertex, stays a cluster of its own
+  pub clusters : total one_if_any F.members + length F.chosen ≡ n + 1
+  pub cuts : length F.cuts ≤ 2 * length F.chosen
+
 -- a forest, where what is left costs at least all that was taken
 abbrev pub IsGrown : Network → Branch → ℕ → List Link → Groups → Type 0
-IsGrown I B root rest F = (limit : ℕ) × IsForest I B root limit rest F × All (λ l. limit ≤ l.cost) rest
+IsGrown I B root rest F = (limit : ℕ) × IsForest I B root limit rest F × All (λ l. limit ≤ l.cost) rest × IsCounted I.n F
 
 -- a link of the instance between present vertices
 pub record IsPresentLink (I : Network) (B : Branch) (l : Link) : Type 0 where

@@ -1,5 +1,5 @@
 -- Trees that reach just the vertices of a branch that are present.
-use Rattle.std.specs.Prelude.{◌≡◌, ℕ, ◌^◌, ◌<◌, ◌≤◌, List, [], ◌∷◌, length, All}
+use Rattle.std.specs.Prelude.{◌≡◌, ℕ, ◌*◌, ◌≤◌, [], ◌∷◌, length, All}
 use Rattle.st_model.specs.declared.branch.Branch.{Branch}
 use Rattle.st_model.specs.declared.tree.Tree.{Tree}
 use Rattle.st_model.specs.Lists.{has}
@@ -31,7 +31,7 @@ abbrev pub HasSets : ℕ → Leaf → Type 0
 HasSets n (Spanned t P) = AreSets n P
 HasSets n (Wall P) = AreSets n P
 
--- so few cuts that 64 bits count them; where there is no such tree just one, of the target's value
-abbrev pub HasFewCuts : ℕ → Leaf → Type 0
-HasFewCuts target (Spanned t P) = length P.cuts < 2 ^ 64
-HasFewCuts target (Wall P) = (c : Cut) × (P.cuts ≡ c ∷ []) × (c.y ≡ target)
+-- at most two cuts for each vertex; where there is no such tree just one, of the target's value
+abbrev pub HasFewCuts : ℕ → ℕ → Leaf → Type 0
+HasFewCuts n target (Spanned t P) = length P.cuts ≤ 2 * n
+HasFewCuts n target (Wall P) = (c : Cut) × (P.cuts ≡ c ∷ []) × (c.y ≡ target)

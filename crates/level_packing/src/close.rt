@@ -16,7 +16,9 @@ use std::alloc::{AllocError, Global};
 
 /// Closes a branch in which each present vertex is required or inside: by a tree that reaches
 /// exactly the present vertices with a packing that weighs what the tree costs, or, where there
-/// is no such tree, by a packing that weighs at least the target: one cut of this value.
+/// is no such tree, by a packing that weighs at least the target: one cut of this value. There are
+/// at most two cuts for each vertex. Takes time near-linear in the links and in the size of the
+/// cuts' sets together.
 pub fn close_all(
     alloc: Global,
     instance: &Instance,
@@ -27,7 +29,7 @@ pub fn close_all(
     requires some { (v : ℕ) × IsPresent instance.now branch.now v }
     ensures closed { IfOk result (Closes instance.now branch.now target) }
     ensures sets { IfOk result (HasSets instance.now.n) }
-    ensures few { IfOk result (HasFewCuts target) }
+    ensures few { IfOk result (HasFewCuts instance.now.n target) }
 {
     let places = instance.vertices() as usize + 1;
     let outside = VertexSet::of(alloc, places, branch.outside.as_slice())?;
@@ -79,7 +81,7 @@ fn spanned(
     requires one { (v : ℕ) → IsPresent instance.now branch.now v → cluster_of (groups forest) v ≡ cluster_of (groups forest) root }
     ensures closed { IfOk result (Closes instance.now branch.now target) }
     ensures sets { IfOk result (HasSets instance.now.n) }
-    ensures few { IfOk result (HasFewCuts target) }
+    ensures few { IfOk result (HasFewCuts instance.now.n target) }
 {
     let tree = thin(alloc, instance, &forest.chosen, root)?;
     Ok(Leaf::Tree(
@@ -108,7 +110,7 @@ fn wall(
     requires apart { cluster_of (groups forest) vertex ≢ cluster_of (groups forest) root }
     ensures closed { IfOk result (Closes instance.now branch.now target) }
     ensures sets { IfOk result (HasSets instance.now.n) }
-    ensures few { IfOk result (HasFewCuts target) }
+    ensures few { IfOk result (HasFewCuts instance.now.n target) }
 {
     let name = forest.cluster[vertex as usize];
     let set = ascending(alloc, &forest.members[name as usize])?;

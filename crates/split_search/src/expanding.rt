@@ -1,4 +1,4 @@
-ghost use Rattle.std.specs.Prelude.{◌≡◌, ◌+◌, ◌^◌, ◌<◌, ◌≤◌, length, All, IfOk, IfSome};
+ghost use Rattle.std.specs.Prelude.{◌≡◌, ◌+◌, ◌*◌, ◌^◌, ◌<◌, ◌≤◌, length, All, IfOk, IfSome};
 ghost use Rattle.st_model.specs.Lists.{sum_to};
 ghost use Rattle.st_model.specs.Network.{IsInstance, pays};
 ghost use Rattle.st_model.specs.Arborescence.{IsTree, cost};
@@ -92,7 +92,7 @@ fn spanned(instance: &Instance, node: &Node, tree: Tree, packing: Packing, least
     requires fits { Fits instance.now node.now.branch packing }
     requires weighs { weight instance.now node.now.branch packing ≡ cost instance.now tree }
     requires sets { AreSets instance.now.n packing }
-    requires few { length packing.cuts < 2 ^ 64 }
+    requires few { length packing.cuts ≤ 2 * instance.now.n }
     ensures { IsStep instance.now node.now least result }
 {
     Step {

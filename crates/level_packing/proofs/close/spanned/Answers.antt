@@ -1,4 +1,5 @@
-use Rattle.level_packing.specs.Forest.{groups}
+use Rattle.level_packing.specs.Forest.{cluster_of, groups}
+use Rattle.level_packing.proofs.Counted.{few_cuts}
 use Rattle.level_packing.proofs.Ending.{all_connected, all_fit, spans, weighs}
 use Rattle.level_packing.proofs.close.spanned.Goals as goal
 
@@ -20,3 +21,12 @@ returns-clause-closed c =
 
 pub returns-clause-sets : goal.returns-clause-sets
 returns-clause-sets c = rw c.of.ensures c.requires.grown.1.levels.sets
+
+pub returns-clause-few : goal.returns-clause-few
+returns-clause-few c =
+    let F = groups c.args.forest in
+    let forest = c.requires.grown.1 in
+    let own = forest.clusters.own c.args.root forest.rooted in
+    let settled = forest.clusters.settled c.args.root forest.rooted in
+    let filled = (forest.clusters.members (cluster_of F c.args.root) (cluster_of F c.args.root) own settled).1 (own, settled) in
+    rw c.of.ensures (few_cuts c.args.instance.now.n F (cluster_of F c.args.root) filled c.requires.grown.3)
