@@ -1,10 +1,10 @@
 -- The sets of a branch are written in order, and are searched by halves.
-use Rattle.std.proofs.Common.{◌≡◌, ℕ, zero, suc, ◌<◌, ◌≤◌, Bool, true, false, cond, ◌||◌, List, [], ◌∷◌, ◌⊎◌, inl, inr, length, get_or, Result, Ok, Err, refl, sym, arith}
-use Rattle.std.specs.Prelude.{◌==◌, nat_lt, IsTrue, IsFalse, is_ok, MatchResult}
+use Rattle.std.proofs.Common.{◌≡◌, ℕ, zero, suc, ◌<◌, ◌≤◌, Bool, true, false, cond, List, [], ◌∷◌, ◌⊎◌, inl, inr, length, get_or, Result, Ok, Err, refl, sym, subst, arith}
+use Rattle.std.specs.Prelude.{nat_lt, IsTrue, is_ok, MatchResult}
 use Rattle.std.specs.Ordering.{nat_cmp}
 use Rattle.std.specs.List.{AllByRecursion, prefix_len}
 use Rattle.std.specs.List.Sorted.{IsNonDecreasing, IsPartitionPoint, IsBinarySearchResult}
-use Rattle.std.proofs.lemmas.Bool.{both_ways, cases_lt, cases_order}
+use Rattle.std.proofs.lemmas.Bool.{both_ways, false_from_ne_true, cases_lt, cases_order}
 use Rattle.std.proofs.lemmas.Bool.Decides.{nat_tests}
 use Rattle.std.proofs.lemmas.List.Sums.{prefix_len_passes, prefix_len_stops, prefix_len-le-length}
 use Rattle.std.proofs.lemmas.List.Sorted.{searched}
@@ -13,7 +13,8 @@ use Rattle.st_model.specs.Branch.{with_vertex}
 use Rattle.cert_checker.specs.declared.turn.Turn.{Turn}
 use Rattle.cert_checker.specs.declared.turn.Turn.TheVariants.{Inside, Outside}
 use Rattle.cert_checker.specs.Path.{IsInOrder, branch_of}
-use Rattle.cert_checker.proofs.Branches.{all-with_vertex}
+use Rattle.st_model.proofs.Branches.{all-with_vertex}
+use Rattle.st_model.proofs.Marked.{has_at, place_of}
 
 -- no number is above a later one
 abbrev Rises : List ℕ → Type 0
@@ -67,32 +68,13 @@ partition_is p xs r bound point = at (cases_order r (prefix_len p xs))
     at (inr (inl less)) = absurd (both_ways (p (get_or xs r 0)) (point.1 r 0 (omega arith) (omega (arith, prefix_len-le-length p xs))) (prefix_len_passes p xs r 0 less))
     at (inr (inr more)) = absurd (both_ways (p (get_or xs (prefix_len p xs) 0)) (prefix_len_stops p xs 0 (omega arith)) (point.0 (prefix_len p xs) 0 (omega arith) more))
 
--- what is at no place isn't there
-none_has : (xs : List ℕ) (v : ℕ) → ((k : ℕ) → k < length xs → get_or xs k 0 ≡ v → ⊥) → IsFalse (has xs v)
-none_has [] v none = refl
-none_has (x ∷ xs) v none = at (x == v) refl (none_has xs v (λ k below same. none (suc k) (omega arith) same))
-  where
-    at : (b : Bool) → (x == v) ≡ b → IsFalse (has xs v) → (b || has xs v) ≡ false
-    at true e rest = absurd (none 0 (omega arith) (grind (arith, nat_tests, e)))
-    at false e rest = rest
-
--- what is at a place is there
-some_has : (xs : List ℕ) (v i : ℕ) → i < length xs → get_or xs i 0 ≡ v → IsTrue (has xs v)
-some_has [] v i below same = absurd (omega arith)
-some_has (x ∷ xs) v zero below same = let e : (x == v) ≡ true = grind (arith, nat_tests, same) in rw e refl
-some_has (x ∷ xs) v (suc i) below same = at (x == v) (some_has xs v i (omega arith) same)
-  where
-    at : (b : Bool) → IsTrue (has xs v) → IsTrue (b || has xs v)
-    at true rest = refl
-    at false rest = rest
-
 -- a search by halves tells whether it is there
 pub search_has : (xs : List ℕ) (v : ℕ) (r : Result ℕ ℕ) → IsNonDecreasing xs → IsBinarySearchResult (λ y. nat_cmp y v) xs r → is_ok r ≡ has xs v
 search_has xs v r order found = at r (searched xs v r found (λ i j low below. order i j 0 low below))
   where
     at : (r : Result ℕ ℕ) → MatchResult r (λ i. (i < length xs) × (get_or xs i 0 ≡ v)) (λ i. (i ≤ length xs) × ((k : ℕ) → k < i → get_or xs k 0 < v) × ((k : ℕ) → i ≤ k → k < length xs → v < get_or xs k 0)) → is_ok r ≡ has xs v
-    at (Ok i) here = sym (some_has xs v i here.0 here.1)
-    at (Err i) here = sym (none_has xs v (λ k below same. differs k below same i here.1 here.2 (cases_lt k i)))
+    at (Ok i) here = sym (subst (λ x. IsTrue (has xs x)) here.1 (has_at xs i 0 here.0))
+    at (Err i) here = sym (false_from_ne_true (has xs v) (λ there. let place = place_of xs v there in differs place.0 place.1 place.2 i here.1 here.2 (cases_lt place.0 i)))
       where
         differs : (k : ℕ) → k < length xs → get_or xs k 0 ≡ v → (i : ℕ) → ((k : ℕ) → k < i → get_or xs k 0 < v) → ((k : ℕ) → i ≤ k → k < length xs → v < get_or xs k 0) → (k < i) ⊎ (i ≤ k) → ⊥
         differs k below same i low high (inl side) = omega (arith, low k side)

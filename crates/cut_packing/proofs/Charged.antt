@@ -9,8 +9,8 @@ use Rattle.st_model.specs.Arborescence.{reached_from, Grows, arc_cost}
 use Rattle.cut_packing.specs.declared.cut.Cut.{Cut}
 use Rattle.cut_packing.specs.Packing.{load}
 use Rattle.cut_packing.proofs.Sums.{total-add}
-use Rattle.cut_packing.proofs.Members.{reached_from-more}
 use Rattle.st_model.proofs.Distinct.{link-comm}
+use Rattle.st_model.proofs.ThinGrowth.{has-reached_from}
 use Rattle.cut_packing.proofs.Turned.{top, turned, enters}
 
 -- where an arc enters the set, the arcs that do bear y at least
@@ -43,10 +43,10 @@ turned_bears I f r R [] g h = omega arith
 turned_bears I f r R ((u, v) ∷ arcs) g h = step (v == top arcs r) (turned_bears I f r (v ∷ R) arcs g.3 h)
   where
     tail : IsTrue (has (reached_from (v ∷ R) arcs) u)
-    tail = reached_from-more (v ∷ R) arcs u (or_right (v == u) _ g.1)
+    tail = has-reached_from (v ∷ R) arcs u (or_right (v == u) _ g.1)
 
     head : IsTrue (has (reached_from (v ∷ R) arcs) v)
-    head = reached_from-more (v ∷ R) arcs v (or_left (v == v) _ (eq-eqb v v refl))
+    head = has-reached_from (v ∷ R) arcs v (or_left (v == v) _ (eq-eqb v v refl))
 
     forth : f (u, v) ≤ arc_cost I (u, v)
     forth = priced (link I.links u v) (f (u, v)) g.0 (h u v tail head)

@@ -1,13 +1,13 @@
 -- Weak duality: a packing that fits a branch, and a proof tree of such packings, bound each tree of the branch.
-use Rattle.std.proofs.Common.{◌≡◌, ℕ, ◌+◌, ◌≤◌, Bool, true, false, cond, not, List, [], ◌∷◌, Option, Some, None, ◌⊎◌, inl, inr, refl, ap, arith}
+use Rattle.std.proofs.Common.{◌≡◌, ℕ, ◌+◌, ◌≤◌, Bool, true, false, cond, not, List, [], ◌∷◌, Option, Some, None, inl, inr, refl, ap, arith}
 use Rattle.std.specs.Prelude.{◌==◌, IsTrue, IsFalse, if◌then◌else◌, MatchOption}
 use Rattle.std.specs.List.{AllByRecursion}
-use Rattle.std.proofs.lemmas.Bool.{or_cases, eqb-true, eq-eqb, cases_Bool, both_ways, false_from_ne_true, false≢true}
+use Rattle.std.proofs.lemmas.Bool.{eqb-true, eq-eqb, cases_Bool, both_ways, false_from_ne_true, false≢true}
 use Rattle.std.proofs.lemmas.List.Elements.{recursion_from_All, All-weaker}
 use Rattle.st_model.specs.declared.branch.Branch.{Branch}
 use Rattle.st_model.specs.declared.tree.Tree.{Tree}
 use Rattle.st_model.specs.Lists.{has, total, sum_to}
-use Rattle.st_model.specs.Network.{Network, IsVertex, is_required, pays}
+use Rattle.st_model.specs.Network.{Network, IsVertex, pays}
 use Rattle.st_model.specs.Arborescence.{IsTree, reached, missed, arc_cost}
 use Rattle.st_model.specs.Branch.{Belongs, is_present, is_certain, with_inside, with_outside}
 use Rattle.cut_packing.specs.declared.cut.Cut.{Cut}
@@ -15,9 +15,11 @@ use Rattle.cut_packing.specs.declared.packing.Packing.{Packing}
 use Rattle.cut_packing.specs.Packing.{load, named, IsRoot, CutFits, Fits, outside_pays}
 use Rattle.cut_packing.specs.ProofTree.{close, split}
 use Rattle.cut_packing.specs.Laws.{WeakDuality, ProofTreesBound}
-use Rattle.cut_packing.proofs.Sums.{total-split, sum_to-add, sum_to-le, sum_to-one}
-use Rattle.cut_packing.proofs.Members.{has-with_vertex}
+use Rattle.st_model.proofs.Branches.{certain_reached}
+use Rattle.st_model.proofs.Halves.{belongs_inside, belongs_outside}
 use Rattle.st_model.proofs.Marked.{at_member}
+use Rattle.st_model.proofs.Sums.{sum_to-add, sum_to_le}
+use Rattle.cut_packing.proofs.Sums.{total-split, sum_to-one}
 use Rattle.cut_packing.proofs.Turned.{turned, entered}
 use Rattle.cut_packing.proofs.Charged.{charged, turned_bears}
 
@@ -27,14 +29,6 @@ reached_present B t v belongs r =
     elim (cases_Bool (has B.outside v)) [
       | inl out ↦ absurd (both_ways (has (reached t) v) (belongs.outside v out) r)
       | inr present ↦ ap not present
-    ]
-
--- a tree of the branch reaches each vertex that is required or inside
-pub certain_reached : (I : Network) (B : Branch) (t : Tree) (v : ℕ) → IsTree I t → Belongs B t → IsVertex I.n v → IsTrue (is_certain I B v) → IsTrue (has (reached t) v)
-certain_reached I B t v tree belongs in_range certain =
-    elim (or_cases (is_required I v) (has B.inside v) certain) [
-      | inl required ↦ tree.required v in_range required
-      | inr inside ↦ belongs.inside v inside
     ]
 
 -- the vertex that a cut names is in range
@@ -63,7 +57,7 @@ unreached_named n reach (c ∷ cuts) h =
     let here : ℕ → ℕ = λ v. if reach v then 0 else (if c.q == v then c.y else 0) in
     let later : ℕ → ℕ = λ v. if reach v then 0 else named cuts v in
     let at_q = one (reach c.q) (c.q == c.q) (eq-eqb c.q c.q refl) in
-    omega (arith, at_q, sum_to-one here n c.q h.0, unreached_named n reach cuts h.1, sum_to-add here later n, sum_to-le (λ v. here v + later v) (λ v. if reach v then 0 else named (c ∷ cuts) v) n (λ v in_range. both (reach v) (if c.q == v then c.y else 0) (named cuts v)))
+    omega (arith, at_q, sum_to-one here n c.q h.0, unreached_named n reach cuts h.1, sum_to-add here later n, sum_to_le (λ v. here v + later v) (λ v. if reach v then 0 else named (c ∷ cuts) v) n (λ v low high. both (reach v) (if c.q == v then c.y else 0) (named cuts v)))
   where
     one : (r same : Bool) → IsTrue same → cond r 0 c.y ≤ cond r 0 (cond same c.y 0)
     one true same e = omega arith
@@ -104,36 +98,14 @@ weak_duality_lem I B P t fits tree belongs =
     let links = links_pay I B P t fits tree belongs in
     let unreached = unreached_named I.n reach P.cuts (recursion_from_All _ P.cuts (All-weaker (CutFits I B) (λ c. IsVertex I.n c.q) (named_vertex I B) P.cuts fits.cuts)) in
     let here : ℕ → ℕ = λ v. if reach v then 0 else named P.cuts v in
-    let prizes = sum_to-le (λ v. here v + outside_pays I B v) (missed I (reached t)) I.n (λ v in_range. prize_pays I B P t v fits tree belongs in_range) in
+    let prizes = sum_to_le (λ v. here v + outside_pays I B v) (missed I (reached t)) I.n (λ v low high. prize_pays I B P t v fits tree belongs (low, high)) in
     omega (arith, links, unreached, prizes, sum_to-add here (outside_pays I B) I.n, total-split (λ c. reach c.q) (λ c. c.y) P.cuts)
-
--- a tree of the branch that reaches v belongs to the half with v inside
-pub belongs_inside : (B : Branch) (t : Tree) (v : ℕ) → Belongs B t → IsTrue (has (reached t) v) → Belongs (with_inside B v) t
-belongs_inside B t v belongs r = record {
-  inside = λ w member. at_cases w (or_cases (v == w) (has B.inside w) (rw (has-with_vertex B.inside v w) at member));
-  outside = belongs.outside;
-}
-  where
-    at_cases : (w : ℕ) → ((v == w) ≡ true) ⊎ (has B.inside w ≡ true) → IsTrue (has (reached t) w)
-    at_cases w (inl same) = rw (← eqb-true v w same) r
-    at_cases w (inr inside) = belongs.inside w inside
-
--- a tree of the branch that doesn't reach v belongs to the half with v outside
-pub belongs_outside : (B : Branch) (t : Tree) (v : ℕ) → Belongs B t → IsFalse (has (reached t) v) → Belongs (with_outside B v) t
-belongs_outside B t v belongs r = record {
-  inside = belongs.inside;
-  outside = λ w member. at_cases w (or_cases (v == w) (has B.outside w) (rw (has-with_vertex B.outside v w) at member));
-}
-  where
-    at_cases : (w : ℕ) → ((v == w) ≡ true) ⊎ (has B.outside w ≡ true) → IsFalse (has (reached t) w)
-    at_cases w (inl same) = rw (← eqb-true v w same) r
-    at_cases w (inr outside) = belongs.outside w outside
 
 -- what a proof tree proves of a branch is at most what each tree of the branch costs
 pub proof_tree_bounds_lem : ProofTreesBound
 proof_tree_bounds_lem I B x (close P) t closes tree belongs = omega (arith, closes.weighs, weak_duality_lem I B P t closes.fits tree belongs)
 proof_tree_bounds_lem I B x (split v inside outside) t proves tree belongs =
     elim (cases_Bool (has (reached t) v)) [
-      | inl r ↦ proof_tree_bounds_lem I (with_inside B v) x inside t proves.1 tree (belongs_inside B t v belongs r)
-      | inr r ↦ proof_tree_bounds_lem I (with_outside B v) x outside t proves.2 tree (belongs_outside B t v belongs r)
+      | inl r ↦ proof_tree_bounds_lem I (with_inside B v) x inside t proves.1 tree ((belongs_inside B t v).1 (belongs, r))
+      | inr r ↦ proof_tree_bounds_lem I (with_outside B v) x outside t proves.2 tree ((belongs_outside B t v).1 (belongs, r))
     ]

@@ -13,7 +13,7 @@ use Rattle.cut_packing.specs.declared.arcs.LoadedArc.{LoadedArc}
 use Rattle.cut_packing.specs.declared.cut.Cut.{Cut}
 use Rattle.cut_packing.specs.Packing.{load, named, CutFits, ArcsFit}
 use Rattle.cut_packing.specs.Loads.{arcs_into, IsLoaded, AreLoaded}
-use Rattle.cut_packing.proofs.Sums.{total_more}
+use Rattle.st_model.proofs.Costs.{total_more}
 use Rattle.cut_packing.proofs.Duality.{named_vertex}
 
 -- a branch with the same vertices outside, as far as there are vertices

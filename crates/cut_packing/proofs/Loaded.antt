@@ -16,7 +16,7 @@ use Rattle.cut_packing.specs.declared.arcs.LoadedArc.{LoadedArc}
 use Rattle.cut_packing.specs.declared.cut.Cut.{Cut}
 use Rattle.cut_packing.specs.Packing.{load}
 use Rattle.cut_packing.specs.Loads.{arcs_into, has_arc, with_arc, laid, IsLoaded, AreLoaded}
-use Rattle.cut_packing.proofs.Sums.{total-append}
+use Rattle.st_model.proofs.Sums.{total-append}
 use Rattle.st_model.specs.VertexSet.{AllApart}
 use Rattle.st_model.proofs.Distinct.{link-comm}
 use Rattle.st_model.proofs.Marked.{AllApart-at, has_more}

@@ -1,30 +1,10 @@
--- What a tree reaches, and the link between two vertices in either order.
-use Rattle.std.proofs.Common.{◌≡◌, ℕ, Bool, true, false, ◌&&◌, ◌||◌, List, [], ◌∷◌, inl, inr, refl}
-use Rattle.std.specs.Prelude.{◌==◌, nat_lt, if◌then◌else◌, IsTrue}
-use Rattle.std.specs.List.{AllByRecursion}
-use Rattle.std.proofs.lemmas.Bool.{or_right, or_cases, eqb-true, false≢true}
-use Rattle.st_model.specs.declared.link.Link.{Link}
+-- What a tree reaches.
+use Rattle.std.proofs.Common.{ℕ, List}
+use Rattle.std.specs.Prelude.{IsTrue}
 use Rattle.st_model.specs.Lists.{has}
-use Rattle.st_model.specs.Network.{joins, link}
 use Rattle.st_model.specs.Arborescence.{reached_from}
-use Rattle.st_model.specs.Branch.{with_vertex}
+use Rattle.st_model.proofs.ThinGrowth.{has-reached_from}
 
 -- what is reached before the arcs stays reached
 pub reached_from-more : (r : List ℕ) (arcs : List (ℕ × ℕ)) (x : ℕ) → IsTrue (has r x) → IsTrue (has (reached_from r arcs) x)
-reached_from-more r [] x h = h
-reached_from-more r (arc ∷ arcs) x h = reached_from-more (arc.1 ∷ r) arcs x (or_right (arc.1 == x) _ h)
-
--- the set with v holds v and what it held
-pub has-with_vertex : (xs : List ℕ) (v w : ℕ) → has (with_vertex xs v) w ≡ ((v == w) || has xs w)
-has-with_vertex [] v w = refl
-has-with_vertex (x ∷ xs) v w = step (nat_lt x v) (has-with_vertex xs v w)
-  where
-    swapped : (a b rest : Bool) → (a || (b || rest)) ≡ (b || (a || rest))
-    swapped true true rest = refl
-    swapped true false rest = refl
-    swapped false true rest = refl
-    swapped false false rest = refl
-
-    step : (b : Bool) → has (with_vertex xs v) w ≡ ((v == w) || has xs w) → has (if b then x ∷ with_vertex xs v else v ∷ x ∷ xs) w ≡ ((v == w) || ((x == w) || has xs w))
-    step true before = rw before (swapped (x == w) (v == w) (has xs w))
-    step false before = refl
+reached_from-more = has-reached_from

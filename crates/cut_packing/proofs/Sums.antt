@@ -1,9 +1,8 @@
 -- Sums over lists and over vertices.
-use Rattle.std.proofs.Common.{◌≡◌, ◌≢◌, ℕ, zero, suc, ◌+◌, ◌*◌, ◌≤◌, ◌<◌, Bool, true, false, cond, ◌||◌, List, [], ◌∷◌, ◌++◌, length, take, get_or, ◌⊎◌, inl, inr, refl, sym, arith}
+use Rattle.std.proofs.Common.{◌≡◌, ◌≢◌, ℕ, zero, suc, ◌+◌, ◌*◌, ◌≤◌, ◌<◌, Bool, true, false, cond, ◌||◌, List, [], ◌∷◌, length, ◌⊎◌, inl, inr, refl, sym, ◌∙◌, arith}
 use Rattle.std.specs.Prelude.{◌==◌, if◌then◌else◌, IsTrue, IsFalse, AllPairs}
 use Rattle.std.specs.List.{AllByRecursion}
 use Rattle.std.proofs.lemmas.Bool.{cases_lt, ne_eqb, eqb-true, eq-eqb, cond-true, cond-false, false≢true}
-use Rattle.std.proofs.lemmas.List.{take_more}
 use Rattle.std.proofs.lemmas.List.Elements.{recursion_from_All}
 use Rattle.std.proofs.lemmas.List.Folds.{list_any_none}
 use Rattle.std.proofs.lemmas.List.Kept.{AllPairs-from_increasing}
@@ -11,6 +10,9 @@ use Rattle.st_model.specs.Lists.{has, total, sum_to}
 use Rattle.st_model.specs.Network.{IsVertex}
 use Rattle.st_model.specs.Branch.{IsVertexSet}
 use Rattle.st_model.specs.VertexSet.{AllApart}
+use Rattle.st_model.proofs.Sums.{sum_to_same, sum_to_le, sum_to-add, sum_to_none}
+pub use Rattle.st_model.proofs.Sums.{total-append}
+pub use Rattle.st_model.proofs.Costs.{total_more}
 
 -- a sum of sums is the sum of the sums
 pub total-add : {X : Type 0} (f g : X → ℕ) (xs : List X) → total (λ x. f x + g x) xs ≡ total f xs + total g xs
@@ -26,17 +28,6 @@ total-split test f (x ∷ xs) = step (test x) _ _ _ (total-split test f xs)
     step true left right whole h = omega arith
     step false left right whole h = omega arith
 
-pub sum_to-add : (f g : ℕ → ℕ) (n : ℕ) → sum_to (λ v. f v + g v) n ≡ sum_to f n + sum_to g n
-sum_to-add f g zero = refl
-sum_to-add f g (suc n) = omega (arith, sum_to-add f g n)
-
--- a sum is at most another where each of its terms is
-pub sum_to-le : (f g : ℕ → ℕ) (n : ℕ) → ((v : ℕ) → IsVertex n v → f v ≤ g v) → sum_to f n ≤ sum_to g n
-sum_to-le f g zero h = omega arith
-sum_to-le f g (suc n) h =
-    let before = sum_to-le f g n (λ v in_range. h v (in_range.0, omega (arith, in_range.1))) in
-    omega (arith, before, h (suc n) (omega arith, omega arith))
-
 -- one term alone is at most the sum
 pub sum_to-one : (f : ℕ → ℕ) (n q : ℕ) → IsVertex n q → f q ≤ sum_to f n
 sum_to-one f zero q h = absurd (omega (arith, h.0, h.1))
@@ -46,15 +37,6 @@ sum_to-one f (suc n) q h = step (cases_lt q (suc n)) (λ below. sum_to-one f n q
     step (inl below) before = omega (arith, before below)
     step (inr above) before = let last : q ≡ suc n = omega (arith, h.1) in rw last (omega arith)
 
-pub total-append : {X : Type 0} (f : X → ℕ) (xs ys : List X) → total f (xs ++ ys) ≡ total f xs + total f ys
-total-append f [] ys = omega arith
-total-append f (x ∷ xs) ys = omega (arith, total-append f xs ys)
-
--- the sum of one element more
-pub total_more : {X : Type 0} (f : X → ℕ) (xs : List X) (i : ℕ) (d : X) → i < length xs → total f (take (i + 1) xs) ≡ total f (take i xs) + f (get_or xs i d)
-total_more f xs i d below =
-    rw (take_more xs i d below, total-append f (take i xs) (get_or xs i d ∷ [])) (omega arith)
-
 -- the sum over a list where each element is at most z
 pub total-bound : {X : Type 0} (f : X → ℕ) (z : ℕ) (xs : List X) → AllByRecursion (λ x. f x ≤ z) xs → total f xs ≤ length xs * z
 total-bound f z [] h = omega arith
@@ -62,10 +44,7 @@ total-bound f z (x ∷ xs) h = omega (arith, h.0, total-bound f z xs h.1)
 
 -- the sum of terms that are 0
 sum_to-none : (f : ℕ → ℕ) (n : ℕ) → ((v : ℕ) → IsVertex n v → f v ≡ 0) → sum_to f n ≡ 0
-sum_to-none f zero none = refl
-sum_to-none f (suc n) none =
-    let before = sum_to-none f n (λ v in_range. none v (in_range.0, omega (arith, in_range.1))) in
-    omega (arith, before, none (suc n) (omega arith, omega arith))
+sum_to-none f n none = sum_to_same f (λ _. 0) n (λ v low high. none v (low, high)) ∙ sum_to_none n
 
 -- the sum of terms that are 0 but at q
 pub sum_to-at : (f : ℕ → ℕ) (n q : ℕ) → IsVertex n q → ((v : ℕ) → IsVertex n v → v ≢ q → f v ≡ 0) → sum_to f n ≡ f q
@@ -86,14 +65,14 @@ AllApart-from_increasing (x ∷ xs) h =
 
 -- where nothing stands twice and all is in range, a sum over a list is the sum over the vertices that it has
 total-members : (f : ℕ → ℕ) (n : ℕ) (xs : List ℕ) → AllByRecursion (IsVertex n) xs → AllApart xs → total f xs ≡ sum_to (λ v. if has xs v then f v else 0) n
-total-members f n [] h apart = sym (sum_to-none (λ v. 0) n (λ v in_range. refl))
+total-members f n [] h apart = sym (sum_to_none n)
 total-members f n (x ∷ xs) h apart =
     let first : ℕ → ℕ = λ v. if x == v then f v else 0 in
     let rest : ℕ → ℕ = λ v. if has xs v then f v else 0 in
     let whole : ℕ → ℕ = λ v. if (x == v) || has xs v then f v else 0 in
     let at_x = sum_to-at first n x h.0 (λ v in_range other. cond-false (x == v) (f v) 0 (ne_eqb x v (λ same. other (sym same)))) in
-    let less = sum_to-le whole (λ v. first v + rest v) n (λ v in_range. below (x == v) (has xs v) (f v)) in
-    let more = sum_to-le (λ v. first v + rest v) whole n (λ v in_range. above (x == v) (has xs v) (f v) (λ same. rw (← eqb-true x v same) apart.0)) in
+    let less = sum_to_le whole (λ v. first v + rest v) n (λ v low high. below (x == v) (has xs v) (f v)) in
+    let more = sum_to_le (λ v. first v + rest v) whole n (λ v low high. above (x == v) (has xs v) (f v) (λ same. rw (← eqb-true x v same) apart.0)) in
     omega (arith, total-members f n xs h.1 apart.1, at_x, cond-true (x == x) (f x) 0 (eq-eqb x x refl), sum_to-add first rest n, less, more)
   where
     below : (a b : Bool) (y : ℕ) → cond (a || b) y 0 ≤ cond a y 0 + cond b y 0

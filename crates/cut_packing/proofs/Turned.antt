@@ -6,6 +6,7 @@ use Rattle.std.proofs.lemmas.Bool.{or_right, or_cases, eqb-true, false≢true, b
 use Rattle.st_model.specs.Lists.{has}
 use Rattle.st_model.specs.Network.{Network}
 use Rattle.st_model.specs.Arborescence.{reached_from, Grows}
+use Rattle.st_model.proofs.Members.{has-one}
 
 -- where the way to r begins, before the arcs
 abbrev pub top : List (ℕ × ℕ) → ℕ → ℕ
@@ -77,8 +78,5 @@ entered I S s r q arcs g root out reached member =
       | inr found ↦ top_enters S r out arcs (from_start found.0 found.1 found.2 (top_reached I r (s ∷ []) arcs g root))
     ]
   where
-    alone : (x : ℕ) → IsTrue ((s == x) || false) → s ≡ x
-    alone x e = elim (or_cases (s == x) false e) [ inl same ↦ eqb-true s x same | inr never ↦ absurd (false≢true never) ]
-
     from_start : (x : ℕ) → IsTrue ((s == x) || false) → IsTrue (has S x) → IsTrue ((s == top arcs r) || false) → IsTrue (has S (top arcs r))
-    from_start x first in_set way = rw (← alone (top arcs r) way, alone x first) in_set
+    from_start x first in_set way = rw (← has-one s (top arcs r) way, has-one s x first) in_set

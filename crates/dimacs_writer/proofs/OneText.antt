@@ -13,7 +13,7 @@ use Rattle.st_model.specs.declared.tree.Tree.{Tree}
 use Rattle.st_model.specs.Lists.{has}
 use Rattle.dimacs_writer.specs.Laws.{HaveSameSets, TreeHasOneText}
 use Rattle.dimacs_writer.specs.Solution.{AreEdges, AreVertices, edge_order, solution_text_of}
-use Rattle.dimacs_writer.proofs.Members.{Contains-from_has, has-from_Contains}
+use Rattle.st_model.proofs.Members.{Contains-from_has, has-from_Contains}
 
 split : {K : Type 0} (y : K) (ys : List K) (z : K) → Contains (y ∷ ys) z → (y ≡ z) ⊎ Contains ys z
 split y ys z (zero, within, at) = inl at

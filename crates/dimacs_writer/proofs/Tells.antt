@@ -1,5 +1,5 @@
 -- A text tells all that stands in it.
-use Rattle.std.proofs.Common.{◌≡◌, ℕ, ◌^◌, ◌<◌, ◌==◌, Bool, true, false, cond, eqb, ◌||◌, List, [], ◌∷◌, ◌++◌, length, map, get_or, drop, All, Contains, codes, refl, sym, ap, ◌∙◌, append_assoc, arith}
+use Rattle.std.proofs.Common.{◌≡◌, ℕ, ◌^◌, ◌<◌, ◌==◌, Bool, true, false, cond, eqb, List, [], ◌∷◌, ◌++◌, length, map, get_or, drop, All, Contains, codes, refl, sym, ap, subst, ◌∙◌, append_assoc, arith}
 use Rattle.std.specs.List.{flat_map, AllByRecursion}
 use Rattle.std.specs.Fmt.{decimal}
 use Rattle.std.proofs.lemmas.Bool.Decides.{nat_tests}
@@ -7,12 +7,12 @@ use Rattle.std.proofs.lemmas.Fmt.{decimal_injective}
 use Rattle.std.proofs.lemmas.List.{append_cancel_right}
 use Rattle.std.proofs.lemmas.List.Elements.{All-contains, All-contains_itself, All-map, All-weaker, recursion_from_All}
 use Rattle.st_model.specs.declared.tree.Tree.{Tree}
-use Rattle.st_model.specs.Arborescence.{reached_from}
 use Rattle.st_model.specs.Lists.{has}
 use Rattle.st_model.specs.Regrown.{unordered}
+use Rattle.st_model.proofs.Members.{has-one, has-from_Contains}
+use Rattle.st_model.proofs.Reaching.{reached_in}
 use Rattle.dimacs_writer.specs.Laws.{Solution, IsSmallTree, TextTellsSolution, TextTellsTree, text_of}
 use Rattle.dimacs_writer.specs.Solution.{AreEdges, AreVertices, IsSolutionText, ended, name_byte, number_line, vertex_line, edge_line, header, comment_lines, solutions_lines, run_lines, solution_text_of}
-use Rattle.dimacs_writer.proofs.Members.{has-from_Contains}
 use Rattle.dimacs_writer.proofs.Cut.{lacks, lacks-append, lacks-decimal, cut_same, are_whole, lines_same}
 
 abbrev IsSmall : ℕ → Type 0
@@ -137,19 +137,8 @@ tells s t h k e =
 
 -- ---- trees
 
-small_reached : (r : List ℕ) (arcs : List (ℕ × ℕ)) (v : ℕ) → AllByRecursion HasSmallEnds arcs → ((w : ℕ) → has r w ≡ true → w < 2 ^ 64) → has (reached_from r arcs) v ≡ true → v < 2 ^ 64
-small_reached r [] v small first there = first v there
-small_reached r (arc ∷ arcs) v small first there = small_reached (arc.1 ∷ r) arcs v small.1 (λ w h. by_case w (eqb arc.1 w) refl h) there
-  where
-    by_case : (w : ℕ) (b : Bool) → eqb arc.1 w ≡ b → b || has r w ≡ true → w < 2 ^ 64
-    by_case w true is h = let same : arc.1 ≡ w = grind (arith, nat_tests) in omega (arith, small.0.1)
-    by_case w false is h = first w h
-
 small_vertices : (t : Tree) (vertices : List ℕ) → IsSmallTree t → AreVertices t vertices → All IsSmall vertices
-small_vertices t vertices small are = All-weaker (Contains vertices) IsSmall (λ v there. small_reached (t.start ∷ []) t.arcs v (recursion_from_All HasSmallEnds t.arcs small.arcs) alone (sym (are.same v) ∙ has-from_Contains vertices v there)) vertices (All-contains_itself vertices)
-  where
-    alone : (w : ℕ) → has (t.start ∷ []) w ≡ true → w < 2 ^ 64
-    alone w h = let same : t.start ≡ w = grind (arith, nat_tests) in omega (arith, small.start)
+small_vertices t vertices small are = All-weaker (Contains vertices) IsSmall (λ v there. reached_in IsSmall (t.start ∷ []) t.arcs (λ w h. subst IsSmall (has-one t.start w h) small.start) (recursion_from_All _ t.arcs (All-weaker HasSmallEnds (λ arc. IsSmall arc.1) (λ arc ends. ends.1) t.arcs small.arcs)) v (sym (are.same v) ∙ has-from_Contains vertices v there)) vertices (All-contains_itself vertices)
 
 small_edges : (t : Tree) (edges : List (ℕ × ℕ)) → IsSmallTree t → AreEdges t edges → All HasSmallEnds edges
 small_edges t edges small are = All-weaker (Contains edges) HasSmallEnds (λ edge there. All-contains HasSmallEnds (map unordered t.arcs) edge ends ((are.same edge).0 there)) edges (All-contains_itself edges)

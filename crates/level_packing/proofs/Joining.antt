@@ -9,11 +9,13 @@ use Rattle.st_model.specs.declared.link.Link.{Link}
 use Rattle.st_model.specs.Lists.{has, total, sum_to}
 use Rattle.st_model.specs.Network.{Network, IsVertex, joins, link}
 use Rattle.st_model.specs.Arborescence.{arc_cost}
+use Rattle.std.proofs.Math.Bool.{or-true}
+use Rattle.st_model.proofs.Members.{has-append}
 use Rattle.st_model.proofs.Distinct.{joins-ends}
 use Rattle.st_model.proofs.Sums.{total-append, sum_to_same, sum_to-add, sum_to_one}
 use Rattle.cut_packing.specs.Packing.{load}
 use Rattle.level_packing.specs.Forest.{Groups, IsPresent, IsPresentLink, IsJoined, IsForest, AreClusters, AreLevel, AreToCome, IsToCome, cluster_of, members_of, formed_at, level}
-use Rattle.level_packing.proofs.Members.{has-append, any_first, any_with}
+use Rattle.level_packing.proofs.Members.{any_first, any_with}
 
 -- what becomes of the level of the cluster that is kept, of the one that is gone, and of any other
 level_kept : (keep gone r s c f g : ℕ) → keep ≢ gone → s ≡ (if r == gone then keep else r) → (keep ≢ r → f ≡ c) → g ≡ c → cond (eqb keep r) 0 f ≡ cond (eqb keep s) 0 g + cond (eqb (if r == gone then keep else gone) keep) c 0
@@ -142,11 +144,7 @@ module _ (I : Network) (B : Branch) (root : ℕ) (l : Link) (rest : List Link) (
       kept_or_gone (inr there) = let was = (forest.clusters.members gone v gone_present gone_own).0 there in (was.0, at_gone v was.0 was.1)
 
       in_either : IsPresent I B v → cluster_of G v ≡ keep → (cluster_of F v ≡ gone) ⊎ (cluster_of F v ≢ gone) → has (members_of F keep) v || has (members_of F gone) v ≡ true
-      in_either pv at (inl is) = rw ((forest.clusters.members gone v gone_present gone_own).1 (pv, is)) (second (has (members_of F keep) v))
-        where
-          second : (b : Bool) → b || true ≡ true
-          second true = refl
-          second false = refl
+      in_either pv at (inl is) = rw ((forest.clusters.members gone v gone_present gone_own).1 (pv, is)) (or-true (has (members_of F keep) v))
       in_either pv at (inr off) = rw ((forest.clusters.members keep v keep_present keep_own).1 (pv, sym (at_other v pv off) ∙ at)) refl
 
   connected_after : (S : ℕ → Bool) → All (λ pair. S pair.0 ≡ S pair.1) G.chosen → (u v : ℕ) → IsPresent I B u → IsPresent I B v → cluster_of G u ≡ cluster_of G v → S u ≡ S v

@@ -1,49 +1,28 @@
 -- What is accepted holds: a proved bound bounds every tree, and no tree gets past a wall.
-use Rattle.std.proofs.Common.{◌≡◌, ℕ, Bool, false, List, [], ◌∷◌, inl, inr, sym, ap, subst, ◌∙◌}
-use Rattle.std.specs.Prelude.{◌==◌, IsTrue, IsSome}
-use Rattle.std.proofs.lemmas.Bool.{or_cases, eqb-true, both_ways}
+use Rattle.std.proofs.Common.{◌≡◌, ℕ, List, [], ◌∷◌, sym, ap, subst, ◌∙◌}
+use Rattle.std.proofs.lemmas.Bool.{both_ways}
 use Rattle.st_model.specs.declared.tree.Tree.{Tree}
 use Rattle.st_model.specs.Lists.{has}
-use Rattle.st_model.specs.Network.{Network, link}
-use Rattle.st_model.specs.Arborescence.{reached_from, Grows, IsTree, IsBound}
-use Rattle.st_model.specs.Branch.{Belongs}
+use Rattle.st_model.specs.Network.{Network}
+use Rattle.st_model.specs.Arborescence.{IsTree, IsBound}
+use Rattle.st_model.proofs.Members.{has-one}
+use Rattle.st_model.proofs.Reaching.{one_side}
 use Rattle.cut_packing.proofs.Duality.{proof_tree_bounds_lem}
 use Rattle.log_format.specs.declared.log.Claim.{Claim}
 use Rattle.log_format.specs.declared.log.Claim.TheVariants.{Found, NoTree}
 use Rattle.log_format.specs.declared.proof_line.ProofLine.{ProofLine}
 use Rattle.st_model.specs.Wall.{IsWall}
 use Rattle.log_format.specs.Accepts.{all_trees, AcceptsFound, AcceptsClaim, Holds, AcceptedHolds}
-
--- every tree belongs to the branch of all
-belongs : (t : Tree) → Belongs all_trees t
-belongs t = record { inside = λ v h. absurd cc; outside = λ v h. absurd cc }
+use Rattle.log_format.proofs.AllTrees.{belongs_to_all}
 
 -- a proved bound bounds every tree
 bounds : (I : Network) (primal dual : ℕ) (tree : Tree) (proof : List ProofLine) → AcceptsFound I primal dual tree proof → IsBound I dual
-bounds I primal dual tree proof accepts t is_tree = proof_tree_bounds_lem I all_trees dual accepts.is_proved.0 t accepts.is_proved.2 is_tree (belongs t)
-
--- what is reached stays on one side of a wall
-one_side : (I : Network) (wall : List ℕ) (side : Bool) → ((u v : ℕ) → IsSome (link I.links u v) → has wall u ≡ has wall v) → (r : List ℕ) (arcs : List (ℕ × ℕ)) → Grows I r arcs → ((v : ℕ) → IsTrue (has r v) → has wall v ≡ side)
-    → (v : ℕ) → IsTrue (has (reached_from r arcs) v) → has wall v ≡ side
-one_side I wall side uncrossed r [] grows before v h = before v h
-one_side I wall side uncrossed r ((u, w) ∷ arcs) grows before v h =
-    let there : has wall w ≡ side = sym (uncrossed u w grows.0) ∙ before u grows.1 in
-    one_side I wall side uncrossed (w ∷ r) arcs grows.3 (λ x in_r. elim (or_cases (w == x) (has r x) in_r) [
-      | inl same ↦ subst (λ (y : ℕ). has wall y ≡ side) (eqb-true w x same) there
-      | inr old ↦ before x old
-    ]) v h
-
--- the start is the first that is reached
-at_start : (I : Network) (wall : List ℕ) (start v : ℕ) → IsTrue (has (start ∷ []) v) → has wall v ≡ has wall start
-at_start I wall start v h = elim (or_cases (start == v) false h) [
-  | inl same ↦ ap (has wall) (sym (eqb-true start v same))
-  | inr none ↦ absurd cc
-]
+bounds I primal dual tree proof accepts t is_tree = proof_tree_bounds_lem I all_trees dual accepts.is_proved.0 t accepts.is_proved.2 is_tree (belongs_to_all t)
 
 -- no tree gets past a wall
 no_tree : (I : Network) (wall : List ℕ) → IsWall I wall → (t : Tree) → IsTree I t → ⊥
 no_tree I wall is_wall t is_tree =
-    let side = one_side I wall (has wall t.start) is_wall.uncrossed (t.start ∷ []) t.arcs is_tree.arborescence.grows (at_start I wall t.start) in
+    let side = one_side I (has wall) (has wall t.start) (t.start ∷ []) t.arcs (λ u v u_reached v_reached linked. is_wall.uncrossed u v linked) is_tree.arborescence.grows (λ v there. ap (has wall) (sym (has-one t.start v there))) in
     let inner = is_wall.inside in
     let outer = is_wall.outside in
     let a = side inner.0 (is_tree.required inner.0 inner.1 inner.2) in

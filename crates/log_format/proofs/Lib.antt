@@ -9,6 +9,7 @@ pub mod Finishing
 pub mod Lines
 pub mod WholeLines
 pub mod Texts
+pub mod AllTrees
 pub mod Accepting
 pub mod Refusing
 pub mod Rejecting

@@ -1,18 +1,19 @@
 -- What holds at the start of a search, and at its end.
 use Rattle.std.proofs.Common.{◌≡◌, ℕ, ◌+◌, ◌^◌, ◌<◌, ◌≤◌, ◌⊎◌, inl, inr, List, [], ◌∷◌, Option, Some, None, Result, Ok, Err, length, refl, sym, ap, subst, ◌∙◌, arith}
-use Rattle.std.specs.Prelude.{IfSome, IfOk, All}
+use Rattle.std.specs.Prelude.{IfSome, IfOk}
 use Rattle.std.proofs.lemmas.Bool.{false≢true}
 use Rattle.std.proofs.lemmas.List.Elements.{All-cons, All-nil}
 use Rattle.st_model.specs.declared.branch.Branch.{Branch}
 use Rattle.st_model.specs.declared.tree.Tree.{Tree}
 use Rattle.st_model.specs.Lists.{sum_to}
-use Rattle.st_model.specs.Network.{Network, IsInstance, IsVertex, link, pays}
+use Rattle.st_model.specs.Network.{Network, IsInstance, link, pays}
 use Rattle.st_model.specs.Arborescence.{IsTree, cost}
 use Rattle.cut_packing.specs.declared.packing.Packing.{Packing}
 use Rattle.cut_packing.specs.Packing.{CutFits}
 use Rattle.cut_packing.specs.ProofTree.{ProofTree, Proves}
 use Rattle.log_format.specs.declared.proof_line.ProofLine.{ProofLine}
 use Rattle.log_format.specs.Accepts.{AcceptsFound, all_trees}
+use Rattle.log_format.proofs.AllTrees.{all_trees-branch}
 use Rattle.log_format.specs.Text.{IsWritableCut, IsWritableLine, IsWritableFound}
 use Rattle.split_search.specs.declared.node.Node.{Node}
 use Rattle.split_search.specs.declared.searched.Searched.{Searched}
@@ -30,20 +31,13 @@ use Rattle.split_search.proofs.Writing.{cost_fits, writable_tree}
 abbrev first_node : Node
 first_node = record { branch = all_trees; packing = record { root = None; cuts = [] } }
 
-no_vertices : (n : ℕ) → All (IsVertex n) []
-no_vertices n = All-nil (IsVertex n)
-
 none_borne : (price : Option ℕ) → IfSome price (λ p. 0 ≤ p)
 none_borne None = tt
 none_borne (Some p) = omega arith
 
 first_is_node : (I : Network) → IsNode I first_node
 first_is_node I = record {
-  branch = record {
-    inside = record { ascending = λ k lt. absurd (omega arith); in_range = no_vertices I.n };
-    outside = record { ascending = λ k lt. absurd (omega arith); in_range = no_vertices I.n };
-    apart = λ v inside. absurd (false≢true inside);
-  };
+  branch = all_trees-branch I;
   required = λ v outside. absurd (false≢true outside);
   fits = record {
     root = refl;

@@ -1,4 +1,3 @@
-pub mod Sets
 pub mod Packings
 pub mod Halving
 pub mod Turns

@@ -1,27 +1,22 @@
 -- A packing that fits a branch fits both halves, without the cuts that name the vertex in the one, and is no lighter there.
-use Rattle.std.proofs.Common.{◌≡◌, ℕ, ◌+◌, ◌≤◌, Bool, true, false, cond, eqb, not, ◌&&◌, ◌||◌, List, [], ◌∷◌, Option, Some, None, refl, sym, ap, ◌∙◌, arith}
+use Rattle.std.proofs.Common.{◌≡◌, ℕ, ◌+◌, ◌≤◌, Bool, true, false, cond, eqb, not, ◌||◌, List, [], ◌∷◌, Option, Some, None, refl, sym, ap, ◌∙◌, arith}
 use Rattle.std.specs.Prelude.{IsTrue, IsFalse, IfSome, MatchOption, filter}
 use Rattle.std.specs.List.{AllByRecursion}
-use Rattle.std.proofs.lemmas.Bool.{both_ways, false≢true, false_from_ne_true}
+use Rattle.std.proofs.lemmas.Bool.{both_ways, or_from, false≢true, false_from_ne_true}
 use Rattle.std.proofs.lemmas.Bool.Decides.{nat_tests}
 use Rattle.std.proofs.lemmas.List.Elements.{recursion_from_All, All-from_recursion, All-filter, All-weaker}
 use Rattle.st_model.specs.declared.branch.Branch.{Branch}
 use Rattle.st_model.specs.Lists.{has, total, sum_to}
 use Rattle.st_model.specs.Network.{Network, IsVertex, link, is_required, pays}
 use Rattle.st_model.specs.Branch.{is_present, is_certain, with_inside, with_outside}
+use Rattle.st_model.proofs.Branches.{undecided_parts}
+use Rattle.st_model.proofs.Halves.{has-with_vertex}
 use Rattle.st_model.proofs.Sums.{sum_to_same, sum_to-add, sum_to_one, total_filter_le}
 use Rattle.cut_packing.specs.declared.cut.Cut.{Cut}
 use Rattle.cut_packing.specs.declared.packing.Packing.{Packing}
 use Rattle.cut_packing.specs.Packing.{load, named, IsRoot, CutFits, Fits, outside_pays, weight}
 use Rattle.cut_packing.specs.ProofTree.{IsSplit}
-use Rattle.cut_packing.proofs.Members.{has-with_vertex}
 use Rattle.split_search.specs.Node.{without}
-
--- an undecided vertex is neither inside nor outside
-pub undecided_parts : (inside outside : Bool) → (not inside && not outside) ≡ true → (inside ≡ false) × (outside ≡ false)
-undecided_parts true outside h = absurd (false≢true h)
-undecided_parts false true h = absurd (false≢true h)
-undecided_parts false false h = (refl, refl)
 
 -- where one more vertex is inside, what was certain still is
 certain_inside : (I : Network) (B : Branch) (v w : ℕ) → IsTrue (is_certain I B w) → IsTrue (is_certain I (with_inside B v) w)
@@ -120,9 +115,6 @@ inside_weighs I B P v = omega arith
 -- the half with v outside gains the prize, and loses at most as much
 pub outside_weighs : (I : Network) (B : Branch) (P : Packing) (v : ℕ) → Fits I B P → IsSplit I B v → weight I B P ≤ weight I (with_outside B v) (without P v)
 outside_weighs I B P v fits is_split =
-    let parts = undecided_parts (has B.inside v) (has B.outside v) is_split.undecided in
-    let uncertain : IsFalse (is_certain I B v) = neither (is_required I v) (has B.inside v) is_split.free parts.0 in
+    let parts = undecided_parts B v is_split.undecided in
+    let uncertain : IsFalse (is_certain I B v) = or_from (is_required I v) (has B.inside v) is_split.free parts.0 in
     omega (arith, outside_pays_more I B v is_split.vertex parts.1, named_and_kept v P.cuts, fits.prizes v is_split.vertex uncertain)
-  where
-    neither : (r i : Bool) → r ≡ false → i ≡ false → (r || i) ≡ false
-    neither r i no_r no_i = rw no_r no_i

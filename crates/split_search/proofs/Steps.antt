@@ -1,9 +1,9 @@
 -- Each step of a search keeps what holds between two nodes.
 use Rattle.std.proofs.Common.{◌≡◌, ℕ, ◌+◌, ◌≤◌, Bool, true, false, cond, not, ltb, List, [], ◌∷◌, ◌++◌, length, min, Option, Some, None, append-nil, refl, sym, ap, subst, ◌∙◌, length-append, arith}
-use Rattle.std.specs.Prelude.{All, IfSome}
+use Rattle.std.specs.Prelude.{IfSome}
 use Rattle.std.proofs.lemmas.Bool.{and_parts, false≢true}
 use Rattle.std.proofs.lemmas.Bool.Decides.{nat_tests}
-use Rattle.std.proofs.lemmas.List.Elements.{All-append, All-cons, All-nil, All-head, All-tail}
+use Rattle.std.proofs.lemmas.List.Elements.{All-append, All-cons, All-nil, All-push, All-pop}
 use Rattle.st_model.specs.declared.branch.Branch.{Branch}
 use Rattle.st_model.specs.declared.tree.Tree.{Tree}
 use Rattle.st_model.specs.Network.{Network, is_required}
@@ -23,17 +23,6 @@ use Rattle.split_search.proofs.Halving.{inside_node, outside_node}
 use Rattle.split_search.proofs.Turns.{split_turns, close_turns}
 use Rattle.split_search.proofs.Continuing.{light_of, continues_closed, continues_split}
 use Rattle.split_search.proofs.Writing.{any_vertex}
-
-all_front : {X : Type 0} (P : X → Type 0) (xs : List X) (x : X) → All P (xs ++ x ∷ []) → All P xs
-all_front P [] x h = All-nil P
-all_front P (y ∷ xs) x h = All-cons P y xs (All-head P y (xs ++ x ∷ []) h) (all_front P xs x (All-tail P y (xs ++ x ∷ []) h))
-
-all_last : {X : Type 0} (P : X → Type 0) (xs : List X) (x : X) → All P (xs ++ x ∷ []) → P x
-all_last P [] x h = All-head P x [] h
-all_last P (y ∷ xs) x h = all_last P xs x (All-tail P y (xs ++ x ∷ []) h)
-
-all_push : {X : Type 0} (P : X → Type 0) (xs : List X) (x : X) → All P xs → P x → All P (xs ++ x ∷ [])
-all_push P xs x h last = All-append P xs (x ∷ []) h (All-cons P x [] last (All-nil P))
 
 -- a close of at least this weight isn't light
 not_light : (weighs primal : ℕ) → primal ≤ weighs → light_of weighs primal ≡ []
@@ -107,11 +96,11 @@ close_keeps I lines Ns N best least P (closes, writable) u = record {
   tree = u.tree;
   is_cost = u.is_cost;
   cheap = u.cheap;
-  nodes = all_front (IsNode I) Ns N u.nodes;
+  nodes = (All-pop (IsNode I) (Ns ++ N ∷ []) Ns (Some N) refl u.nodes).0;
   continues = λ primal below. subst (λ (light : List ℕ). Continues I primal primal light (lines ++ Close P ∷ []) Ns) (not_light (weight I N.branch P) primal (omega (arith, below, closes.weighs))) (continues_closed I primal primal [] lines Ns N P primal closes.fits (omega arith) (omega (arith, below, closes.weighs)) (u.continues primal below));
   few_waiting = omega (arith, u.few_waiting, length-append Ns (N ∷ []), length-append lines (Close P ∷ []));
   turns_left = omega (arith, u.turns_left, close_turns I Ns N, length-append lines (Close P ∷ []));
-  written = all_push IsWritableLine lines (Close P) u.written writable;
+  written = All-push IsWritableLine lines (Close P) u.written writable;
 }
 
 pub split_keeps : (I : Network) (lines : List ProofLine) (Ns : List Node) (N M : Node) (best : Tree) (least v : ℕ) → (M.branch ≡ N.branch) × IsNoLighter I N M × IsChoice I N.branch v × IsBounded I M least
@@ -126,19 +115,20 @@ split_keeps I lines Ns N M best least v h u =
       tree = u.tree;
       is_cost = u.is_cost;
       cheap = u.cheap;
-      nodes = All-append (IsNode I) Ns (outside_half M v ∷ inside_half M v ∷ []) (all_front (IsNode I) Ns N u.nodes)
+      nodes = All-append (IsNode I) Ns (outside_half M v ∷ inside_half M v ∷ []) (All-pop (IsNode I) (Ns ++ N ∷ []) Ns (Some N) refl u.nodes).0
           (All-cons (IsNode I) (outside_half M v) (inside_half M v ∷ []) (outside_node I M v h.1.node of_half) (All-cons (IsNode I) (inside_half M v) [] (inside_node I M v h.1.node of_half) (All-nil (IsNode I))));
       continues = λ primal below. continues_split I primal primal [] lines Ns N (inside_half M v) (outside_half M v) v inner outer is_split (u.continues primal below);
       few_waiting = omega (arith, u.few_waiting, length-append Ns (N ∷ []), length-append Ns (outside_half M v ∷ inside_half M v ∷ []), length-append lines (Split v ∷ []));
       turns_left = omega (arith, u.turns_left, split_turns I Ns N (inside_half M v) (outside_half M v) v inner outer h.2.vertex h.2.free, length-append lines (Split v ∷ []));
-      written = all_push IsWritableLine lines (Split v) u.written (any_vertex I v u.instance h.2.vertex);
+      written = All-push IsWritableLine lines (Split v) u.written (any_vertex I v u.instance h.2.vertex);
     }
 
 -- a node that is left closes by its own packing
 pub left_closes : (I : Network) (least : ℕ) (first : List ProofLine) (left : List Node) (lines : List ProofLine) (Ns : List Node) (N : Node) (dual : ℕ) → IsClosing I least first left lines (Ns ++ N ∷ []) dual
     → IsClosing I least first left (lines ++ Close N.packing ∷ []) Ns (min dual (weight I N.branch N.packing))
 left_closes I least first left lines Ns N dual k =
-    let node = all_last (IsNode I) Ns N k.nodes in
+    let nodes = All-pop (IsNode I) (Ns ++ N ∷ []) Ns (Some N) refl k.nodes in
+    let node = nodes.1 in
     let weighs = weight I N.branch N.packing in
     let lower : min dual weighs ≤ dual = omega arith in
     let lighter : min dual weighs ≤ weighs = omega arith in
@@ -149,9 +139,9 @@ left_closes I least first left lines Ns N dual k =
       light = k.light ++ light_of weighs least;
       few = omega (arith, k.few, few_light weighs least, length-append k.light (light_of weighs least));
       low = ap (λ d. min d weighs) k.low ∙ lowest_with least weighs k.light;
-      nodes = all_front (IsNode I) Ns N k.nodes;
+      nodes = nodes.0;
       continues = continues_closed I dual least k.light lines Ns N N.packing (min dual weighs) node.fits lower lighter k.continues;
-      written = all_push IsWritableLine lines (Close N.packing) k.written node.writable;
+      written = All-push IsWritableLine lines (Close N.packing) k.written node.writable;
     }
 
 -- where nothing is closed yet

@@ -2,13 +2,14 @@
 use Rattle.std.proofs.Common.{◌≡◌, ℕ, ◌+◌, ◌<◌, ◌≤◌, ◌==◌, Bool, true, false, not, ◌||◌, ◌⊎◌, List, [], ◌∷◌, ◌++◌, Option, Some, None, inl, inr, refl, sym, ap, subst, ◌∙◌, arith}
 use Rattle.std.specs.Prelude.{All, IsTrue, IsFalse, is_some}
 use Rattle.std.proofs.Math.Bool.{or_comm}
-use Rattle.std.proofs.lemmas.Bool.{false≢true, both_ways, eq-eqb, or_left}
+use Rattle.std.proofs.lemmas.Bool.{false≢true, false_from_ne_true, both_ways, eq-eqb, or_left}
 use Rattle.std.proofs.lemmas.Bool.Decides.{eqb_tells}
 use Rattle.std.proofs.lemmas.List.Elements.{All-nil, All-push, All-weaker, recursion_from_All}
 use Rattle.st_model.specs.declared.branch.Branch.{Branch}
 use Rattle.st_model.specs.Lists.{has}
 use Rattle.st_model.specs.Network.{Network, IsVertex, is_required, pays}
 use Rattle.st_model.specs.Branch.{IsVertexSet, IsBranch, is_certain}
+use Rattle.st_model.proofs.Branches.{IsVertexSet-nil, IsVertexSet-member}
 use Rattle.st_model.proofs.Marked.{has-push, at_member}
 use Rattle.tree_heuristic.proofs.Members.{AreFirst-push, AreFirst-skip}
 use Rattle.split_search.specs.Node.{is_free, IsDecided, HasNoCertain, IsChoice}
@@ -16,17 +17,13 @@ use Rattle.split_search.specs.Deciding.{AreSides, AreThose, IsDearest, is_left_o
 
 pub those_none : (test : ℕ → Bool) → AreThose test 0 []
 those_none test = record {
-  set = record { ascending = λ k h. absurd (omega arith); in_range = All-nil _ };
+  set = IsVertexSet-nil 0;
   same = λ v h. let low = h.0 in let high = h.1 in absurd (omega arith);
 }
 
 -- a list of vertices up to the last has none beyond
 none_beyond : (last : ℕ) (list : List ℕ) → IsVertexSet last list → (v : ℕ) → last < v → IsFalse (has list v)
-none_beyond last list set v beyond = by_case (has list v) refl
-  where
-    by_case : (b : Bool) → has list v ≡ b → b ≡ false
-    by_case true h = let high = (at_member (IsVertex last) list v (recursion_from_All (IsVertex last) list set.in_range) h).1 in absurd (omega arith)
-    by_case false h = refl
+none_beyond last list set v beyond = false_from_ne_true (has list v) (λ h. let high = (IsVertexSet-member last list v set h).1 in omega arith)
 
 -- the next vertex passes
 pub those_push : (test : ℕ → Bool) (last : ℕ) (list : List ℕ) → AreThose test last list → IsTrue (test (last + 1)) → AreThose test (last + 1) (list ++ (last + 1) ∷ [])
@@ -62,10 +59,6 @@ those_skip test last list are fails =
 those_same : (test other : ℕ → Bool) (last : ℕ) (list : List ℕ) → ((v : ℕ) → IsVertex last v → test v ≡ other v) → AreThose test last list → AreThose other last list
 those_same test other last list same are = record { set = are.set; same = λ v h. are.same v h ∙ same v h }
 
--- a member is a vertex
-pub member_vertex : (last : ℕ) (list : List ℕ) (v : ℕ) → IsVertexSet last list → IsTrue (has list v) → IsVertex last v
-member_vertex last list v set held = at_member (IsVertex last) list v (recursion_from_All (IsVertex last) list set.in_range) held
-
 -- what is certain by the sides is so in the branch
 certain_same : (I : Network) (B S : Branch) → AreSides I B S → (v : ℕ) → IsVertex I.n v → is_certain I S v ≡ is_certain I B v
 certain_same I B S sides v vertex = ap (λ b. is_required I v || b) (sides.inside v vertex.1)
@@ -87,7 +80,7 @@ none_free I B list are none v vertex = sym (are.same v vertex) ∙ ap (λ vertic
 -- a free vertex of greatest pays
 pub dearest_choice : (I : Network) (B : Branch) (list : List ℕ) (v : ℕ) → AreThose (is_free I B) I.n list → IsTrue (has list v) → All (λ w. pays I w ≤ pays I v) list → IsChoice I B v
 dearest_choice I B list v are held most =
-    let vertex = member_vertex I.n list v are.set held in
+    let vertex = IsVertexSet-member I.n list v are.set held in
     record {
       vertex = vertex;
       free = sym (are.same v vertex) ∙ held;
@@ -97,7 +90,7 @@ dearest_choice I B list v are held most =
 -- any free vertex, where some vertex is certain
 pub any_choice : (I : Network) (B : Branch) (list : List ℕ) (v r : ℕ) → AreThose (is_free I B) I.n list → IsTrue (has list v) → IsVertex I.n r → IsTrue (is_certain I B r) → IsChoice I B v
 any_choice I B list v r are held root certain =
-    let vertex = member_vertex I.n list v are.set held in
+    let vertex = IsVertexSet-member I.n list v are.set held in
     record {
       vertex = vertex;
       free = sym (are.same v vertex) ∙ held;
@@ -110,7 +103,7 @@ narrow_branch I B S reached out branch sides are = record { inside = branch.insi
   where
     apart : (v : ℕ) → IsTrue (has B.inside v) → IsFalse (has out v)
     apart v inside =
-        let vertex = member_vertex I.n B.inside v branch.inside inside in
+        let vertex = IsVertexSet-member I.n B.inside v branch.inside inside in
         let is_in = sides.inside v vertex.1 ∙ inside in
         let is_out = sides.outside v vertex.1 ∙ branch.apart v inside in
         are.same v vertex ∙ rw (is_out, is_in) (by_case (is_required I v))

@@ -9,7 +9,7 @@ use Rattle.st_model.specs.Lists.{has}
 use Rattle.st_model.specs.Network.{Network, IsVertex, is_required}
 use Rattle.st_model.specs.Branch.{with_inside, with_outside}
 use Rattle.st_model.proofs.Sums.{total-append, sum_to_same, sum_to-add, sum_to_one}
-use Rattle.cut_packing.proofs.Members.{has-with_vertex}
+use Rattle.st_model.proofs.Halves.{has-with_vertex}
 use Rattle.log_format.specs.Accepts.{all_trees}
 use Rattle.split_search.specs.declared.node.Node.{Node}
 use Rattle.split_search.specs.Node.{is_free, free_count, turns, turns_of}

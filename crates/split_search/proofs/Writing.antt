@@ -1,18 +1,19 @@
 -- What a search answers can be written.
 use Rattle.std.proofs.Common.{◌≡◌, ℕ, zero, suc, ◌+◌, ◌^◌, ◌<◌, ◌≤◌, Bool, true, false, cond, eqb, ◌||◌, List, [], ◌∷◌, Option, Some, None, length, take, take_all, refl, sym, ap, ◌∙◌, arith}
-use Rattle.std.specs.Prelude.{All, IsFalse, IsSome, IfSome, MatchOption}
+use Rattle.std.specs.Prelude.{All, IsFalse, IfSome, MatchOption}
 use Rattle.std.specs.List.{AllByRecursion}
-use Rattle.std.proofs.lemmas.Bool.{false≢true, both_ways, eqb-true}
-use Rattle.std.proofs.lemmas.Bool.Decides.{nat_tests}
-use Rattle.std.proofs.lemmas.List.Elements.{recursion_from_All, All-from_recursion}
+use Rattle.std.proofs.lemmas.Bool.{both_ways, eqb-true}
+use Rattle.std.proofs.lemmas.List.Elements.{recursion_from_All, All-from_recursion, All-weaker}
 use Rattle.st_model.specs.declared.branch.Branch.{Branch}
-use Rattle.st_model.specs.declared.link.Link.{Link}
 use Rattle.st_model.specs.declared.tree.Tree.{Tree}
 use Rattle.st_model.specs.Lists.{has, total, sum_to}
-use Rattle.st_model.specs.Network.{Network, IsInstance, IsLinkBetween, IsVertex, joins, link}
+use Rattle.st_model.specs.Network.{Network, IsInstance, IsVertex}
 use Rattle.st_model.specs.Arborescence.{Grows, IsArborescence, arc_cost, cost, reached}
 use Rattle.st_model.specs.Branch.{IsVertexSet}
 use Rattle.st_model.proofs.Costs.{links_fit, missed_le_prizes}
+use Rattle.st_model.proofs.Members.{length-has}
+use Rattle.st_model.proofs.Reaching.{ends_are_vertices}
+use Rattle.st_model.proofs.ThinGrowth.{linked-vertices}
 use Rattle.st_model.proofs.Sums.{sum_to_same, sum_to-add, sum_to_one}
 use Rattle.cut_packing.specs.declared.cut.Cut.{Cut}
 use Rattle.cut_packing.specs.declared.packing.Packing.{Packing}
@@ -24,11 +25,6 @@ use Rattle.log_format.specs.Text.{IsAnyVertex, IsWritableCut, IsWritablePacking,
 pub any_vertex : (I : Network) (v : ℕ) → IsInstance I → IsVertex I.n v → IsAnyVertex v
 any_vertex I v instance vertex = (vertex.0, omega (arith, vertex.1, instance.few_vertices))
 
--- a set with a member isn't empty
-some_member : (set : List ℕ) (q : ℕ) → has set q ≡ true → 1 ≤ length set
-some_member [] q h = absurd (false≢true h)
-some_member (v ∷ set) q h = omega arith
-
 any_vertices : (n : ℕ) (set : List ℕ) → n ≤ 1000000 → AllByRecursion (IsVertex n) set → AllByRecursion (IsVertex 1000000) set
 any_vertices n [] few h = tt
 any_vertices n (v ∷ vs) few h = ((h.0.0, omega (arith, h.0.1)), any_vertices n vs few h.1)
@@ -38,7 +34,7 @@ writable_cut I B c instance fits set small = record {
   q = any_vertex I c.q instance (named_vertex I B c fits);
   y = small;
   set = record {
-    some = some_member c.set c.q fits.member;
+    some = length-has c.set c.q fits.member;
     vertices = record { ascending = set.ascending; in_range = All-from_recursion (IsVertex 1000000) c.set (any_vertices I.n c.set instance.few_vertices (recursion_from_All (IsVertex I.n) c.set set.in_range)) };
   };
 }
@@ -67,25 +63,6 @@ small_values (c ∷ cuts) small = (omega (arith, small), small_values cuts (omeg
 pub writable_packing : (I : Network) (B : Branch) (P : Packing) → IsInstance I → Fits I B P → AreSets I.n P → length P.cuts < 2 ^ 64 → total (λ c. c.y) P.cuts < 2 ^ 64 → IsWritablePacking P
 writable_packing I B P instance fits sets few small = small_packing I B P instance fits sets few (All-from_recursion (λ (c : Cut). c.y < 2 ^ 64) P.cuts (small_values P.cuts small))
 
--- the ends of a link are vertices
-linked_ends : (n : ℕ) (links : List Link) (u v : ℕ) → AllByRecursion (IsLinkBetween n) links → IsSome (link links u v) → IsVertex n u × IsVertex n v
-linked_ends n [] u v h linked = absurd (cc)
-linked_ends n (l ∷ links) u v h linked = by_case (joins l u v) refl (λ some. linked_ends n links u v h.1 some) linked
-  where
-    by_case : (b : Bool) → joins l u v ≡ b → (IsSome (link links u v) → IsVertex n u × IsVertex n v) → IsSome (cond b (Some l.cost) (link links u v)) → IsVertex n u × IsVertex n v
-    by_case true is rest some =
-        let ordered = h.0.ordered in
-        let low = h.0.low in
-        let high = h.0.high in
-        grind (arith, nat_tests, is, ordered, low, high)
-    by_case false is rest some = rest some
-
-arcs_are_vertices : (I : Network) (r : List ℕ) (arcs : List (ℕ × ℕ)) → IsInstance I → Grows I r arcs → AllByRecursion (λ arc. IsAnyVertex arc.0 × IsAnyVertex arc.1) arcs
-arcs_are_vertices I r [] instance grows = tt
-arcs_are_vertices I r ((u, v) ∷ arcs) instance grows =
-    let ends = linked_ends I.n I.links u v (recursion_from_All (IsLinkBetween I.n) I.links instance.ends) grows.0 in
-    ((any_vertex I u instance ends.0, any_vertex I v instance ends.1), arcs_are_vertices I (v ∷ r) arcs instance grows.3)
-
 -- how many vertices are in the list
 abbrev members : ℕ → List ℕ → ℕ
 members n r = sum_to (λ w. cond (has r w) 1 0) n
@@ -113,7 +90,7 @@ members_at_most (suc n) r = by_case (has r (suc n)) (members_at_most n r)
 few_arcs : (I : Network) (r : List ℕ) (arcs : List (ℕ × ℕ)) → IsInstance I → Grows I r arcs → length arcs + members I.n r ≤ I.n
 few_arcs I r [] instance grows = omega (arith, members_at_most I.n r)
 few_arcs I r ((u, v) ∷ arcs) instance grows =
-    let ends = linked_ends I.n I.links u v (recursion_from_All (IsLinkBetween I.n) I.links instance.ends) grows.0 in
+    let ends = linked-vertices I u v instance grows.0 in
     omega (arith, few_arcs I (v ∷ r) arcs instance grows.3, one_more I.n v r ends.1 grows.2)
 
 -- a tree of an instance can be written
@@ -121,7 +98,7 @@ pub writable_tree : (I : Network) (t : Tree) → IsInstance I → IsArborescence
 writable_tree I t instance arborescence = record {
   start = any_vertex I t.start instance arborescence.start;
   few_arcs = omega (arith, few_arcs I (t.start ∷ []) t.arcs instance arborescence.grows, instance.few_vertices);
-  arcs = All-from_recursion (λ (arc : ℕ × ℕ). IsAnyVertex arc.0 × IsAnyVertex arc.1) t.arcs (arcs_are_vertices I (t.start ∷ []) t.arcs instance arborescence.grows);
+  arcs = All-weaker (λ arc. IsVertex I.n arc.0 × IsVertex I.n arc.1) (λ arc. IsAnyVertex arc.0 × IsAnyVertex arc.1) (λ arc ends. (any_vertex I arc.0 instance ends.0, any_vertex I arc.1 instance ends.1)) t.arcs (ends_are_vertices I (t.start ∷ []) t.arcs instance arborescence.grows);
 }
 
 -- a single cut of a small value can be written

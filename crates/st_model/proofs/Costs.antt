@@ -1,17 +1,16 @@
 -- What a tree costs, arc by arc.
 use Rattle.std.proofs.Common.{◌≡◌, ℕ, zero, suc, ◌+◌, ◌-◌, ◌^◌, ◌<◌, ◌≤◌, Bool, true, false, ◌||◌, cond, eqb, List, [], ◌∷◌, length, get_or, take, drop, refl, sym, ◌∙◌, ◌⊎◌, inl, inr, arith}
 use Rattle.std.proofs.lemmas.Bool.{cases_lt}
-use Rattle.std.specs.Prelude.{IsSome, OnSome, Option, Some, None}
 use Rattle.std.proofs.lemmas.Bool.Decides.{nat_tests}
 use Rattle.std.proofs.lemmas.List.{take_more}
 use Rattle.st_model.specs.declared.tree.Tree.{Tree}
 use Rattle.st_model.specs.Arborescence.{Grows, arc_cost, cost, missed, reached_from}
 use Rattle.st_model.specs.Lists.{has, total, sum_to}
-use Rattle.st_model.specs.Network.{Network, IsInstance, IsVertex, link, pays}
+use Rattle.st_model.specs.Network.{Network, IsInstance, IsVertex, pays}
 use Rattle.st_model.proofs.Sums.{total-append, sum_to_same, sum_to_le, sum_to-add, sum_to_one}
 use Rattle.st_model.proofs.Distinct.{total-arc_cost}
-use Rattle.st_model.proofs.Links.{linked_in_range}
 use Rattle.st_model.proofs.Judging.{grows_next, reached_next}
+use Rattle.st_model.proofs.ThinGrowth.{linked-vertices}
 
 -- what is missed loses the prize of a vertex that is reached now
 pub missed_reached : (I : Network) (r : List ℕ) (v : ℕ) → IsVertex I.n v → has r v ≡ false → sum_to (missed I (v ∷ r)) I.n + pays I v ≡ sum_to (missed I r) I.n
@@ -68,7 +67,7 @@ pub record Turn (I : Network) (r : List ℕ) (arcs : List (ℕ × ℕ)) (i spent
 pub turn : (I : Network) (r : List ℕ) (arcs : List (ℕ × ℕ)) (i spent left : ℕ) → IsInstance I → i < length arcs → spent ≡ total (arc_cost I) (take i arcs) → left ≡ sum_to (missed I (reached_from r (take i arcs))) I.n → Grows I (reached_from r (take i arcs)) (drop i arcs) → Turn I r arcs i spent left
 turn I r arcs i spent left instance within spent_is left_is grows =
     let next = (grows_next I r arcs i (0, 0) within).0 grows in
-    let vertex = in_range (link I.links (get_or arcs i (0, 0)).0 (get_or arcs i (0, 0)).1) next.0.linked (linked_in_range I.n I.links (get_or arcs i (0, 0)).0 (get_or arcs i (0, 0)).1 instance.ends) in
+    let vertex = linked-vertices I (get_or arcs i (0, 0)).0 (get_or arcs i (0, 0)).1 instance next.0.linked in
     let less = missed_reached I (reached_from r (take i arcs)) (get_or arcs i (0, 0)).1 vertex.1 next.0.to in
     record {
       links = rw spent_is (sym (total_more (arc_cost I) arcs i (0, 0) within));
@@ -76,10 +75,6 @@ turn I r arcs i spent left instance within spent_is left_is grows =
       missed = rw (reached_next r arcs i (0, 0) within) (omega (arith, less));
       grows = next.1;
     }
-  where
-    in_range : {P : Type 0} (o : Option ℕ) → IsSome o → OnSome o P → P
-    in_range None some h = cc
-    in_range (Some x) some h = h
 
 -- no part of a tree costs more than all that could be paid
 pub links_fit : (I : Network) (r : List ℕ) (arcs : List (ℕ × ℕ)) (k : ℕ) → IsInstance I → Grows I r arcs → total (arc_cost I) (take k arcs) + sum_to (pays I) I.n < 2 ^ 63

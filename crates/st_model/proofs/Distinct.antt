@@ -2,6 +2,7 @@
 use Rattle.std.proofs.Common.{◌≡◌, ℕ, ◌+◌, ◌≤◌, Bool, true, false, cond, ◌&&◌, ◌||◌, eqb, List, [], ◌∷◌, map, Some, refl, ap, arith, ◌⊎◌, inl, inr, eq-eqb, ◌∙◌}
 use Rattle.std.proofs.Math.Bool.{or_comm}
 use Rattle.std.specs.Prelude.{◌==◌, IsTrue, unwrap_or, All}
+use Rattle.std.proofs.lemmas.Bool.{or_right}
 use Rattle.std.proofs.lemmas.Bool.Decides.{nat_tests}
 use Rattle.st_model.specs.declared.link.Link.{Link}
 use Rattle.st_model.specs.Lists.{has, total}
@@ -47,11 +48,7 @@ has-cons_head r v a e = rw (e, eq-eqb v v refl) refl
 
 -- what was reached still is
 pub has-cons_tail : (r : List ℕ) (v a : ℕ) → has r a ≡ true → has (v ∷ r) a ≡ true
-has-cons_tail r v a h = rw h (or-true (eqb v a))
-  where
-    or-true : (b : Bool) → (b || true) ≡ true
-    or-true true = refl
-    or-true false = refl
+has-cons_tail r v a h = or_right (eqb v a) (has r a) h
 
 -- all of x is taken out where the test turns true
 taken : (p q a b : Bool) (x : ℕ) → (p && q) ≡ false → a ≡ true → b ≡ true → x + cond (a && b) 0 x ≤ cond (p && q) 0 x

@@ -7,20 +7,15 @@ use Rattle.st_model.specs.declared.tree.Tree.{Tree}
 use Rattle.st_model.specs.Lists.{has}
 use Rattle.st_model.specs.Arborescence.{reached}
 use Rattle.st_model.specs.Branch.{Belongs, with_vertex, with_inside, with_outside}
+use Rattle.st_model.proofs.Booleans.{or_left_comm}
 
 -- the set with v holds v and what it held
 pub has-with_vertex : (xs : List ℕ) (v w : ℕ) → has (with_vertex xs v) w ≡ ((v == w) || has xs w)
 has-with_vertex [] v w = refl
 has-with_vertex (x ∷ xs) v w = step (nat_lt x v) (has-with_vertex xs v w)
   where
-    swapped : (a b rest : Bool) → (a || (b || rest)) ≡ (b || (a || rest))
-    swapped true true rest = refl
-    swapped true false rest = refl
-    swapped false true rest = refl
-    swapped false false rest = refl
-
     step : (b : Bool) → has (with_vertex xs v) w ≡ ((v == w) || has xs w) → has (if b then x ∷ with_vertex xs v else v ∷ x ∷ xs) w ≡ ((v == w) || ((x == w) || has xs w))
-    step true before = rw before (swapped (x == w) (v == w) (has xs w))
+    step true before = rw before (or_left_comm (x == w) (v == w) (has xs w))
     step false before = refl
 
 -- v itself is in the set with v
@@ -32,7 +27,7 @@ kept : (xs : List ℕ) (v w : ℕ) → IsTrue (has xs w) → IsTrue (has (with_v
 kept xs v w member = rw (has-with_vertex xs v w) (or_right (v == w) (has xs w) member)
 
 -- what holds of v and of the set's members holds of the members with v
-at_either : (P : ℕ → Type 0) (xs : List ℕ) (v : ℕ) → P v → ((w : ℕ) → IsTrue (has xs w) → P w) → (w : ℕ) → IsTrue (has (with_vertex xs v) w) → P w
+pub at_either : (P : ℕ → Type 0) (xs : List ℕ) (v : ℕ) → P v → ((w : ℕ) → IsTrue (has xs w) → P w) → (w : ℕ) → IsTrue (has (with_vertex xs v) w) → P w
 at_either P xs v at_v at_old w member =
     elim (or_cases (v == w) (has xs w) (rw (has-with_vertex xs v w) at member)) [
       | inl same ↦ rw (← eqb-true v w same) at_v

@@ -15,3 +15,7 @@ pub mod RegrowLaws
 pub mod RegrowAlike
 pub mod Marked
 pub mod Halves
+pub mod Booleans
+pub mod Members
+pub mod Reaching
+pub mod Branches

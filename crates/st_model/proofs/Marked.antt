@@ -2,6 +2,7 @@
 use Rattle.std.proofs.Common.{◌≡◌, ◌≢◌, ℕ, zero, suc, ◌+◌, ◌<◌, ◌≤◌, Bool, true, false, ◌||◌, eqb, List, [], ◌∷◌, ◌++◌, length, take, drop, get_or, set, ◌⊎◌, inl, inr, refl, sym, ap, ◌∙◌, get_or-set_same, get_or-set_other, drop-cons, add-one, arith}
 use Rattle.std.specs.Prelude.{◌==◌, All, IsTrue, IsFalse}
 use Rattle.std.proofs.lemmas.Bool.{cases_eq, cases_lt, ne_eqb, eq-eqb, or_parts, or_left, or_from, or_cases, eqb-true, false≢true}
+use Rattle.std.proofs.Math.Bool.{or-true, or-false}
 use Rattle.std.proofs.lemmas.List.{get_or_past, take_more}
 use Rattle.std.proofs.lemmas.List.Folds.{list_any-append, list_any_at}
 use Rattle.std.proofs.lemmas.List.Elements.{recursion_from_All}
@@ -16,12 +17,7 @@ pub has_at : (xs : List ℕ) (k d : ℕ) → k < length xs → IsTrue (has xs (g
 has_at xs k d below = list_any_at (λ x. x == get_or xs k d) xs k d below (eq-eqb (get_or xs k d) (get_or xs k d) refl)
 
 pub has-push : (xs : List ℕ) (y v : ℕ) → has (xs ++ y ∷ []) v ≡ (has xs v || (y == v))
-has-push xs y v = rw (list_any-append (λ x. x == v) xs (y ∷ [])) (alone (has xs v) (y == v))
-  where
-    alone : (a b : Bool) → (a || (b || false)) ≡ (a || b)
-    alone true b = refl
-    alone false true = refl
-    alone false false = refl
+has-push xs y v = list_any-append (λ x. x == v) xs (y ∷ []) ∙ ap (λ b. has xs v || b) (or-false (y == v))
 
 -- a list has no vertex twice where the last one is new
 pub AllApart-push : (xs : List ℕ) (y : ℕ) → AllApart xs → IsFalse (has xs y) → AllApart (xs ++ y ∷ [])
@@ -51,19 +47,11 @@ IsMarked-insert marks members v h room new = record {
   apart = AllApart-push members v h.apart (sym (h.marked v) ∙ new);
 }
   where
-    with_true : (a : Bool) → true ≡ (a || true)
-    with_true true = refl
-    with_true false = refl
-
-    with_false : (a : Bool) → a ≡ (a || false)
-    with_false true = refl
-    with_false false = refl
-
     at_vertex : (w : ℕ) → (w ≡ v) ⊎ (w ≡ v → ⊥) → get_or (set marks v true) w false ≡ (has members w || (v == w))
-    at_vertex w (inl same) = rw (same, get_or-set_same, eq-eqb v v refl) (with_true _)
+    at_vertex w (inl same) = rw (same, get_or-set_same, eq-eqb v v refl) (sym (or-true _))
     at_vertex w (inr other) =
         let apart : w ≢ v = other in
-        rw (get_or-set_other, h.marked w, ne_eqb v w (λ same. other (sym same))) (with_false _)
+        rw (get_or-set_other, h.marked w, ne_eqb v w (λ same. other (sym same))) (sym (or-false _))
 
 -- the mark of the first member goes, and the others stay
 pub IsMarked-rest : (marks : List Bool) (v : ℕ) (rest : List ℕ) → IsMarked marks (v ∷ rest) → v < length marks → IsMarked (set marks v false) rest
@@ -116,7 +104,7 @@ place_of (x ∷ xs) v h =
     ]
 
 -- the test the other way round
-has-turned : (xs : List ℕ) (v : ℕ) → list_any (eqb v) xs ≡ has xs v
+pub has-turned : (xs : List ℕ) (v : ℕ) → list_any (eqb v) xs ≡ has xs v
 has-turned [] v = refl
 has-turned (x ∷ xs) v = rw (has-turned xs v) (ap (λ b. b || has xs v) (eqb_comm v x))
   where

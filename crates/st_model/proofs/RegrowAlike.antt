@@ -7,6 +7,7 @@ use Rattle.std.proofs.lemmas.Bool.{eqb-true, cases_lt}
 use Rattle.std.proofs.lemmas.Bool.Decides.{nat_tests, eqb_tells}
 use Rattle.std.proofs.lemmas.List.Recursion.{is_sum_by}
 use Rattle.std.proofs.lemmas.List.Sorted.{list_any-IsPermutation, sum_by-IsPermutation}
+use Rattle.std.proofs.Math.Bool.{or-false}
 use Rattle.st_model.specs.declared.tree.Tree.{Tree}
 use Rattle.st_model.specs.Lists.{has, total}
 use Rattle.st_model.specs.Network.{Network}
@@ -21,11 +22,7 @@ touches v arc = (arc.0 == v) || (arc.1 == v)
 
 -- a tree reaches its start, and the ends of its arcs
 has-reached_from_ends : (I : Network) (r : List ℕ) (arcs : List (ℕ × ℕ)) (v : ℕ) → Grows I r arcs → has (reached_from r arcs) v ≡ has r v || list_any (touches v) arcs
-has-reached_from_ends I r [] v g = or_nil (has r v)
-  where
-    or_nil : (b : Bool) → b ≡ (b || false)
-    or_nil true = refl
-    or_nil false = refl
+has-reached_from_ends I r [] v g = sym (or-false (has r v))
 has-reached_from_ends I r (arc ∷ arcs) v g = has-reached_from_ends I (arc.1 ∷ r) arcs v g.3 ∙ moved (arc.0 == v) (arc.1 == v) (has r v) (list_any (touches v) arcs) tail_there
   where
     tail_there : (arc.0 == v) ≡ true → has r v ≡ true

@@ -6,7 +6,8 @@ use Rattle.std.specs.List.Sorted.{IsPermutation}
 use Rattle.std.proofs.lemmas.Bool.Decides.{eqb_tells}
 use Rattle.std.proofs.lemmas.List.Sorted.{IsPermutation-refl, IsPermutation-sym, IsPermutation-cons, IsPermutation-to_front, IsPermutation-append_left, IsPermutation-trans}
 use Rattle.std.proofs.Math.Nat.{min_comm, max_comm}
-use Rattle.std.proofs.lemmas.Bool.{eqb-true}
+use Rattle.std.proofs.Math.Bool.{or-true, or-false, or_assoc}
+use Rattle.std.proofs.lemmas.Bool.{eqb-true, ne_eqb}
 use Rattle.std.proofs.lemmas.List.{map-append, reverse-append, drop_more}
 use Rattle.st_model.specs.Lists.{has}
 use Rattle.st_model.specs.Network.{Network}
@@ -14,6 +15,7 @@ use Rattle.st_model.specs.Arborescence.{reached_from, Grows}
 use Rattle.st_model.specs.Marks.{IsNewArc}
 use Rattle.st_model.specs.Growth.{reaches}
 use Rattle.st_model.specs.Regrown.{unordered, regrown}
+use Rattle.st_model.proofs.Booleans.{or_left_comm}
 use Rattle.st_model.proofs.Distinct.{has-cons_head, link-comm}
 use Rattle.st_model.proofs.Judging.{reached_from-append}
 use Rattle.st_model.proofs.ThinGrowth.{Grows-push, has-reached_from}
@@ -51,28 +53,18 @@ Grows-wider I r wider (arc ∷ arcs) vertex same g absent =
     ] in
     let rest = Grows-wider I (arc.1 ∷ r) (arc.1 ∷ wider) arcs vertex (λ v. ap (λ b. (arc.1 == v) || b) (same v) ∙ or_left_comm (arc.1 == v) (vertex == v) (has r v)) g.3 absent in
     record {
-      grows = (g.0, same arc.0 ∙ rw g.1 (or_true (vertex == arc.0)), same arc.1 ∙ rw other g.2, rest.grows);
+      grows = (g.0, same arc.0 ∙ rw g.1 (or-true (vertex == arc.0)), same arc.1 ∙ rw other g.2, rest.grows);
       reached = rest.reached;
     }
   where
     both : false ≡ true → ⊥
     both h = cc
 
-    or_true : (b : Bool) → (b || true) ≡ true
-    or_true true = refl
-    or_true false = refl
-
-    or_left_comm : (a b c : Bool) → (a || (b || c)) ≡ (b || (a || c))
-    or_left_comm true true c = refl
-    or_left_comm true false c = refl
-    or_left_comm false true c = refl
-    or_left_comm false false c = refl
-
 -- the turned arc first
 IsRegrowth-turned : (I : Network) (start : ℕ) (old : List (ℕ × ℕ)) (arc : ℕ × ℕ) (new : List (ℕ × ℕ)) → EndsIn I (start ∷ []) old arc → IsRegrowth I start old arc.0 new → IsRegrowth I start (old ++ arc ∷ []) arc.1 ((arc.1, arc.0) ∷ new)
 IsRegrowth-turned I start old arc new end before =
     let absent : reaches arc.0 new arc.1 ≡ false = before.reached arc.1 ∙ end.last.to in
-    let wider = Grows-wider I (arc.0 ∷ []) (arc.0 ∷ arc.1 ∷ []) new arc.1 (λ v. or_comm_nil (arc.0 == v) (arc.1 == v)) before.grows absent in
+    let wider = Grows-wider I (arc.0 ∷ []) (arc.0 ∷ arc.1 ∷ []) new arc.1 (λ v. or_left_comm (arc.0 == v) (arc.1 == v) false) before.grows absent in
     let front = IsPermutation-cons (unordered arc) (map unordered new) (map unordered old) before.links in
     let back = IsPermutation-sym (map unordered old ++ unordered arc ∷ []) (unordered arc ∷ map unordered old) (IsPermutation-to_front (map unordered old) (unordered arc)) in
     record {
@@ -81,11 +73,6 @@ IsRegrowth-turned I start old arc new end before =
       reached = λ v. wider.reached v ∙ (ap (λ b. (arc.1 == v) || b) (before.reached v) ∙ sym (ap (λ r. has r v) (reached_from-append (start ∷ []) old (arc ∷ []))));
     }
   where
-    or_comm_nil : (a b : Bool) → (a || (b || false)) ≡ (b || (a || false))
-    or_comm_nil true true = refl
-    or_comm_nil true false = refl
-    or_comm_nil false b = refl
-
     unordered-comm : unordered (arc.1, arc.0) ≡ unordered arc
     unordered-comm = rw (min_comm arc.1 arc.0, max_comm arc.1 arc.0) refl
 
@@ -121,23 +108,12 @@ IsRegrowth-regrown I start at (arc ∷ back) g there =
     by_test true is end h turned kept = subst (λ (v : ℕ). IsRegrowth I start (reverse back ++ arc ∷ []) v ((arc.1, arc.0) ∷ regrown arc.0 back)) (eqb-true arc.1 at is) (IsRegrowth-turned I start (reverse back) arc (regrown arc.0 back) end turned)
     by_test false is end h turned kept = IsRegrowth-kept I start (reverse back) arc at (regrown at back) end (kept h)
 
--- the test of different numbers
-neq-eqb : (a b : ℕ) → a ≢ b → (a == b) ≡ false
-neq-eqb a b other = elim (eqb_tells a b) [ inl e ↦ absurd (other e.1) | inr e ↦ e.0 ]
-
 -- what a tree reaches: its start, and each head
 pub has-reached_from_heads : (r : List ℕ) (arcs : List (ℕ × ℕ)) (v : ℕ) → has (reached_from r arcs) v ≡ has r v || list_any (λ arc. arc.1 == v) arcs
-has-reached_from_heads r [] v = or_nil (has r v)
-  where
-    or_nil : (b : Bool) → b ≡ (b || false)
-    or_nil true = refl
-    or_nil false = refl
-has-reached_from_heads r (arc ∷ arcs) v = has-reached_from_heads (arc.1 ∷ r) arcs v ∙ moved (arc.1 == v) (has r v) (list_any (λ a. a.1 == v) arcs)
-  where
-    moved : (a b c : Bool) → ((a || b) || c) ≡ (b || (a || c))
-    moved true true c = refl
-    moved true false c = refl
-    moved false b c = refl
+has-reached_from_heads r [] v = sym (or-false (has r v))
+has-reached_from_heads r (arc ∷ arcs) v =
+    let others = list_any (λ a. a.1 == v) arcs in
+    has-reached_from_heads (arc.1 ∷ r) arcs v ∙ (or_assoc (arc.1 == v) (has r v) others ∙ or_left_comm (arc.1 == v) (has r v) others)
 
 -- the start is reached
 pub reaches_start : (start : ℕ) (arcs : List (ℕ × ℕ)) (v : ℕ) → (start == v) ≡ true → (start == v) ≡ reaches start arcs v
@@ -145,7 +121,7 @@ reaches_start start arcs v same = rw (has-reached_from_heads (start ∷ []) arcs
 
 -- any other vertex is reached where it is a head
 pub reaches_heads : (start : ℕ) (arcs : List (ℕ × ℕ)) (v : ℕ) → start ≢ v → list_any (λ arc. arc.1 == v) arcs ≡ reaches start arcs v
-reaches_heads start arcs v other = rw (has-reached_from_heads (start ∷ []) arcs v, neq-eqb start v other) refl
+reaches_heads start arcs v other = rw (has-reached_from_heads (start ∷ []) arcs v, ne_eqb start v other) refl
 
 -- the loop's steps: one more arc from the end, turned or kept
 pub regrown-turn : (xs : List (ℕ × ℕ)) (i next : ℕ) (arc : ℕ × ℕ) (turned turned' kept all : List (ℕ × ℕ)) (current : ℕ) → (i < length xs) × (arc ≡ get_or xs i arc) → next ≡ i + 1 → arc.1 ≡ current → turned' ≡ turned ++ (arc.1, arc.0) ∷ [] → (turned ++ regrown current (drop i xs)) ++ kept ≡ all → (turned' ++ regrown arc.0 (drop next xs)) ++ kept ≡ all
@@ -161,6 +137,6 @@ pub regrown-keep : (xs : List (ℕ × ℕ)) (i next : ℕ) (arc : ℕ × ℕ) (t
 regrown-keep xs i next arc turned kept kept' all current at next_is other kept_are before =
     let rest = drop (i + 1) xs in
     let first : drop i xs ≡ arc ∷ rest = drop_more xs i arc at.0 ∙ ap (λ a. a ∷ rest) (sym at.1) in
-    let step : regrown current (drop i xs) ≡ regrown current rest ++ arc ∷ [] = ap (regrown current) first ∙ rw (neq-eqb arc.1 current other) refl in
+    let step : regrown current (drop i xs) ≡ regrown current rest ++ arc ∷ [] = ap (regrown current) first ∙ rw (ne_eqb arc.1 current other) refl in
     let moved : (turned ++ regrown current (drop i xs)) ++ reverse kept ≡ (turned ++ regrown current rest) ++ arc ∷ reverse kept = rw step (simp append_assoc) in
     rw (next_is, kept_are, reverse-append kept (arc ∷ [])) (sym moved ∙ before)

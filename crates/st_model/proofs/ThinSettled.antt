@@ -1,7 +1,6 @@
 -- When nothing that is reached has a neighbour that isn't, all ends of connected pairs are reached.
-use Rattle.std.proofs.Common.{◌≡◌, ℕ, zero, suc, ◌+◌, ◌<◌, Bool, true, false, ◌||◌, inl, inr, List, [], ◌∷◌, ◌++◌, length, get_or, take, drop, refl, sym, ap, ◌∙◌, arith, subst, eq-eqb}
+use Rattle.std.proofs.Common.{◌≡◌, ℕ, zero, suc, ◌+◌, ◌<◌, true, false, ◌||◌, inl, inr, List, [], ◌∷◌, ◌++◌, length, get_or, take, drop, refl, sym, ap, ◌∙◌, arith, eq-eqb}
 use Rattle.std.specs.Prelude.{IsTrue, All}
-use Rattle.std.specs.List.{AllByRecursion}
 use Rattle.std.proofs.lemmas.Bool.Decides.{eqb_tells}
 use Rattle.std.proofs.lemmas.List.Elements.{recursion_from_All}
 use Rattle.std.proofs.lemmas.List.{take-append-drop, take-append-le}
@@ -12,17 +11,11 @@ use Rattle.st_model.specs.Lists.{has}
 use Rattle.st_model.specs.Arborescence.{reached_from}
 use Rattle.st_model.specs.Made.{is_between, has_pair, AreConnectedFrom}
 use Rattle.st_model.specs.Growth.{neighbours, reaches, AreSettled}
+use Rattle.st_model.proofs.Booleans.{same_test}
 use Rattle.st_model.proofs.Distinct.{has-cons_head}
+use Rattle.st_model.proofs.Marked.{at_member}
 use Rattle.st_model.proofs.Judging.{reached_next}
 use Rattle.st_model.proofs.ThinGrowth.{has-neighbours, has-reached_from, has-reached_from_take}
-
--- what holds of all holds of each that is there
-All-has : (P : ℕ → Type 0) (xs : List ℕ) (v : ℕ) → AllByRecursion P xs → IsTrue (has xs v) → P v
-All-has P [] v all h = cc
-All-has P (x ∷ xs) v all h = elim (eqb_tells x v) [
-  | inl e ↦ subst P e.1 all.0
-  | inr e ↦ All-has P xs v all.1 (rw e.0 at h)
-]
 
 -- the head of each arc is reached
 pub reaches-head : (r : List ℕ) (arcs : List (ℕ × ℕ)) (i : ℕ) (d : ℕ × ℕ) → i < length arcs → IsTrue (has (reached_from r arcs) (get_or arcs i d).1)
@@ -33,7 +26,7 @@ reaches-head r (arc ∷ arcs) (suc i) d in_range = reaches-head (arc.1 ∷ r) ar
 -- the neighbours of v are reached where those in its list are
 settled-one : (pairs : List (ℕ × ℕ)) (start : ℕ) (arcs : List (ℕ × ℕ)) (heads : List ℕ) (v w : ℕ) → All (λ head. IsTrue (reaches start arcs head)) heads → heads ≡ neighbours pairs v → IsTrue (has_pair pairs v w) → IsTrue (reaches start arcs w)
 settled-one pairs start arcs heads v w reached are pair =
-    All-has (λ head. IsTrue (reaches start arcs head)) heads w (recursion_from_All _ heads reached) (ap (λ hs. has hs w) are ∙ (has-neighbours pairs v w ∙ pair))
+    at_member (λ head. IsTrue (reaches start arcs head)) heads w (recursion_from_All _ heads reached) (ap (λ hs. has hs w) are ∙ (has-neighbours pairs v w ∙ pair))
 
 -- at first, once those of the start are
 pub AreSettled-start : (pairs : List (ℕ × ℕ)) (start : ℕ) (arcs : List (ℕ × ℕ)) (heads : List ℕ) → All (λ head. IsTrue (reaches start arcs head)) heads → heads ≡ neighbours pairs start → AreSettled pairs start arcs 0
@@ -68,11 +61,6 @@ all-reached pairs start arcs settled connected =
     let firsts = connected (reaches start arcs) (has-reached_from (start ∷ []) arcs start (has-cons_head [] start start refl)) same in
     λ k d in_range. (firsts k d in_range, sym (same k d in_range) ∙ firsts k d in_range)
   where
-    same_test : (a b : Bool) → (a ≡ true → b ≡ true) → (b ≡ true → a ≡ true) → a ≡ b
-    same_test true b there back = sym (there refl)
-    same_test false true there back = back refl
-    same_test false false there back = refl
-
     pair-there : (ps : List (ℕ × ℕ)) (k : ℕ) (d : ℕ × ℕ) (u v : ℕ) → k < length ps → IsTrue (is_between (get_or ps k d) u v) → IsTrue (has_pair ps u v)
     pair-there ps k d u v in_range h = list_any_at (λ pair. is_between pair u v) ps k d in_range h
 

@@ -1,34 +1,23 @@
 -- Leaves that are cut off a tree, and what is left of it.
-use Rattle.std.proofs.Common.{◌≡◌, ℕ, ◌+◌, ◌<◌, ◌≤◌, Bool, true, false, not, ◌&&◌, ◌||◌, inl, inr, List, [], ◌∷◌, ◌++◌, reverse, IsSome, refl, sym, ap, subst, ◌∙◌, append_assoc, arith}
+use Rattle.std.proofs.Common.{◌≡◌, ℕ, ◌+◌, ◌<◌, ◌≤◌, Bool, true, false, not, ◌&&◌, ◌||◌, inl, inr, List, [], ◌∷◌, ◌++◌, reverse, IsSome, refl, sym, ap, subst, ◌∙◌, append_assoc, append-nil, arith}
 use Rattle.std.specs.Prelude.{◌==◌, IsTrue, IsFalse, nat_lt}
-use Rattle.std.proofs.lemmas.Bool.{or_cases, or_parts, eqb-true, ne_eqb, eq-eqb, ltb-true, and_parts, false≢true}
+use Rattle.std.proofs.lemmas.Bool.{or_right, not-true, or_cases, or_parts, eqb-true, ne_eqb, eq-eqb, ltb-true, and_parts, false≢true}
 use Rattle.std.proofs.lemmas.List.{reverse-append}
 use Rattle.st_model.specs.declared.tree.Tree.{Tree}
 use Rattle.st_model.specs.Arborescence.{Grows, IsArborescence, arc_cost, reached, reached_from}
 use Rattle.st_model.specs.Lists.{has, total}
 use Rattle.st_model.specs.Network.{Network, IsInstance, IsVertex, link, pays}
+use Rattle.st_model.proofs.Booleans.{or_left_comm}
 use Rattle.st_model.proofs.Costs.{missed_reached}
 use Rattle.st_model.proofs.RegrowLaws.{missed-same}
 use Rattle.st_model.proofs.Sums.{total-append}
 use Rattle.st_model.proofs.ThinGrowth.{linked-vertices}
 use Rattle.tree_heuristic.specs.declared.kept.Kept.{Kept}
 use Rattle.tree_heuristic.specs.Keeping.{AreWorth, IsJudging, IsPruned, is_cut, is_fork, is_spare, is_tail, must, tree_of}
-
-pub clash : {b : Bool} → b ≡ true → b ≡ false → ⊥
-clash t f = false≢true (sym f ∙ t)
+use Rattle.tree_heuristic.proofs.Found.{clash}
 
 pub turned : (a b : ℕ) → (a == b) ≡ false → (b == a) ≡ false
 turned a b h = ne_eqb b a (λ e. clash (eq-eqb a b (sym e)) h)
-
-or_left_comm : (a b c : Bool) → (a || (b || c)) ≡ (b || (a || c))
-or_left_comm true true c = refl
-or_left_comm true false c = refl
-or_left_comm false true c = refl
-or_left_comm false false c = refl
-
-pub or_second : (a : Bool) {b : Bool} → b ≡ true → (a || b) ≡ true
-or_second true h = refl
-or_second false h = h
 
 -- what is reached, but for one vertex
 pub record Loses (I : Network) (r : List ℕ) (arcs : List (ℕ × ℕ)) (v : ℕ) (before : List ℕ) : Type 0 where
@@ -77,18 +66,14 @@ pruned_twice I inside s t u a b = record {
 pub spare_parts : (I : Network) (inside : List ℕ) (v : ℕ) (arc : ℕ × ℕ) → IsTrue (is_spare I inside v arc) → IsFalse (must I inside v) × (pays I v < arc_cost I arc)
 spare_parts I inside v arc h =
     let parts = and_parts (not (must I inside v)) (nat_lt (pays I v) (arc_cost I arc)) h in
-    (untrue (must I inside v) parts.0, ltb-true (pays I v) (arc_cost I arc) parts.1)
-  where
-    untrue : (b : Bool) → not b ≡ true → b ≡ false
-    untrue true e = sym e
-    untrue false e = refl
+    (not-true (must I inside v) parts.0, ltb-true (pays I v) (arc_cost I arc) parts.1)
 
 -- a vertex less, and its arc
 pub pruned_more : (I : Network) (inside : List ℕ) (t mid new : Tree) (v c : ℕ) → IsVertex I.n v → IsVertex I.n new.start → IsPruned I inside t mid → Loses I (new.start ∷ []) new.arcs v (reached mid) → total (arc_cost I) mid.arcs ≡ c + total (arc_cost I) new.arcs → pays I v ≤ c → IsFalse (must I inside v) → IsPruned I inside t new
 pruned_more I inside t mid new v c vertex start is loses arcs less off = record {
   arborescence = record { start = start; grows = loses.grows };
   keeps = λ w m h. kept w m (is.keeps w m h);
-  within = λ w h. is.within w (loses.reached w ∙ or_second (v == w) h);
+  within = λ w h. is.within w (loses.reached w ∙ or_right (v == w) _ h);
   cheap =
       let same = missed-same I I.n (reached mid) (v ∷ reached new) (λ w. sym (loses.reached w)) in
       let fewer = missed_reached I (reached new) v vertex loses.absent in
@@ -133,16 +118,12 @@ judged_cut I inside t left first arc old new instance j is cut same = subst (λ 
         let before : IsPruned I inside t mid = subst (λ arcs. IsPruned I inside t (record { start = t.start; arcs = arcs })) split j.pruned in
         let parts = and_parts (not (has old.tails.members arc.1)) (is_spare I inside arc.1 arc) cut in
         let spare = spare_parts I inside arc.1 arc parts.1 in
-        let leaf : IsFalse (is_tail (reverse old.arcs.items) arc.1) = sym (j.tails arc.1) ∙ untrue (has old.tails.members arc.1) parts.0 in
+        let leaf : IsFalse (is_tail (reverse old.arcs.items) arc.1) = sym (j.tails arc.1) ∙ not-true (has old.tails.members arc.1) parts.0 in
         let loses = leaf_lost I (t.start ∷ []) first arc (reverse old.arcs.items) before.arborescence.grows leaf in
         let vertices = last_vertices I inside t left first arc old instance j is in
         let whole = total-append (arc_cost I) first (arc ∷ reverse old.arcs.items) in
         let rest = total-append (arc_cost I) first (reverse old.arcs.items) in
         pruned_more I inside t mid (record { start = t.start; arcs = first ++ reverse old.arcs.items }) arc.1 (arc_cost I arc) vertices.1 before.arborescence.start before loses (omega (arith, whole, rest)) (let less = spare.1 in omega arith) spare.0
-      where
-        untrue : (b : Bool) → not b ≡ true → b ≡ false
-        untrue true e = sym e
-        untrue false e = refl
 
 -- what a call of judge makes
 pub record Judged (I : Network) (inside : List ℕ) (old : Kept) (arc : ℕ × ℕ) (new : Kept) : Type 0 where
@@ -190,17 +171,13 @@ judged I inside t left first arc old new instance j is made = by_case (is_cut I 
 pub judging_none : (I : Network) (inside : List ℕ) (t : Tree) (left : List (ℕ × ℕ)) (k : Kept) → IsArborescence I t → left ≡ t.arcs → k.start ≡ t.start → k.arcs.items ≡ [] → (k.tails.members ≡ []) × (k.tails.count ≡ I.n + 1) → (k.forks.members ≡ []) × (k.forks.count ≡ I.n + 1) → IsJudging I inside t left k
 judging_none I inside t left k tree is start arcs tails forks = record {
   start = start;
-  pruned = pruned_none I inside t (record { start = t.start; arcs = left ++ reverse k.arcs.items }) tree (ap (λ (l : List (ℕ × ℕ)). record { start = t.start; arcs = l }) (ap (λ l. left ++ reverse l) arcs ∙ (append_nil left ∙ is)));
+  pruned = pruned_none I inside t (record { start = t.start; arcs = left ++ reverse k.arcs.items }) tree (ap (λ (l : List (ℕ × ℕ)). record { start = t.start; arcs = l }) (ap (λ l. left ++ reverse l) arcs ∙ (append-nil left ∙ is)));
   worth = rw arcs tt;
   tails = λ v. rw (tails.0, arcs) refl;
   forks = λ v. rw (forks.0, arcs) refl;
   tails_count = tails.1;
   forks_count = forks.1;
 }
-  where
-    append_nil : (l : List (ℕ × ℕ)) → l ++ [] ≡ l
-    append_nil [] = refl
-    append_nil (x ∷ l) = ap (λ m. x ∷ m) (append_nil l)
 
 -- at the end nothing is left
 pub judging_end : (I : Network) (inside : List ℕ) (t : Tree) (left : List (ℕ × ℕ)) (k : Kept) → IsJudging I inside t left k → left ≡ [] → IsPruned I inside t (tree_of k)

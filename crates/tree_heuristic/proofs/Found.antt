@@ -1,20 +1,21 @@
 -- What is known of a tree where links lead no further.
-use Rattle.std.proofs.Common.{◌≡◌, ℕ, ◌≤◌, Bool, true, false, ◌||◌, inl, inr, List, [], ◌∷◌, Option, IsSome, refl, sym, ap, subst, ◌∙◌, arith}
-use Rattle.std.specs.Prelude.{◌==◌, IsTrue, IsFalse}
+use Rattle.std.proofs.Common.{◌≡◌, ℕ, ◌≤◌, Bool, true, false, inl, inr, List, [], ◌∷◌, Option, IsSome, refl, sym, ap, subst, ◌∙◌, arith}
+use Rattle.std.specs.Prelude.{IsTrue, IsFalse}
 use Rattle.std.proofs.Math.Bool.{or_comm}
-use Rattle.std.proofs.lemmas.Bool.{or_cases, false≢true}
-use Rattle.std.proofs.lemmas.Bool.Decides.{eqb_tells}
-use Rattle.std.proofs.lemmas.List.Elements.{recursion_from_All}
+use Rattle.std.proofs.lemmas.Bool.{or_cases, false≢true, false_from_ne_true}
 use Rattle.st_model.specs.declared.branch.Branch.{Branch}
 use Rattle.st_model.specs.declared.tree.Tree.{Tree}
-use Rattle.st_model.specs.Arborescence.{Grows, IsArborescence, IsTree, reached, reached_from, cost}
+use Rattle.st_model.specs.Arborescence.{IsArborescence, IsTree, reached, cost}
 use Rattle.st_model.specs.Branch.{Belongs, IsBranch, IsVertexSet, is_certain}
 use Rattle.st_model.specs.Laws.{LoneStartsMissTheRest}
 use Rattle.st_model.specs.Lists.{has}
 use Rattle.st_model.specs.Network.{Network, IsInstance, IsVertex, link, is_required, pays}
 use Rattle.st_model.specs.Wall.{IsWall}
 use Rattle.st_model.proofs.Distinct.{link-comm, has-cons_head}
-use Rattle.st_model.proofs.Marked.{at_member}
+use Rattle.st_model.proofs.Booleans.{same_test}
+use Rattle.st_model.proofs.Branches.{IsVertexSet-member, certain_reached}
+use Rattle.st_model.proofs.Members.{has-one}
+use Rattle.st_model.proofs.Reaching.{one_side}
 use Rattle.st_model.proofs.ThinGrowth.{has-reached_from, linked-vertices}
 use Rattle.graph_store.specs.Graph.{Graph, IsGraph}
 use Rattle.graph_store.proofs.PutLinks.{in_range}
@@ -26,23 +27,12 @@ use Rattle.tree_heuristic.specs.Spreading.{IsOpen, IsSpread, IsClosed}
 pub clash : {b : Bool} → b ≡ true → b ≡ false → ⊥
 clash t f = false≢true (sym f ∙ t)
 
-not_true : (b : Bool) → (b ≡ true → ⊥) → b ≡ false
-not_true true h = absurd (h refl)
-not_true false h = refl
-
 -- each required vertex is certain, and each that is inside
 pub certain_inside : (I : Network) (B : Branch) (v : ℕ) → IsTrue (has B.inside v) → IsTrue (is_certain I B v)
 certain_inside I B v h = rw (h, or_comm (is_required I v) true) refl
 
 pub certain_required : (I : Network) (B : Branch) (v : ℕ) → IsTrue (is_required I v) → IsTrue (is_certain I B v)
 certain_required I B v h = rw h refl
-
--- what is certain is reached by each tree of the branch
-pub certain_reached : (I : Network) (B : Branch) (t : Tree) (v : ℕ) → IsTree I t → Belongs B t → IsVertex I.n v → IsTrue (is_certain I B v) → IsTrue (has (reached t) v)
-certain_reached I B t v tree belongs vertex h = elim (or_cases (is_required I v) (has B.inside v) h) [
-  | inl required ↦ tree.required v vertex required
-  | inr inside ↦ belongs.inside v inside
-]
 
 -- the tree that was grown
 pub spread_arborescence : (g : Graph) (out : List ℕ) (s : Spread) (t : Tree) → IsGraph g → IsSpread g out s → t.start ≡ s.start → t.arcs ≡ s.arcs.items → IsArborescence g.network t
@@ -63,54 +53,25 @@ spread_tree g B out s t graph is start arcs all = record {
 -- a tree that reaches only what is open, and all that is inside
 pub open_belongs : (g : Graph) (B : Branch) (out : List ℕ) (t : Tree) → IsGraph g → IsBranch g.network B → ((v : ℕ) → IsVertex g.network.n v → has out v ≡ has B.outside v) → ((v : ℕ) → IsTrue (has (reached t) v) → IsOpen g out v) → ((v : ℕ) → IsVertex g.network.n v → IsTrue (is_certain g.network B v) → IsTrue (has (reached t) v)) → Belongs B t
 open_belongs g B out t graph branch same open_only all = record {
-  inside = λ v h. all v (at_member (IsVertex g.network.n) B.inside v (recursion_from_All _ B.inside branch.inside.in_range) h) (certain_inside g.network B v h);
-  outside = λ v h. not_true (has (reached t) v) (λ there. let here = open_only v there in clash h (sym (same v (in_range g v graph here.present)) ∙ here.inside));
+  inside = λ v h. all v (IsVertexSet-member g.network.n B.inside v branch.inside h) (certain_inside g.network B v h);
+  outside = λ v h. false_from_ne_true (has (reached t) v) (λ there. let here = open_only v there in clash h (sym (same v (in_range g v graph here.present)) ∙ here.inside));
 }
-
--- a set that links lead out of to no vertex that isn't outside holds all that such a tree reaches, or nothing
-alike : (I : Network) (R : ℕ → Bool) (b : Bool) (r : List ℕ) (arcs : List (ℕ × ℕ)) → ((u v : ℕ) → IsTrue (has (reached_from r arcs) u) → IsTrue (has (reached_from r arcs) v) → IsSome (link I.links u v) → R u ≡ R v) → Grows I r arcs → ((w : ℕ) → IsTrue (has r w) → R w ≡ b) → (w : ℕ) → IsTrue (has (reached_from r arcs) w) → R w ≡ b
-alike I R b r [] same grows all w h = all w h
-alike I R b r (arc ∷ arcs) same grows all w h = alike I R b (arc.1 ∷ r) arcs same grows.3 more w h
-  where
-    more : (w : ℕ) → IsTrue (has (arc.1 ∷ r) w) → R w ≡ b
-    more w h = elim (eqb_tells arc.1 w) [
-      | inl e ↦
-          let tail = has-reached_from (arc.1 ∷ r) arcs arc.0 (later (arc.1 == arc.0) grows.1) in
-          let head = has-reached_from (arc.1 ∷ r) arcs arc.1 (has-cons_head r arc.1 arc.1 refl) in
-          subst (λ x. R x ≡ b) e.1 (sym (same arc.0 arc.1 tail head grows.0) ∙ all arc.0 grows.1)
-      | inr e ↦ all w (rw e.0 at h)
-    ]
-      where
-        later : (c : Bool) → IsTrue (has r arc.0) → (c || has r arc.0) ≡ true
-        later true h = refl
-        later false h = h
 
 -- no tree of open vertices reaches one of such a set and one that isn't of it
 pub no_tree_across : (g : Graph) (B : Branch) (out R : List ℕ) (c d : ℕ) → IsGraph g → ((v : ℕ) → IsVertex g.network.n v → has out v ≡ has B.outside v) → IsClosed g.network out R R → IsVertex g.network.n c → IsTrue (is_certain g.network B c) → IsTrue (has R c) → IsVertex g.network.n d → IsTrue (is_certain g.network B d) → IsFalse (has R d) → (t : Tree) → IsTree g.network t → Belongs B t → ⊥
 no_tree_across g B out R c d graph outside closed c_vertex c_certain c_in d_vertex d_certain d_out t tree belongs =
-    let all = alike g.network (has R) (has R t.start) (t.start ∷ []) t.arcs same tree.arborescence.grows start in
+    let all = one_side g.network (has R) (has R t.start) (t.start ∷ []) t.arcs same tree.arborescence.grows (λ w h. ap (has R) (sym (has-one t.start w h))) in
     let c_is = all c (certain_reached g.network B t c tree belongs c_vertex c_certain) in
     let d_is = all d (certain_reached g.network B t d tree belongs d_vertex d_certain) in
     clash c_in (c_is ∙ (sym d_is ∙ d_out))
   where
-    start : (w : ℕ) → IsTrue (has (t.start ∷ []) w) → has R w ≡ has R t.start
-    start w h = elim (eqb_tells t.start w) [
-      | inl e ↦ ap (has R) (sym e.1)
-      | inr e ↦ let none : (false || false) ≡ true = rw e.0 at h in absurd (false≢true none)
-    ]
-
     off : (v : ℕ) → IsTrue (has (reached t) v) → IsVertex g.network.n v → IsFalse (has out v)
-    off v h vertex = outside v vertex ∙ not_true (has B.outside v) (λ o. clash h (belongs.outside v o))
+    off v h vertex = outside v vertex ∙ false_from_ne_true (has B.outside v) (λ o. clash h (belongs.outside v o))
 
     same : (u v : ℕ) → IsTrue (has (reached t) u) → IsTrue (has (reached t) v) → IsSome (link g.network.links u v) → has R u ≡ has R v
     same u v hu hv linked =
         let vertices = linked-vertices g.network u v graph.instance linked in
-        both (has R u) (has R v) (λ h. closed u v h linked (off v hv vertices.1)) (λ h. closed v u h (subst (λ (o : Option ℕ). IsSome o) (link-comm g.network.links u v) linked) (off u hu vertices.0))
-      where
-        both : (a b : Bool) → (a ≡ true → b ≡ true) → (b ≡ true → a ≡ true) → a ≡ b
-        both true b to from = sym (to refl)
-        both false true to from = from refl
-        both false false to from = refl
+        same_test (has R u) (has R v) (λ h. closed u v h linked (off v hv vertices.1)) (λ h. closed v u h (subst (λ (o : Option ℕ). IsSome o) (link-comm g.network.links u v) linked) (off u hu vertices.0))
 
 -- and such a set is a wall where nothing is outside
 pub is_wall : (I : Network) (R wall : List ℕ) (c d : ℕ) → IsInstance I → IsClosed I [] R R → IsVertexSet I.n wall → ((v : ℕ) → IsVertex I.n v → has wall v ≡ has R v) → IsVertex I.n c → IsTrue (is_required I c) → IsTrue (has R c) → IsVertex I.n d → IsTrue (is_required I d) → IsFalse (has R d) → IsWall I wall
@@ -120,13 +81,8 @@ is_wall I R wall c d instance closed set same c_vertex c_required c_in d_vertex 
   outside = (d, d_vertex, d_required, same d d_vertex ∙ d_out);
   uncrossed = λ u v linked.
       let vertices = linked-vertices I u v instance linked in
-      same u vertices.0 ∙ (both (has R u) (has R v) (λ h. closed u v h linked refl) (λ h. closed v u h (subst (λ (o : Option ℕ). IsSome o) (link-comm I.links u v) linked) refl) ∙ sym (same v vertices.1));
+      same u vertices.0 ∙ (same_test (has R u) (has R v) (λ h. closed u v h linked refl) (λ h. closed v u h (subst (λ (o : Option ℕ). IsSome o) (link-comm I.links u v) linked) refl) ∙ sym (same v vertices.1));
 }
-  where
-    both : (a b : Bool) → (a ≡ true → b ≡ true) → (b ≡ true → a ≡ true) → a ≡ b
-    both true b to from = sym (to refl)
-    both false true to from = from refl
-    both false false to from = refl
 
 -- a vertex alone is a tree where no vertex is required
 pub first_alone : (I : Network) → IsInstance I → ((v : ℕ) → IsVertex I.n v → IsTrue (is_required I v) → ⊥) → IsTree I (record { start = 1; arcs = [] })
@@ -138,11 +94,8 @@ first_alone I instance free = record {
 -- a vertex alone that is open belongs to a branch that holds no vertex for certain
 pub alone_belongs : (g : Graph) (B : Branch) (out : List ℕ) (v : ℕ) → IsBranch g.network B → ((w : ℕ) → IsVertex g.network.n w → has out w ≡ has B.outside w) → NoneIsCertain g.network B → IsVertex g.network.n v → IsOpen g out v → Belongs B (record { start = v; arcs = [] })
 alone_belongs g B out v branch same free vertex here = record {
-  inside = λ w h. absurd (clash (certain_inside g.network B w h) (free w (at_member (IsVertex g.network.n) B.inside w (recursion_from_All _ B.inside branch.inside.in_range) h)));
-  outside = λ w h. not_true (has (v ∷ []) w) (λ there. elim (eqb_tells v w) [
-    | inl e ↦ clash (subst (λ x. IsTrue (has B.outside x)) (sym e.1) h) (sym (same v vertex) ∙ here.inside)
-    | inr e ↦ let none : (false || false) ≡ true = rw e.0 at there in false≢true none
-  ]);
+  inside = λ w h. absurd (clash (certain_inside g.network B w h) (free w (IsVertexSet-member g.network.n B.inside w branch.inside h)));
+  outside = λ w h. false_from_ne_true (has (v ∷ []) w) (λ there. clash (subst (λ x. IsTrue (has B.outside x)) (sym (has-one v w there)) h) (sym (same v vertex) ∙ here.inside));
 }
 
 -- the start of a tree of the branch is open
@@ -150,7 +103,7 @@ pub start_open : (g : Graph) (B : Branch) (out : List ℕ) (t : Tree) → IsGrap
 start_open g B out t graph same belongs present =
     let there = has-reached_from (t.start ∷ []) t.arcs t.start (has-cons_head [] t.start t.start refl) in
     let vertex = in_range g t.start graph (present t.start there) in
-    (vertex, record { present = present t.start there; inside = same t.start vertex ∙ not_true (has B.outside t.start) (λ o. clash there (belongs.outside t.start o)) })
+    (vertex, record { present = present t.start there; inside = same t.start vertex ∙ false_from_ne_true (has B.outside t.start) (λ o. clash there (belongs.outside t.start o)) })
 
 -- of two trees without arcs the one whose start pays more costs no more
 pub dearer_alone : (I : Network) (s t : Tree) → LoneStartsMissTheRest → IsVertex I.n s.start → IsVertex I.n t.start → s.arcs ≡ [] → t.arcs ≡ [] → pays I s.start ≤ pays I t.start → cost I t ≤ cost I s

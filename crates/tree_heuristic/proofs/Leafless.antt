@@ -1,19 +1,18 @@
 -- Where each head and the start are worth their arcs, no leaf is to spare.
 use Rattle.std.proofs.Common.{◌≡◌, ℕ, ◌+◌, ◌<◌, ◌≤◌, Bool, true, false, cond, ◌||◌, inl, inr, List, [], ◌∷◌, refl, sym, ap, subst, ◌∙◌, arith}
 use Rattle.std.specs.Prelude.{◌==◌, IsTrue, IsFalse}
-use Rattle.std.proofs.lemmas.Bool.{or_cases, or_parts, eqb-true, eq-eqb, ltb-false}
-use Rattle.std.proofs.lemmas.List.Elements.{recursion_from_All}
+use Rattle.std.proofs.lemmas.Bool.{or_right, false_from_ne_true, or_cases, or_parts, eqb-true, eq-eqb, ltb-false}
 use Rattle.st_model.specs.declared.branch.Branch.{Branch}
 use Rattle.st_model.specs.declared.tree.Tree.{Tree}
 use Rattle.st_model.specs.Arborescence.{Grows, IsArborescence, IsTree, arc_cost, reached}
 use Rattle.st_model.specs.Branch.{Belongs, IsBranch, is_certain}
 use Rattle.st_model.specs.Lists.{has}
 use Rattle.st_model.specs.Network.{Network, IsInstance, IsVertex, is_required, pays}
-use Rattle.st_model.proofs.Marked.{at_member}
+use Rattle.st_model.proofs.Branches.{IsVertexSet-member}
 use Rattle.st_model.proofs.ThinGrowth.{linked-vertices}
 use Rattle.tree_heuristic.specs.Keeping.{AreWorth, IsPruned, IsStartWorth, is_spare, is_tail, must}
 use Rattle.tree_heuristic.specs.Leaves.{NoLeafToSpare, arcs_at, is_end}
-use Rattle.tree_heuristic.proofs.Cutting.{clash, or_second}
+use Rattle.tree_heuristic.proofs.Found.{clash}
 use Rattle.tree_heuristic.proofs.Trimming.{first_tail}
 
 -- no arc leads from a vertex that is no end
@@ -100,11 +99,7 @@ pruned_tree I B inside old new instance tree is = record {
 pub pruned_belongs : (I : Network) (B : Branch) (inside : List ℕ) (old new : Tree) → IsBranch I B → ((v : ℕ) → v < I.n + 1 → has inside v ≡ has B.inside v) → Belongs B old → IsPruned I inside old new → Belongs B new
 pruned_belongs I B inside old new branch same belongs is = record {
   inside = λ v h.
-      let high = (at_member (IsVertex I.n) B.inside v (recursion_from_All _ B.inside branch.inside.in_range) h).1 in
-      is.keeps v (or_second (is_required I v) (same v (omega arith) ∙ h)) (belongs.inside v h);
-  outside = λ v h. not_true (has (reached new) v) (λ there. clash (is.within v there) (belongs.outside v h));
+      let high = (IsVertexSet-member I.n B.inside v branch.inside h).1 in
+      is.keeps v (or_right (is_required I v) _ (same v (omega arith) ∙ h)) (belongs.inside v h);
+  outside = λ v h. false_from_ne_true (has (reached new) v) (λ there. clash (is.within v there) (belongs.outside v h));
 }
-  where
-    not_true : (b : Bool) → (b ≡ true → ⊥) → b ≡ false
-    not_true true h = absurd (h refl)
-    not_true false h = refl

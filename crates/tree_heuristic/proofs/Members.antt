@@ -1,21 +1,22 @@
 -- Members of a set as an ascending list, and the vertex that pays most.
-use Rattle.std.proofs.Common.{◌≡◌, ℕ, ◌+◌, ◌-◌, Bool, true, false, inl, inr, List, [], ◌∷◌, ◌++◌, length, get_or, refl, sym, subst, ◌∙◌, arith, length-append}
+use Rattle.std.proofs.Common.{◌≡◌, ℕ, ◌+◌, ◌-◌, true, false, inl, inr, List, [], ◌∷◌, ◌++◌, length, get_or, refl, sym, subst, ◌∙◌, arith, length-append}
 use Rattle.std.specs.Prelude.{All, IsTrue, IsFalse}
 use Rattle.std.specs.List.Sorted.{IsStrictlyIncreasing}
 use Rattle.std.proofs.Math.Bool.{or_comm}
-use Rattle.std.proofs.lemmas.Bool.{cases_lt}
+use Rattle.std.proofs.lemmas.Bool.{cases_lt, false_from_ne_true}
 use Rattle.std.proofs.lemmas.Bool.Decides.{eqb_tells}
 use Rattle.std.proofs.lemmas.List.{get_or_append_left, get_or-append_right}
-use Rattle.std.proofs.lemmas.List.Elements.{All-nil, All-push, All-weaker, recursion_from_All}
+use Rattle.std.proofs.lemmas.List.Elements.{All-push, All-weaker}
 use Rattle.st_model.specs.Lists.{has}
 use Rattle.st_model.specs.Network.{IsVertex}
-use Rattle.st_model.proofs.Marked.{has-push, at_member}
+use Rattle.st_model.proofs.Branches.{IsVertexSet-nil, IsVertexSet-member}
+use Rattle.st_model.proofs.Marked.{has-push}
 use Rattle.tree_heuristic.specs.Spreading.{AreFirst}
 
 -- none so far
 pub AreFirst-none : (members : List ℕ) → AreFirst members 0 []
 AreFirst-none members = record {
-  set = record { ascending = λ k h. absurd (omega arith); in_range = All-nil _ };
+  set = IsVertexSet-nil 0;
   same = λ v h. let low = h.0 in let high = h.1 in absurd (omega arith);
 }
 
@@ -61,12 +62,11 @@ AreFirst-skip members last list are off = record {
   same = same;
 }
   where
-    none : (b : Bool) → has list (last + 1) ≡ b → b ≡ false
-    none true h = let high = (at_member (IsVertex last) list (last + 1) (recursion_from_All _ list are.set.in_range) h).1 in absurd (omega arith)
-    none false h = refl
+    none : IsFalse (has list (last + 1))
+    none = false_from_ne_true (has list (last + 1)) (λ h. let high = (IsVertexSet-member last list (last + 1) are.set h).1 in omega arith)
 
     same : (v : ℕ) → IsVertex (last + 1) v → has list v ≡ has members v
     same v h = elim (eqb_tells (last + 1) v) [
-      | inl e ↦ subst (λ w. has list w ≡ has members w) e.1 (none (has list (last + 1)) refl ∙ sym off)
+      | inl e ↦ subst (λ w. has list w ≡ has members w) e.1 (none ∙ sym off)
       | inr e ↦ let low = h.0 in let high = h.1 in let other = e.1 in are.same v (low, omega arith)
     ]

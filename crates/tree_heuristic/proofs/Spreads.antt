@@ -1,37 +1,24 @@
 -- A tree that grows by one arc after another.
-use Rattle.std.proofs.Common.{◌≡◌, ℕ, zero, suc, ◌+◌, ◌≤◌, Bool, true, false, cond, ◌||◌, inl, inr, List, [], ◌∷◌, ◌++◌, length, take, Some, IsSome, refl, sym, ap, subst, ◌∙◌, arith}
+use Rattle.std.proofs.Common.{◌≡◌, ℕ, zero, suc, ◌+◌, ◌≤◌, Bool, true, false, ◌||◌, inl, inr, List, [], ◌∷◌, ◌++◌, length, take, IsSome, refl, sym, ap, subst, ◌∙◌, arith}
 use Rattle.std.specs.Prelude.{◌==◌, IsTrue, IsFalse}
-use Rattle.std.specs.List.{AllByRecursion}
 use Rattle.std.proofs.Math.Bool.{or_comm}
-use Rattle.std.proofs.lemmas.Bool.{or_cases, eqb-true, false≢true}
-use Rattle.std.proofs.lemmas.Bool.Decides.{nat_tests, eqb_tells}
+use Rattle.std.proofs.lemmas.Bool.{or_right, or_cases, both_ways, eqb-true, false≢true}
+use Rattle.std.proofs.lemmas.Bool.Decides.{nat_tests}
 use Rattle.std.proofs.lemmas.List.{length-take, take-append-le}
 use Rattle.std.proofs.Math.Seq.{take-length}
 use Rattle.std.proofs.lemmas.List.Elements.{All-nil, All-push, All-weaker, recursion_from_All}
-use Rattle.st_model.specs.declared.link.Link.{Link}
 use Rattle.st_model.specs.Lists.{has}
-use Rattle.st_model.specs.Network.{joins, link}
+use Rattle.st_model.specs.Network.{link}
 use Rattle.st_model.specs.Growth.{reaches}
-use Rattle.st_model.proofs.Distinct.{joins-ends}
 use Rattle.st_model.proofs.Judging.{reached_from-append}
+use Rattle.st_model.proofs.Links.{linked_ends}
 use Rattle.st_model.proofs.Marked.{has-push}
+use Rattle.st_model.proofs.Members.{has-one}
 use Rattle.st_model.proofs.ThinGrowth.{Grows-push}
 use Rattle.graph_store.specs.declared.half.Half.{Half}
 use Rattle.graph_store.specs.Graph.{Graph, IsGraph, is_in}
 use Rattle.tree_heuristic.specs.declared.spread.Spread.{Spread}
 use Rattle.tree_heuristic.specs.Spreading.{IsOpen, IsSpread, Follows, HasGoneOn}
-
--- what holds of both ends of each link holds of two linked vertices
-linked_ends : (P : ℕ → Type 0) (ls : List Link) (u v : ℕ) → AllByRecursion (λ l. P l.a × P l.b) ls → IsSome (link ls u v) → P u × P v
-linked_ends P [] u v all h = absurd (false≢true h)
-linked_ends P (l ∷ ls) u v all h = by_test (joins l u v) refl h (linked_ends P ls u v all.1)
-  where
-    by_test : (b : Bool) → joins l u v ≡ b → IsSome (cond b (Some l.cost) (link ls u v)) → (IsSome (link ls u v) → P u × P v) → P u × P v
-    by_test true is some rest = elim (joins-ends l u v is) [
-      | inl e ↦ (subst P e.0 all.0.0, subst P e.1 all.0.1)
-      | inr e ↦ (subst P e.1 all.0.1, subst P e.0 all.0.0)
-    ]
-    by_test false is some rest = rest some
 
 -- both ends of a link are present
 pub linked_present : (g : Graph) (u v : ℕ) → IsGraph g → IsSome (link g.network.links u v) → IsTrue (is_in g u) × IsTrue (is_in g v)
@@ -42,15 +29,9 @@ pub IsSpread-start : (g : Graph) (out : List ℕ) (s : Spread) → IsOpen g out 
 IsSpread-start g out s here arcs members count = record {
   grows = rw arcs tt;
   same = λ v. rw (arcs, members) refl;
-  open_only = λ v h. alone v (rw members at h);
+  open_only = λ v h. subst (IsOpen g out) (has-one s.start v (rw members at h)) here;
   count = count;
 }
-  where
-    alone : (v : ℕ) → IsTrue (has (s.start ∷ []) v) → IsOpen g out v
-    alone v h = elim (eqb_tells s.start v) [
-      | inl e ↦ subst (IsOpen g out) e.1 here
-      | inr e ↦ let none : (false || false) ≡ true = rw e.0 at h in absurd (false≢true none)
-    ]
 
 -- the same start, arcs and members
 IsSpread-same : (g : Graph) (out : List ℕ) (old new : Spread) → IsSpread g out old → new.start ≡ old.start → new.arcs.items ≡ old.arcs.items → new.reached.members ≡ old.reached.members → new.reached.count ≡ old.reached.count → IsSpread g out new
@@ -104,15 +85,8 @@ gone_on_more g out old mid new halves half tail graph on from linked f = by_case
         has_take (x ∷ xs) zero v h = absurd (false≢true h)
         has_take (x ∷ xs) (suc k) v h = elim (or_cases (x == v) (has (take k xs) v) h) [
           | inl e ↦ rw e refl
-          | inr e ↦ later (x == v) (has_take xs k v e)
+          | inr e ↦ or_right (x == v) (has xs v) (has_take xs k v e)
         ]
-          where
-            later : (b : Bool) → IsTrue (has xs v) → (b || has xs v) ≡ true
-            later true h = refl
-            later false h = h
-
-    not_there : (b : Bool) → b ≡ true → b ≡ false → ⊥
-    not_there b yes_ no_ = false≢true (sym no_ ∙ yes_)
 
     stays : (has out half.to || has mid.reached.members half.to) ≡ true → (IsFalse (has out half.to) → IsTrue (has mid.reached.members half.to)) → HasGoneOn g out old (halves ++ half ∷ []) new
     stays t there =
@@ -126,7 +100,7 @@ gone_on_more g out old mid new halves half tail graph on from linked f = by_case
         }
 
     by_case : (a b : Bool) → has out half.to ≡ a → has mid.reached.members half.to ≡ b → HasGoneOn g out old (halves ++ half ∷ []) new
-    by_case true b o m = stays (rw o refl) (λ off. absurd (not_there (has out half.to) o off))
+    by_case true b o m = stays (rw o refl) (λ off. absurd (both_ways (has out half.to) off o))
     by_case false true o m = stays (rw (o, m) refl) (λ off. m)
     by_case false false o m =
         let t : (has out half.to || has mid.reached.members half.to) ≡ false = rw (o, m) refl in

@@ -1,18 +1,21 @@
 -- A start that is moved on, and the leaves of what is left.
-use Rattle.std.proofs.Common.{◌≡◌, ℕ, Bool, true, false, ◌&&◌, ◌||◌, ◌⊎◌, inl, inr, List, [], ◌∷◌, ◌++◌, reverse, refl, sym, ap, subst, ◌∙◌, arith}
+use Rattle.std.proofs.Common.{◌≡◌, ℕ, Bool, true, false, ◌&&◌, ◌⊎◌, inl, inr, List, [], ◌∷◌, ◌++◌, reverse, refl, sym, ap, subst, ◌∙◌, arith}
 use Rattle.std.specs.Prelude.{◌==◌, IsTrue, IsFalse}
-use Rattle.std.proofs.lemmas.Bool.{or_cases, or_parts, eqb-true, eq-eqb, false≢true}
+use Rattle.std.proofs.lemmas.Bool.{or_right, or_from, and_right, or_parts, eq-eqb, false≢true}
 use Rattle.std.proofs.lemmas.Bool.Decides.{eqb_tells}
 use Rattle.std.proofs.lemmas.List.{reverse-append, reverse-reverse}
 use Rattle.st_model.specs.declared.tree.Tree.{Tree}
 use Rattle.st_model.specs.Arborescence.{Grows, IsArborescence, arc_cost, reached, reached_from}
 use Rattle.st_model.specs.Lists.{has}
 use Rattle.st_model.specs.Network.{Network, IsInstance, IsVertex}
+use Rattle.st_model.proofs.Booleans.{or_left_comm}
 use Rattle.st_model.proofs.Distinct.{has-cons_head}
+use Rattle.st_model.proofs.Members.{has-one}
 use Rattle.st_model.proofs.ThinGrowth.{has-reached_from, linked-vertices}
 use Rattle.tree_heuristic.specs.declared.kept.Kept.{Kept}
 use Rattle.tree_heuristic.specs.Keeping.{AreWorth, IsPruned, IsStartWorth, IsTrimming, is_fork, is_spare, is_tail, tree_of}
-use Rattle.tree_heuristic.proofs.Cutting.{Loses, clash, grows_without, or_second, pruned_more, pruned_none, spare_parts, turned}
+use Rattle.tree_heuristic.proofs.Cutting.{Loses, grows_without, pruned_more, pruned_none, spare_parts, turned}
+use Rattle.tree_heuristic.proofs.Found.{clash}
 
 -- what is a fork is a tail
 fork_tail : (arcs : List (ℕ × ℕ)) (v : ℕ) → IsFalse (is_tail arcs v) → IsFalse (is_fork arcs v)
@@ -23,10 +26,7 @@ fork_tail (arc ∷ arcs) v h =
 
 -- the start of arcs that grow from it alone is the first tail
 pub first_tail : (I : Network) (start : ℕ) (arc : ℕ × ℕ) (arcs : List (ℕ × ℕ)) → Grows I (start ∷ []) (arc ∷ arcs) → start ≡ arc.0
-first_tail I start arc arcs g = elim (or_cases (start == arc.0) false g.1) [
-  | inl e ↦ eqb-true start arc.0 e
-  | inr e ↦ absurd (false≢true e)
-]
+first_tail I start arc arcs g = has-one start arc.0 g.1
 
 -- no other arc leads from a start that is no fork
 lone_tail : (I : Network) (start : ℕ) (arc : ℕ × ℕ) (arcs : List (ℕ × ℕ)) → Grows I (start ∷ []) (arc ∷ arcs) → IsFalse (is_fork (arc ∷ arcs) start) → IsFalse (is_tail arcs start)
@@ -40,16 +40,10 @@ lone_tail I start arc arcs g h =
 
 -- the start is left out
 start_lost : (I : Network) (start : ℕ) (arc : ℕ × ℕ) (arcs : List (ℕ × ℕ)) → Grows I (start ∷ []) (arc ∷ arcs) → IsFalse (is_tail arcs start) → Loses I (arc.1 ∷ []) arcs start (reached_from (start ∷ []) (arc ∷ arcs))
-start_lost I start arc arcs g tails = grows_without I (arc.1 ∷ []) (arc.1 ∷ start ∷ []) arcs start (λ w. swap (arc.1 == w) (start == w)) (rw (turned start arc.1 head) refl) g.3 tails
+start_lost I start arc arcs g tails = grows_without I (arc.1 ∷ []) (arc.1 ∷ start ∷ []) arcs start (λ w. or_left_comm (arc.1 == w) (start == w) false) (rw (turned start arc.1 head) refl) g.3 tails
   where
     head : (start == arc.1) ≡ false
     head = (or_parts (start == arc.1) false g.2).0
-
-    swap : (a b : Bool) → (a || (b || false)) ≡ (b || (a || false))
-    swap true true = refl
-    swap true false = refl
-    swap false true = refl
-    swap false false = refl
 
 -- at first
 pub trimming_none : (I : Network) (inside : List ℕ) (k : Kept) → IsArborescence I (tree_of k) → AreWorth I inside (reverse k.arcs.items) → ((v : ℕ) → has k.forks.members v ≡ is_fork (reverse k.arcs.items) v) → IsTrimming I inside (tree_of k) k
@@ -83,7 +77,7 @@ trimmed I inside t old new arc instance on taken leaf spare start forks =
   where
     fork : (v : ℕ) → IsTrue (has (reached_from (new.start ∷ []) (reverse new.arcs.items)) v) → (IsTrue (has (reached_from (old.start ∷ []) (reverse old.arcs.items)) v) → has old.forks.members v ≡ is_fork (reverse old.arcs.items) v) → reverse old.arcs.items ≡ arc ∷ reverse new.arcs.items → Loses I (new.start ∷ []) (reverse new.arcs.items) old.start (reached_from (old.start ∷ []) (arc ∷ reverse new.arcs.items)) → old.start ≡ arc.0 → has new.forks.members v ≡ is_fork (reverse new.arcs.items) v
     fork v h before whole loses first =
-        let there : IsTrue (has (reached_from (old.start ∷ []) (reverse old.arcs.items)) v) = ap (λ l. has (reached_from (old.start ∷ []) l) v) whole ∙ (loses.reached v ∙ or_second (old.start == v) h) in
+        let there : IsTrue (has (reached_from (old.start ∷ []) (reverse old.arcs.items)) v) = ap (λ l. has (reached_from (old.start ∷ []) l) v) whole ∙ (loses.reached v ∙ or_right (old.start == v) _ h) in
         let other : (old.start == v) ≡ false = elim (eqb_tells old.start v) [
           | inl e ↦ absurd (clash (subst (λ w. IsTrue (has (reached_from (new.start ∷ []) (reverse new.arcs.items)) w)) (sym e.1) h) loses.absent)
           | inr e ↦ e.0
@@ -108,8 +102,4 @@ trimmed_end I inside t k on stop = by_list (reverse k.arcs.items) refl
         turned_round = reverse-append (arc ∷ []) K
 
         none : IsFalse (is_tail K k.start) → IsFalse (is_fork (arc ∷ K) k.start)
-        none lone = rw (lone, fork_tail K k.start lone) (either (arc.0 == k.start))
-          where
-            either : (b : Bool) → ((b && false) || false) ≡ false
-            either true = refl
-            either false = refl
+        none lone = rw (lone, fork_tail K k.start lone) (or_from ((arc.0 == k.start) && false) false (and_right (arc.0 == k.start) false refl) refl)

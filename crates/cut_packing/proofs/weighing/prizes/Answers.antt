@@ -1,5 +1,5 @@
 use Rattle.std.proofs.Common.{ap, arith}
-use Rattle.cut_packing.proofs.Sums.{total_more}
+use Rattle.st_model.proofs.Costs.{total_more}
 use Rattle.st_model.specs.Network.{pays, prize}
 use Rattle.cut_packing.proofs.weighing.prizes.Goals as goal
 use Rattle.cut_packing.proofs.weighing.prizes.Goals.{in-Pays, in_default}

@@ -1,5 +1,5 @@
 use Rattle.std.proofs.Common.{ap, arith}
-use Rattle.cut_packing.proofs.Sums.{total_more}
+use Rattle.st_model.proofs.Costs.{total_more}
 use Rattle.cut_packing.proofs.weighing.values.Goals as goal
 
 pub loop-cut-preserved : goal.loop-cut-preserved
