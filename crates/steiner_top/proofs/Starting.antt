@@ -1,18 +1,19 @@
 -- The first tree of an instance that has one.
-use Rattle.std.proofs.Common.{◌≡◌, ◌≤◌, ◌-◌, eqb, ℕ, Bool, true, false, List, [], ◌∷◌, length, Option, Some, None, refl, sym, subst, ap₂, arith, replicate}
+use Rattle.std.proofs.Common.{◌≡◌, ◌≤◌, ◌-◌, eqb, ℕ, true, false, List, [], Option, Some, None, refl, sym, subst, ap₂, arith, replicate}
 use Rattle.st_model.specs.declared.branch.Branch.{Branch}
-use Rattle.std.specs.Prelude.{All, IfSome, IfNone, IsTrue, IsSome, OnSome, ◌==◌}
+use Rattle.std.specs.Prelude.{IfSome, IfNone, IsTrue}
 use Rattle.std.proofs.lemmas.Bool.Decides.{nat_tests}
-use Rattle.std.proofs.lemmas.Bool.{eqb-true}
 use Rattle.std.proofs.lemmas.List.{get_or-replicate}
 use Rattle.st_model.specs.declared.tree.Tree.{Tree}
-use Rattle.st_model.specs.Lists.{has, sum_to}
-use Rattle.st_model.specs.Network.{Network, IsInstance, IsLinkBetween, IsVertex, link, pays}
-use Rattle.st_model.specs.Arborescence.{Grows, IsArborescence, IsTree, cost, reached, reached_from}
+use Rattle.st_model.specs.Lists.{sum_to}
+use Rattle.st_model.specs.Network.{Network, IsInstance, IsVertex, pays}
+use Rattle.st_model.specs.Arborescence.{IsTree, cost}
 use Rattle.st_model.specs.Branch.{Belongs, IsVertexSet}
 use Rattle.st_model.specs.Laws.{LoneStartsMissTheRest}
 use Rattle.st_model.specs.Wall.{IsWall}
-use Rattle.st_model.proofs.Links.{linked_in_range}
+use Rattle.st_model.proofs.Members.{length-has}
+use Rattle.st_model.proofs.Reaching.{tree-vertex}
+use Rattle.log_format.proofs.AllTrees.{belongs_to_all}
 use Rattle.log_format.specs.Accepts.{all_trees}
 use Rattle.log_format.specs.Text.{IsWritableSet}
 use Rattle.graph_store.specs.Graph.{Graph, is_in}
@@ -20,45 +21,12 @@ use Rattle.split_search.specs.Searched.{IsNobodyRequired}
 use Rattle.split_search.proofs.Writing.{any_vertex}
 use Rattle.tree_heuristic.specs.Reaching.{ReachesPresent, NoneIsCertain}
 
--- false isn't true
-false_true : {A : Type 0} → IsTrue false → A
-false_true h = absurd cc
-
--- a list with a member has a length
-has_length : (xs : List ℕ) (v : ℕ) → IsTrue (has xs v) → 1 ≤ length xs
-has_length [] v h = false_true h
-has_length (x ∷ xs) v h = omega arith
-
 -- a wall can be written
 pub writable_wall : (I : Network) (wall : List ℕ) → IsInstance I → IsVertexSet I.n wall → IsWall I wall → IsWritableSet wall
 writable_wall I wall is set h = record {
-  some = has_length wall h.inside.0 h.inside.3;
+  some = length-has wall h.inside.0 h.inside.3;
   vertices = record { ascending = set.ascending; in_range = λ i d lt. any_vertex I _ is (set.in_range i d lt) };
 }
-
--- ---- what a tree reaches
-
-on_is_some : {X : Type 0} (o : Option X) (P : Type 0) → IsSome o → OnSome o P → P
-on_is_some (Some x) P is h = h
-on_is_some None P is h = false_true is
-
--- a head that joins vertices in range leaves them so
-one_more : (n b w : ℕ) (r : List ℕ) → IsVertex n b → ((v : ℕ) → IsTrue (has r v) → IsVertex n v) → IsTrue (has (b ∷ r) w) → IsVertex n w
-one_more n b w r head ok h = by_case (b == w) refl
-  where
-    by_case : (c : Bool) → (b == w) ≡ c → IsVertex n w
-    by_case true e = subst (λ v. IsVertex n v) (eqb-true b w e) head
-    by_case false e = ok w (rw (e) at h)
-
-grown_in_range : (I : Network) (r : List ℕ) (arcs : List (ℕ × ℕ)) → All (IsLinkBetween I.n) I.links → Grows I r arcs → ((v : ℕ) → IsTrue (has r v) → IsVertex I.n v) → (v : ℕ) → IsTrue (has (reached_from r arcs) v) → IsVertex I.n v
-grown_in_range I r [] ends g ok v h = ok v h
-grown_in_range I r ((a, b) ∷ arcs) ends g ok v h =
-    let head : IsVertex I.n b = (on_is_some (link I.links a b) (IsVertex I.n a × IsVertex I.n b) g.0 (linked_in_range I.n I.links a b ends)).1 in
-    grown_in_range I (b ∷ r) arcs ends g.3 (λ w k. one_more I.n b w r head ok k) v h
-
--- what a tree reaches are vertices
-reached_in_range : (I : Network) (t : Tree) → IsInstance I → IsArborescence I t → (v : ℕ) → IsTrue (has (reached t) v) → IsVertex I.n v
-reached_in_range I t is a = grown_in_range I (t.start ∷ []) t.arcs is.ends a.grows (λ w h. one_more I.n t.start w [] a.start (λ u k. false_true k) h)
 
 -- the graph of an instance, all of whose vertices are present
 abbrev whole : Network → Graph
@@ -71,11 +39,7 @@ present_in_range I v h =
 
 -- each tree of the instance reaches present vertices alone
 pub reaches_present : (I : Network) (t : Tree) → IsInstance I → IsTree I t → ReachesPresent (whole I) t
-reaches_present I t is h v r = present_in_range I v (reached_in_range I t is h.arborescence v r)
-
--- each tree belongs to the branch of all trees
-pub belongs_to_all : (t : Tree) → Belongs all_trees t
-belongs_to_all t = record { inside = λ v h. false_true h; outside = λ v h. false_true h }
+reaches_present I t is h v r = present_in_range I v (tree-vertex I t v is h.arborescence r)
 
 -- a tree no dearer than the first vertex alone costs at most all prizes
 pub cheap_start : (I : Network) (t : Tree) → IsInstance I → LoneStartsMissTheRest
@@ -90,7 +54,7 @@ cheap_start I t is law least nobody = omega (arith, least none first refl (belon
     first = record { start = 1; arcs = [] }
 
     alone : ReachesPresent (whole I) first
-    alone v h = present_in_range I v (one_more I.n 1 v [] vertex (λ u k. false_true k) h)
+    alone v h = present_in_range I v (tree-vertex I first v is (record { start = vertex; grows = tt }) h)
 
     none : NoneIsCertain I all_trees
     none v h = rw (nobody v h) refl
