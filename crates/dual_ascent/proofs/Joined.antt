@@ -8,6 +8,7 @@ use Rattle.st_model.specs.declared.branch.Branch.{Branch}
 use Rattle.st_model.specs.Lists.{has}
 use Rattle.st_model.specs.Network.{Network, IsVertex, link, pays}
 use Rattle.st_model.specs.Branch.{is_present, is_certain}
+use Rattle.st_model.proofs.Sums.{total-append}
 use Rattle.graph_store.specs.Graph.{Graph, IsGraph}
 use Rattle.bidirected_form.specs.declared.kind.VertexKind.TheVariants.{Must}
 use Rattle.bidirected_form.specs.Bidirected.{is_open, arc_cost}
@@ -17,7 +18,6 @@ use Rattle.cut_packing.specs.declared.cut.Cut.{Cut}
 use Rattle.cut_packing.specs.declared.packing.Packing.{Packing}
 use Rattle.cut_packing.specs.Packing.{load, named, IsRoot, CutFits, PrizesFit, Fits, weight}
 use Rattle.cut_packing.specs.Full.{IsUsedUp, IsReached, IsFull, here as at_root, there as along}
-use Rattle.cut_packing.proofs.Sums.{total-append}
 use Rattle.dual_ascent.specs.Left.{raised}
 use Rattle.dual_ascent.specs.Raises.{IsUsedUp as HasNothingLeft, Reaches, here, there, IsOpen, IsRaise}
 use Rattle.dual_ascent.specs.Ascent.{ReachesAll}

@@ -8,7 +8,7 @@ use Rattle.bidirected_form.specs.declared.arc.Arc.{Arc}
 use Rattle.bidirected_form.specs.declared.kind.VertexKind.TheVariants.{Must}
 use Rattle.bidirected_form.specs.Digraph.{Digraph, kind_of, remaining}
 use Rattle.bidirected_form.specs.Entering.{enters}
-use Rattle.prize_transform.specs.Twins.{Ends, Charges, left_of}
+use Rattle.prize_transform.specs.Twins.{Ends, left_of}
 use Rattle.cut_packing.specs.declared.cut.Cut.{Cut}
 use Rattle.dual_ascent.specs.declared.growing.Growth.{Growth}
 use Rattle.dual_ascent.specs.declared.turning.Turn.{Turn}
@@ -78,11 +78,6 @@ pub record IsTurn (D : Digraph) (cuts : List Cut) (members : List ℕ) (old new 
   pub waiting : IsWaiting D cuts t.waiting
   pub waited : KeepsWaiting D cuts old (record { 0 = t.waiting } ∷ new)
   pub looked : IsLooked D members t.waiting.vertex t.is_reached
-
--- the cut's value is taken from the prize of its q, where that may be left out
-pub record Spends (D : Digraph) (old new : Ends) (c : Cut) : Type 0 where
-  pub must : kind_of D c.q ≡ Must → new ≡ old
-  pub may : kind_of D c.q ≢ Must → Charges old new c.q c.y
 
 -- some arc that enters the set has so much left
 pub record HasAnArcLeft (D : Digraph) (set : List ℕ) (y : ℕ) : Type 0 where

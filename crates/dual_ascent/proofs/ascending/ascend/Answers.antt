@@ -1,7 +1,8 @@
-use Rattle.std.proofs.Common.{◌≡◌, ◌∷◌, length, Some, ap, refl, subst, arith}
+use Rattle.std.proofs.Common.{◌≡◌, [], ◌∷◌, length, Some, ap, refl, subst, arith}
 use Rattle.std.specs.BinaryHeap.{heap_items}
 use Rattle.std.proofs.lemmas.List.Sorted.{IsPermutation-refl}
 use Rattle.dual_ascent.specs.Turns.{AreWaiting}
+use Rattle.dual_ascent.proofs.Fresh.{raise_borne, raise_paid}
 use Rattle.dual_ascent.proofs.Queued.{growth_still, none_waiting, waiting_past, waiting_again}
 use Rattle.dual_ascent.proofs.SoFar.{one_more, ends_now, ends_full}
 use Rattle.dual_ascent.proofs.ascending.ascend.Goals as goal
@@ -39,8 +40,19 @@ loop-room-preserved-in_default-2 c =
       growth = c.in_ok-turn.ensures.growth;
     }
 
-pub charge-requires-clause-ends : goal.charge-requires-clause-ends
-charge-requires-clause-ends c = ends_now c.args.arcs.now c.loop-room.arcs c.args.twins.now c.loop-room.twins c.args.target c.loop-room.room c.loop-room.cuts.items c.loop-room.invariant.so_far c.requires
+pub charge_cut-requires-clause-set : goal.charge_cut-requires-clause-set
+charge_cut-requires-clause-set c = (rw c.in-Some-2.is at c.in_ok-raise.ensures).0.set
+
+pub charge_cut-requires-clause-root : goal.charge_cut-requires-clause-root
+charge_cut-requires-clause-root c = (rw c.in-Some-2.is at c.in_ok-raise.ensures).0.apart
+
+pub charge_cut-requires-clause-enough : goal.charge_cut-requires-clause-enough
+charge_cut-requires-clause-enough c = raise_borne c.loop-room.arcs c.loop-room.twins c.loop-room.room c.in-Some-2.raise.cut (rw c.in-Some-2.is at c.in_ok-raise.ensures).0
+
+pub charge_cut-requires-clause-prize : goal.charge_cut-requires-clause-prize
+charge_cut-requires-clause-prize c =
+    let ends = ends_now c.args.arcs.now c.loop-room.arcs c.args.twins.now c.loop-room.twins c.args.target c.loop-room.room c.loop-room.cuts.items c.loop-room.invariant.so_far c.requires in
+    raise_paid c.loop-room.arcs c.loop-room.twins c.loop-room.room c.in-Some-2.raise.cut ends (rw c.in-Some-2.is at c.in_ok-raise.ensures).0
 
 pub loop-room-preserved : goal.loop-room-preserved
 loop-room-preserved c =
@@ -53,7 +65,7 @@ loop-room-preserved c =
     let rest = heap_items c.next_fresh.new.queue in
     let last : c.len.result ≡ length cuts = omega (arith, c.len.ensures, c.loop-room.cuts.ok.0) in
     record {
-      so_far = rw c.in_ok-push-2.ensures.items (one_more c.args.arcs.now D' c.args.twins.now E' c.args.target c.loop-room.room cuts c.loop-room.invariant.so_far c.charge.new.arcs c.charge.new.twins cut raise.0 c.requires c.charge.ensures.arcs c.charge.ensures.ends);
-      waiting = rw c.in_ok-push-2.ensures.items (waiting_again D' c.charge.new.arcs E' c.charge.new.twins c.loop-room.room cuts (record { 0 = c.in-Some.turn.waiting } ∷ rest) rest (heap_items c.push.new.self) _ _ cut (IsPermutation-refl _) raise.0 raise.1 c.charge.ensures.arcs c.charge.ensures.ends c.in_ok-push.ensures.permutation refl (ap Some last) (turn.waited E' c.loop-room.invariant.waiting));
-      growth = growth_still D' c.charge.new.arcs cut.set cut.y c.next_fresh.new.growth c.charge.ensures.arcs c.in_ok-turn.ensures.growth;
+      so_far = rw c.in_ok-push-2.ensures.items (one_more c.args.arcs.now D' c.args.twins.now E' c.args.target c.loop-room.room cuts c.loop-room.invariant.so_far c.charge_cut.new.arcs c.charge_cut.new.twins cut raise.0 c.charge_cut.ensures.arcs c.charge_cut.ensures.ends);
+      waiting = rw c.in_ok-push-2.ensures.items (waiting_again D' c.charge_cut.new.arcs E' c.charge_cut.new.twins c.loop-room.room cuts (record { 0 = c.in-Some.turn.waiting } ∷ rest) rest (heap_items c.push.new.self) _ _ cut (IsPermutation-refl _) raise.0 raise.1 c.charge_cut.ensures.arcs c.charge_cut.ensures.ends c.in_ok-push.ensures.permutation refl (ap Some last) (turn.waited E' c.loop-room.invariant.waiting));
+      growth = growth_still D' c.charge_cut.new.arcs (cut ∷ []) c.next_fresh.new.growth c.charge_cut.ensures.arcs c.in_ok-turn.ensures.growth;
     }
