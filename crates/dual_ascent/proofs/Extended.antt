@@ -25,7 +25,7 @@ use Rattle.dual_ascent.specs.Extension.{IsStart, IsRootFor, IsExtended, IsExtens
 use Rattle.dual_ascent.specs.Laws.{joined, IsRaised}
 use Rattle.dual_ascent.proofs.ChargedCuts.{lowered_twice}
 use Rattle.dual_ascent.proofs.OpenVertices.{open_vertex, open_present, open_in_range, must_certain, may_free}
-use Rattle.dual_ascent.proofs.Raised.{raises_sets}
+use Rattle.dual_ascent.proofs.Raised.{raises_sets, raises_sum}
 use Rattle.dual_ascent.proofs.Joined.{packed_apart, together_fit, joined_full}
 
 -- cuts that all name other vertices don't name v
@@ -102,7 +102,7 @@ module _ (g : Graph) (B : Branch) (P : Packing) (root : ℕ) (graph : IsGraph g)
     }
 
     pub extended_reached : (new : Packing) → new ≡ joined P A → length new.cuts < 2 ^ 64 → target ≤ raised A.cuts → IsExtension g.network B P root target (Reached new)
-    extended_reached new same few reached = rw same (both_extend (rw same at few), omega (arith, both_fit.1, reached))
+    extended_reached new same few reached = rw same (both_extend (rw same at few), omega (arith, both_fit.1, reached), omega (arith, both_fit.1, raises_sum D E target A.cuts ascended.cuts))
 
     pub extended_full : (new : Packing) → new ≡ joined P A → length new.cuts < 2 ^ 64 → raised A.cuts < target → ReachesAll D E A.cuts → IsExtension g.network B P root target (Full new)
     extended_full new same few below all = rw same (both_extend (rw same at few), omega (arith, both_fit.1, below), joined_full g B P D E target A raised_is all)
