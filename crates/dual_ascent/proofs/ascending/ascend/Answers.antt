@@ -12,20 +12,20 @@ returns-in_default c =
     let D = c.args.arcs.now in
     let D' = c.loop-room.arcs in
     let cuts = c.loop-room.cuts.items in
-    let waiting = subst (AreWaiting D' c.loop-room.twins cuts) (rw c.in_default.is at c.in_ok-turn.ensures.empty) c.loop-room.invariant.waiting in
+    let waiting = subst (AreWaiting D' c.loop-room.twins cuts) (rw c.in_default.is at c.in_ok-turn.ensures.turn) c.loop-room.invariant.waiting in
     ends_full D D' c.args.twins.now c.loop-room.twins c.args.target c.loop-room.room cuts c.loop-room.invariant.so_far c.packing.result (rw c.root.ensures.root at c.packing.ensures) c.ranges.target.fits c.loop-room-test.true (none_waiting D' c.loop-room.twins cuts waiting)
 
 pub next_fresh-requires-clause-waiting : goal.next_fresh-requires-clause-waiting
 next_fresh-requires-clause-waiting c = rw c.deref.ensures.value c.loop-room.invariant.waiting.each
 
 pub raise_for-requires-clause-vertex : goal.raise_for-requires-clause-vertex
-raise_for-requires-clause-vertex c = (rw c.in-Some.is at c.in_ok-turn.ensures.turn).waiting.in_range
+raise_for-requires-clause-vertex c = (rw c.in-Some.is at c.in_ok-turn.ensures.turn).0.waiting.in_range
 
 pub raise_for-requires-clause-in_range : goal.raise_for-requires-clause-in_range
 raise_for-requires-clause-in_range c = c.in_ok-turn.ensures.growth.in_range
 
 pub raise_for-requires-clause-looked : goal.raise_for-requires-clause-looked
-raise_for-requires-clause-looked c = (rw c.in-Some.is at c.in_ok-turn.ensures.turn).looked
+raise_for-requires-clause-looked c = (rw c.in-Some.is at c.in_ok-turn.ensures.turn).0.looked
 
 pub loop-room-preserved-in_default-2 : goal.loop-room-preserved-in_default-2
 loop-room-preserved-in_default-2 c =
@@ -33,7 +33,7 @@ loop-room-preserved-in_default-2 c =
     let E' = c.loop-room.twins in
     let cuts = c.loop-room.cuts.items in
     let rest = heap_items c.next_fresh.new.queue in
-    let turn = rw c.deref.ensures.value at (rw c.in-Some.is at c.in_ok-turn.ensures.turn) in
+    let turn = (rw c.deref.ensures.value at (rw c.in-Some.is at c.in_ok-turn.ensures.turn)).0 in
     record {
       so_far = c.loop-room.invariant.so_far;
       waiting = waiting_past D' E' cuts (record { 0 = c.in-Some.turn.waiting } ∷ rest) rest (record { 0 = c.in-Some.turn.waiting }) (IsPermutation-refl _) (rw c.in_default-2.is at c.in_ok-raise.ensures) (turn.waited E' c.loop-room.invariant.waiting);
@@ -61,7 +61,7 @@ loop-room-preserved c =
     let cuts = c.loop-room.cuts.items in
     let cut = c.in-Some-2.raise.cut in
     let raise = rw c.in-Some-2.is at c.in_ok-raise.ensures in
-    let turn = rw c.deref.ensures.value at (rw c.in-Some.is at c.in_ok-turn.ensures.turn) in
+    let turn = (rw c.deref.ensures.value at (rw c.in-Some.is at c.in_ok-turn.ensures.turn)).0 in
     let rest = heap_items c.next_fresh.new.queue in
     let last : c.len.result ≡ length cuts = omega (arith, c.len.ensures, c.loop-room.cuts.ok.0) in
     record {
