@@ -80,20 +80,16 @@ all_listed D E k queue digraph ends all h = record {
   others = λ v open_at. inl (h.listed v (omega (arith, all, (open_in_range D E v digraph ends open_at).1)) open_at);
 }
 
--- the one whose turn it is waits
-pub waiting_next : (D : Digraph) (E : Ends) (cuts : List Cut) (queue rest : List Entry) (e : Entry) → IsPermutation queue (e ∷ rest) → AreWaiting D E cuts queue → IsWaiting D cuts e.0
-waiting_next D E cuts queue rest e moved h = All-head (λ (x : Entry). IsWaiting D cuts x.0) e rest (All-permutation (λ (x : Entry). IsWaiting D cuts x.0) queue (e ∷ rest) moved h.each)
-
--- it has its turn and is passed over
-pub waiting_past : (D : Digraph) (E : Ends) (cuts : List Cut) (queue rest : List Entry) (e : Entry) → IsPermutation queue (e ∷ rest) → (IsOpen D E [] e.0.vertex → Reaches D [] e.0.vertex D.root) → AreWaiting D E cuts queue → AreWaiting D E cuts rest
-waiting_past D E cuts queue rest e moved done h = record {
-  each = All-tail (λ (x : Entry). IsWaiting D cuts x.0) e rest (All-permutation (λ (x : Entry). IsWaiting D cuts x.0) queue (e ∷ rest) moved h.each);
+-- the first one has its turn and is passed over
+pub waiting_past : (D : Digraph) (E : Ends) (cuts : List Cut) (rest : List Entry) (e : Entry) → (IsOpen D E [] e.0.vertex → Reaches D [] e.0.vertex D.root) → AreWaiting D E cuts (e ∷ rest) → AreWaiting D E cuts rest
+waiting_past D E cuts rest e done h = record {
+  each = All-tail (λ (x : Entry). IsWaiting D cuts x.0) e rest h.each;
   others = λ v open_at. elim (h.others v open_at) [ inl waiting ↦ still v open_at waiting | inr reached ↦ inr reached ];
 }
   where
-    still : (v : ℕ) → IsOpen D E [] v → IsTrue (waits queue v) → IsTrue (waits rest v) ⊎ Reaches D [] v D.root
+    still : (v : ℕ) → IsOpen D E [] v → IsTrue (waits (e ∷ rest) v) → IsTrue (waits rest v) ⊎ Reaches D [] v D.root
     still v open_at waiting =
-        elim (or_cases (e.0.vertex == v) (waits rest v) (sym (list_any-IsPermutation (λ (x : Entry). x.0.vertex == v) queue (e ∷ rest) moved) ∙ waiting)) [
+        elim (or_cases (e.0.vertex == v) (waits rest v) waiting) [
           | inl same ↦ let is = eqb-true e.0.vertex v same in inr (subst (λ (w : ℕ). Reaches D [] w D.root) is (done (subst (IsOpen D E []) (sym is) open_at)))
           | inr there ↦ inl there
         ]
@@ -117,10 +113,10 @@ open_before : (D : Digraph) (E : Ends) (cuts : List Cut) (v : ℕ) → IsOpen D 
 open_before D E cuts v (inl must) = inl must
 open_before D E cuts v (inr left) = inr (omega (arith, left))
 
--- it has its turn, is raised, and waits again
-pub waiting_again : (D D' : Digraph) (E E' : Ends) (room : ℕ) (cuts : List Cut) (queue rest queue' : List Entry) (e e' : Entry) (c : Cut) → IsPermutation queue (e ∷ rest) → IsRaise D E room [] c → c.q ≡ e.0.vertex → AreLowered D D' (c ∷ []) → AreSpent E E' (c ∷ [])
-    → IsPermutation (e' ∷ rest) queue' → e'.0.vertex ≡ e.0.vertex → e'.0.last ≡ Some (length cuts) → AreWaiting D E cuts queue → AreWaiting D' E' (cuts ++ c ∷ []) queue'
-waiting_again D D' E E' room cuts queue rest queue' e e' c popped raise q lowered spent pushed vertex last h = record {
+-- the first one has its turn, is raised, and waits again
+pub waiting_again : (D D' : Digraph) (E E' : Ends) (room : ℕ) (cuts : List Cut) (rest queue' : List Entry) (e e' : Entry) (c : Cut) → IsRaise D E room [] c → c.q ≡ e.0.vertex → AreLowered D D' (c ∷ []) → AreSpent E E' (c ∷ [])
+    → IsPermutation (e' ∷ rest) queue' → e'.0.vertex ≡ e.0.vertex → e'.0.last ≡ Some (length cuts) → AreWaiting D E cuts (e ∷ rest) → AreWaiting D' E' (cuts ++ c ∷ []) queue'
+waiting_again D D' E E' room cuts rest queue' e e' c raise q lowered spent pushed vertex last h = record {
   each = All-permutation (λ (x : Entry). IsWaiting D' (cuts ++ c ∷ []) x.0) (e' ∷ rest) queue' pushed (All-cons (λ (x : Entry). IsWaiting D' (cuts ++ c ∷ []) x.0) e' rest new (All-weaker (λ (x : Entry). IsWaiting D cuts x.0) (λ (x : Entry). IsWaiting D' (cuts ++ c ∷ []) x.0) (λ x. still x.0) rest rest_before));
   others = λ v open_at. elim (h.others v (open_before D E (c ∷ []) v (open_behind D D' E E' (c ∷ []) lowered spent v open_at))) [ inl waiting ↦ inl (same_wait v ∙ waiting) | inr reached ↦ inr (subst (Reaches D' [] v) (sym lowered.root) (more v D.root reached)) ];
 }
@@ -128,11 +124,8 @@ waiting_again D D' E E' room cuts queue rest queue' e e' c popped raise q lowere
     more : (w v : ℕ) → Reaches D [] w v → Reaches D' [] w v
     more = reaches_over D D' [] [] (used_still D D' (c ∷ []) lowered)
 
-    both : All (λ (x : Entry). IsWaiting D cuts x.0) (e ∷ rest)
-    both = All-permutation (λ (x : Entry). IsWaiting D cuts x.0) queue (e ∷ rest) popped h.each
-
     rest_before : All (λ (x : Entry). IsWaiting D cuts x.0) rest
-    rest_before = All-tail (λ (x : Entry). IsWaiting D cuts x.0) e rest both
+    rest_before = All-tail (λ (x : Entry). IsWaiting D cuts x.0) e rest h.each
 
     seeds_still : (w : ℕ) (set : List ℕ) → AreSeeds D w set → AreSeeds D' w set
     seeds_still w set s = record { held = s.held; in_range = subst (λ (n : ℕ). All (IsVertex n) set) (sym lowered.count) s.in_range; reaching = All-weaker (Reaches D [] w) (Reaches D' [] w) (more w) set s.reaching }
@@ -152,13 +145,12 @@ waiting_again D D' E E' room cuts queue rest queue' e e' c popped raise q lowere
 
     new : IsWaiting D' (cuts ++ c ∷ []) e'.0
     new = record {
-      in_range = subst (IsVertex D'.n) (sym vertex) (in_range_still e.0.vertex (All-head (λ (x : Entry). IsWaiting D cuts x.0) e rest both).in_range);
+      in_range = subst (IsVertex D'.n) (sym vertex) (in_range_still e.0.vertex (All-head (λ (x : Entry). IsWaiting D cuts x.0) e rest h.each).in_range);
       seeds = rw last (omega (arith, length_push cuts c), λ d. rw (get_or_push cuts c d (length cuts) refl) seeds_new);
     }
 
-    same_wait : (v : ℕ) → waits queue' v ≡ waits queue v
-    same_wait v =
-        sym (list_any-IsPermutation (λ (x : Entry). x.0.vertex == v) (e' ∷ rest) queue' pushed) ∙ ap (λ (w : ℕ). (w == v) || waits rest v) vertex ∙ sym (list_any-IsPermutation (λ (x : Entry). x.0.vertex == v) queue (e ∷ rest) popped)
+    same_wait : (v : ℕ) → waits queue' v ≡ waits (e ∷ rest) v
+    same_wait v = sym (list_any-IsPermutation (λ (x : Entry). x.0.vertex == v) (e' ∷ rest) queue' pushed) ∙ ap (λ (w : ℕ). (w == v) || waits rest v) vertex
 
 -- where none waits, all that are open are reached
 pub none_waiting : (D : Digraph) (E : Ends) (cuts : List Cut) → AreWaiting D E cuts [] → (v : ℕ) → IsOpen D E [] v → Reaches D [] v D.root

@@ -1,6 +1,5 @@
 use Rattle.std.proofs.Common.{◌≡◌, [], ◌∷◌, length, Some, ap, refl, subst, arith}
 use Rattle.std.specs.BinaryHeap.{heap_items}
-use Rattle.std.proofs.lemmas.List.Sorted.{IsPermutation-refl}
 use Rattle.dual_ascent.specs.Turns.{AreWaiting}
 use Rattle.dual_ascent.proofs.Fresh.{raise_borne, raise_paid}
 use Rattle.dual_ascent.proofs.Queued.{growth_still, none_waiting, waiting_past, waiting_again}
@@ -36,7 +35,7 @@ loop-room-preserved-in_default-2 c =
     let turn = (rw c.deref.ensures.value at (rw c.in-Some.is at c.in_ok-turn.ensures.turn)).0 in
     record {
       so_far = c.loop-room.invariant.so_far;
-      waiting = waiting_past D' E' cuts (record { 0 = c.in-Some.turn.waiting } ∷ rest) rest (record { 0 = c.in-Some.turn.waiting }) (IsPermutation-refl _) (rw c.in_default-2.is at c.in_ok-raise.ensures) (turn.waited E' c.loop-room.invariant.waiting);
+      waiting = waiting_past D' E' cuts rest (record { 0 = c.in-Some.turn.waiting }) (rw c.in_default-2.is at c.in_ok-raise.ensures) (turn.waited E' c.loop-room.invariant.waiting);
       growth = c.in_ok-turn.ensures.growth;
     }
 
@@ -66,6 +65,6 @@ loop-room-preserved c =
     let last : c.len.result ≡ length cuts = omega (arith, c.len.ensures, c.loop-room.cuts.ok.0) in
     record {
       so_far = rw c.in_ok-push-2.ensures.items (one_more c.args.arcs.now D' c.args.twins.now E' c.args.target c.loop-room.room cuts c.loop-room.invariant.so_far c.charge_cut.new.arcs c.charge_cut.new.twins cut raise.0 c.charge_cut.ensures.arcs c.charge_cut.ensures.ends);
-      waiting = rw c.in_ok-push-2.ensures.items (waiting_again D' c.charge_cut.new.arcs E' c.charge_cut.new.twins c.loop-room.room cuts (record { 0 = c.in-Some.turn.waiting } ∷ rest) rest (heap_items c.push.new.self) _ _ cut (IsPermutation-refl _) raise.0 raise.1 c.charge_cut.ensures.arcs c.charge_cut.ensures.ends c.in_ok-push.ensures.permutation refl (ap Some last) (turn.waited E' c.loop-room.invariant.waiting));
+      waiting = rw c.in_ok-push-2.ensures.items (waiting_again D' c.charge_cut.new.arcs E' c.charge_cut.new.twins c.loop-room.room cuts rest (heap_items c.push.new.self) (record { 0 = c.in-Some.turn.waiting }) _ cut raise.0 raise.1 c.charge_cut.ensures.arcs c.charge_cut.ensures.ends c.in_ok-push.ensures.permutation refl (ap Some last) (turn.waited E' c.loop-room.invariant.waiting));
       growth = growth_still D' c.charge_cut.new.arcs (cut ∷ []) c.next_fresh.new.growth c.charge_cut.ensures.arcs c.in_ok-turn.ensures.growth;
     }
