@@ -1,12 +1,9 @@
 -- The least that remains of the arcs that enter a set.
-use Rattle.std.proofs.Common.{◌≡◌, ℕ, ◌<◌, ◌≤◌, false, not, eqb, List, [], ◌∷◌, ◌++◌, min, Some, ◌⊎◌, inl, inr, refl, sym, ap, ◌∙◌, subst, arith}
+use Rattle.std.proofs.Common.{◌≡◌, ℕ, ◌<◌, ◌≤◌, not, List, [], ◌∷◌, ◌++◌, min, Some, ◌⊎◌, inl, inr, refl, sym, ap, ◌∙◌, subst, arith}
 use Rattle.std.specs.Prelude.{IsTrue, IsFalse, ◌==◌, Contains}
-use Rattle.std.proofs.lemmas.Bool.{false≢true, eqb-true, eq-eqb, or_cases, or_left, or_right, or_parts, ne_eqb, and_parts, and_from, not-true, cases_lt}
+use Rattle.std.proofs.lemmas.Bool.{false≢true, eqb-true, eq-eqb, or_cases, or_left, or_right, and_parts, and_from, not-true, cases_lt}
 use Rattle.std.proofs.lemmas.List.Elements.{All-nil, All-push, All-weaker, Contains-append_left, Contains-push}
-use Rattle.std.proofs.lemmas.Bool.Decides.{nat_tests}
-use Rattle.std.specs.List.{AllByRecursion, IsDistinct}
 use Rattle.st_model.specs.Lists.{has}
-use Rattle.st_model.specs.VertexSet.{AllApart}
 use Rattle.st_model.proofs.Marked.{has-push}
 use Rattle.bidirected_form.specs.declared.arc.Arc.{Arc}
 use Rattle.bidirected_form.specs.Digraph.{Digraph, arcs_into, left_from, remaining}
@@ -96,16 +93,3 @@ least_attained D set limit least h = elim h.attained [
   where
     enters_by : (u v : ℕ) → IsTrue (has set v) → IsFalse (has set u) → IsTrue (enters set u v)
     enters_by u v within out = and_from (has set v) (not (has set u)) within (ap not out)
-
--- no number twice
-pub distinct_from_apart : (xs : List ℕ) → AllApart xs → IsDistinct eqb xs
-unfolding IsDistinct
-distinct_from_apart [] h = tt
-distinct_from_apart (x ∷ xs) h = (others xs h.0, distinct_from_apart xs h.1)
-  where
-    others : (ys : List ℕ) → IsFalse (has ys x) → AllByRecursion (λ y. eqb x y ≡ false) ys
-    others [] e = tt
-    others (y ∷ ys) e = let parts = or_parts (y == x) (has ys x) e in (ne_eqb x y (λ same. false≢true (sym parts.0 ∙ eq-eqb y x (sym same))), others ys parts.1)
-
-pub eqb_flips : (x y : ℕ) → eqb x y ≡ eqb y x
-eqb_flips x y = grind (arith, nat_tests)

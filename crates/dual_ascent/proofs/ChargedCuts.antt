@@ -1,18 +1,19 @@
 -- What is left where cuts take something, one behind another.
-use Rattle.std.proofs.Common.{◌≡◌, ◌≢◌, ℕ, ◌+◌, ◌-◌, ◌<◌, ◌≤◌, List, [], ◌++◌, length, get_or, take, drop, Option, Some, None, ◌⊎◌, inl, inr, refl, sym, ap, ◌∙◌, arith, take-append-drop}
+use Rattle.std.proofs.Common.{◌≡◌, ◌≢◌, ℕ, ◌+◌, ◌-◌, ◌<◌, ◌≤◌, List, [], ◌++◌, length, get_or, take, drop, Option, Some, None, inl, inr, refl, sym, ap, ◌∙◌, arith, take-append-drop}
 use Rattle.std.specs.Prelude.{◌==◌, ◌&&◌, not, if◌then◌else◌}
 use Rattle.std.specs.Option.{option_map}
 use Rattle.std.proofs.lemmas.Bool.{eq-eqb}
 use Rattle.st_model.specs.Lists.{has, total}
-use Rattle.bidirected_form.specs.declared.kind.VertexKind.{VertexKind}
-use Rattle.bidirected_form.specs.declared.kind.VertexKind.TheVariants.{Outside, Must, May}
+use Rattle.st_model.proofs.Sums.{total-append}
+use Rattle.bidirected_form.specs.declared.kind.VertexKind.TheVariants.{Must}
 use Rattle.bidirected_form.specs.Digraph.{Digraph, kind_of, remaining}
 use Rattle.bidirected_form.specs.Entering.{enters, CanBear}
 use Rattle.prize_transform.specs.Twins.{Ends, left_of, prize_for}
 use Rattle.cut_packing.specs.declared.cut.Cut.{Cut}
 use Rattle.cut_packing.specs.Packing.{load, named}
-use Rattle.cut_packing.proofs.Sums.{total-append, total_more}
+use Rattle.cut_packing.proofs.Sums.{total_more}
 use Rattle.dual_ascent.specs.Left.{AreEndsOf, AreBorne, AreLowered, AreSpent}
+use Rattle.dual_ascent.specs.Raises.{IsOpen}
 
 -- what cuts lay on an arc, one list behind another
 pub load-append : (xs ys : List Cut) (arc : ℕ × ℕ) → load (xs ++ ys) arc ≡ load xs arc + load ys arc
@@ -57,36 +58,42 @@ AreSpent-append E E' E'' xs ys first next = record {
   left = λ v. omega (arith, next.left v, first.left v, named-append xs ys v);
 }
 
+-- what there was before something was taken
+pub before_taking : (o : Option ℕ) (less r : ℕ) → option_map (λ s. s - less) o ≡ Some r → (s : ℕ) × (o ≡ Some s) × (s - less ≡ r)
+before_taking None less r e = absurd (let clash : ⊥ = cc in clash)
+before_taking (Some s) less r e = (s, refl, let rest : s - less ≡ r = cc in rest)
+
+-- cuts leave each vertex what it is
+pub kinds_kept : (D D' : Digraph) (cuts : List Cut) → AreLowered D D' cuts → (v : ℕ) → kind_of D' v ≡ kind_of D v
+kinds_kept D D' cuts lowered v = rw lowered.kinds refl
+
+-- what is open over what they leave is open behind them
+pub open_behind : (D D' : Digraph) (E E' : Ends) (cuts : List Cut) → AreLowered D D' cuts → AreSpent E E' cuts → (v : ℕ) → IsOpen D' E' [] v → IsOpen D E cuts v
+open_behind D D' E E' cuts lowered spent v (inl must) = inl (sym (kinds_kept D D' cuts lowered v) ∙ must)
+open_behind D D' E E' cuts lowered spent v (inr left) = inr (omega (arith, left, spent.left v))
+
+-- what has something left of its prize needn't be reached
+pub left_free : (D : Digraph) (E : Ends) (v : ℕ) → AreEndsOf D E → 0 < left_of E v → kind_of D v ≢ Must
+left_free D E v ends some must = omega (arith, some, ends.within v, ap prize_for must)
+
 -- a part of the cuts and one more take no more than all
 total_take : (f : Cut → ℕ) (cuts : List Cut) (i : ℕ) (d : Cut) → i < length cuts → total f (take i cuts) + f (get_or cuts i d) ≤ total f cuts
 total_take f cuts i d below =
     let parts = ap (total f) (take-append-drop (i + 1) cuts) in
     omega (arith, total_more f cuts i d below, parts, total-append f (take (i + 1) cuts) (drop (i + 1) cuts))
 
-must_or_not : (k : VertexKind) → (k ≡ Must) ⊎ (k ≢ Must)
-must_or_not Must = inl refl
-must_or_not Outside = inr (λ e. cc)
-must_or_not (May p) = inr (λ e. cc)
-
 -- of cuts that can be borne, the next one
 module _ (D D' : Digraph) (E E' : Ends) (cuts : List Cut) (i : ℕ) (c : Cut) (below : i < length cuts) (is : c ≡ get_or cuts i c) (ends : AreEndsOf D E) (borne : AreBorne D E cuts) (lowered : AreLowered D D' (take i cuts)) (spent : AreSpent E E' (take i cuts)) where
   pub next_enough : CanBear D' c.set c.y
-  next_enough u v r enter left = by_case (remaining D u v) refl (sym (lowered.remaining u v) ∙ left)
-    where
-      by_case : (o : Option ℕ) → remaining D u v ≡ o → option_map (λ s. s - load (take i cuts) (u, v)) o ≡ Some r → c.y ≤ r
-      by_case None gone e = absurd cc
-      by_case (Some s) full e =
-          let rest : s - load (take i cuts) (u, v) ≡ r = cc in
-          let f : Cut → ℕ = λ d. if enters d.set u v then d.y else 0 in
-          let one : f c ≡ c.y = rw enter refl in
-          omega (arith, rest, total_take f cuts i c below, ap f is, one, borne.arcs u v s full)
+  next_enough u v r enter left =
+      let before = before_taking (remaining D u v) (load (take i cuts) (u, v)) r (sym (lowered.remaining u v) ∙ left) in
+      let f : Cut → ℕ = λ d. if enters d.set u v then d.y else 0 in
+      let one : f c ≡ c.y = rw enter refl in
+      omega (arith, before.2, total_take f cuts i c below, ap f is, one, borne.arcs u v before.0 before.1)
 
   pub next_prize : 0 < left_of E' c.q → c.y ≤ left_of E' c.q
-  next_prize some = by_kind (must_or_not (kind_of D c.q))
-    where
-      by_kind : (kind_of D c.q ≡ Must) ⊎ (kind_of D c.q ≢ Must) → c.y ≤ left_of E' c.q
-      by_kind (inl must) = absurd (omega (arith, some, spent.left c.q, ends.within c.q, ap prize_for must))
-      by_kind (inr free) =
-          let f : Cut → ℕ = λ d. if d.q == c.q then d.y else 0 in
-          let one : f c ≡ c.y = rw (eq-eqb c.q c.q refl) refl in
-          omega (arith, spent.left c.q, total_take f cuts i c below, ap f is, one, borne.prizes c.q free)
+  next_prize some =
+      let free = left_free D E c.q ends (omega (arith, some, spent.left c.q)) in
+      let f : Cut → ℕ = λ d. if d.q == c.q then d.y else 0 in
+      let one : f c ≡ c.y = rw (eq-eqb c.q c.q refl) refl in
+      omega (arith, spent.left c.q, total_take f cuts i c below, ap f is, one, borne.prizes c.q free)

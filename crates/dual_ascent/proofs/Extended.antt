@@ -1,13 +1,12 @@
 -- What an ascent over what a packing leaves makes of it.
-use Rattle.std.proofs.Common.{◌≡◌, ◌≢◌, ℕ, ◌+◌, ◌-◌, ◌^◌, ◌<◌, ◌≤◌, Bool, true, false, ◌&&◌, List, [], ◌∷◌, length, get_or, Some, None, inl, inr, refl, sym, ap, ◌∙◌, subst, arith}
-use Rattle.std.specs.Prelude.{IsTrue, IsFalse, if◌then◌else◌, All}
+use Rattle.std.proofs.Common.{◌≡◌, ◌≢◌, ℕ, ◌+◌, ◌-◌, ◌^◌, ◌<◌, ◌≤◌, Bool, true, false, List, [], ◌∷◌, length, get_or, Some, inl, inr, refl, sym, ap, ◌∙◌, subst, arith}
+use Rattle.std.specs.Prelude.{IsTrue, IsFalse, All}
 use Rattle.std.specs.Option.{option_map}
 use Rattle.std.specs.List.{AllByRecursion}
-use Rattle.std.proofs.lemmas.Bool.{cases_Bool, and_parts, both_ways, ne_eqb}
+use Rattle.std.proofs.lemmas.Bool.{cases_Bool, both_ways, ne_eqb}
 use Rattle.std.proofs.lemmas.List.Elements.{All-append, All-weaker, recursion_from_All}
 use Rattle.st_model.specs.declared.branch.Branch.{Branch}
 use Rattle.st_model.specs.Lists.{has}
-use Rattle.st_model.specs.Network.{link}
 use Rattle.st_model.specs.Branch.{IsVertexSet, is_certain}
 use Rattle.graph_store.specs.Graph.{Graph, IsGraph}
 use Rattle.bidirected_form.specs.declared.kind.VertexKind.TheVariants.{Must}
@@ -24,8 +23,8 @@ use Rattle.dual_ascent.specs.Ascent.{IsAscended, ReachesAll}
 use Rattle.dual_ascent.specs.Extension.{IsStart, IsRootFor, IsExtended, IsExtension}
 use Rattle.dual_ascent.specs.Laws.{joined, IsRaised}
 use Rattle.dual_ascent.proofs.ChargedCuts.{lowered_twice}
-use Rattle.dual_ascent.proofs.OpenVertices.{open_vertex, open_present, open_in_range, must_certain, may_free}
-use Rattle.dual_ascent.proofs.Raised.{raises_sets}
+use Rattle.dual_ascent.proofs.OpenVertices.{open_vertex, open_in_range, must_certain, may_free, cost_linked}
+use Rattle.dual_ascent.proofs.Raised.{raises_sets, raises_sum}
 use Rattle.dual_ascent.proofs.Joined.{packed_apart, together_fit, joined_full}
 
 -- cuts that all name other vertices don't name v
@@ -59,13 +58,9 @@ module _ (g : Graph) (B : Branch) (P : Packing) (root : ℕ) (graph : IsGraph g)
             ]
 
     arcs_borne : (u v r : ℕ) → remaining D u v ≡ Some r → load P.cuts (u, v) ≤ r
-    arcs_borne u v r left = by_open (is_open g B u && is_open g B v) refl (sym (costs u v) ∙ left)
-      where
-        by_open : (b : Bool) → (is_open g B u && is_open g B v) ≡ b → (if b then link g.network.links u v else None) ≡ Some r → load P.cuts (u, v) ≤ r
-        by_open false gone e = absurd cc
-        by_open true both cost =
-            let parts = and_parts (is_open g B u) (is_open g B v) both in
-            rw cost at (start.fits.arcs u v (open_present g B u parts.0) (open_present g B v parts.1))
+    arcs_borne u v r left =
+        let linked = cost_linked g B u v r (sym (costs u v) ∙ left) in
+        rw linked.2 at (start.fits.arcs u v linked.0 linked.1)
 
     pub packing_borne : AreBorne D E P.cuts
     packing_borne = record {
@@ -102,7 +97,7 @@ module _ (g : Graph) (B : Branch) (P : Packing) (root : ℕ) (graph : IsGraph g)
     }
 
     pub extended_reached : (new : Packing) → new ≡ joined P A → length new.cuts < 2 ^ 64 → target ≤ raised A.cuts → IsExtension g.network B P root target (Reached new)
-    extended_reached new same few reached = rw same (both_extend (rw same at few), omega (arith, both_fit.1, reached))
+    extended_reached new same few reached = rw same (both_extend (rw same at few), omega (arith, both_fit.1, reached), omega (arith, both_fit.1, raises_sum D E target A.cuts ascended.cuts))
 
     pub extended_full : (new : Packing) → new ≡ joined P A → length new.cuts < 2 ^ 64 → raised A.cuts < target → ReachesAll D E A.cuts → IsExtension g.network B P root target (Full new)
     extended_full new same few below all = rw same (both_extend (rw same at few), omega (arith, both_fit.1, below), joined_full g B P D E target A raised_is all)

@@ -1,22 +1,21 @@
 -- A cut over arcs and prizes as they are, with none before it.
-use Rattle.std.proofs.Common.{◌≡◌, ◌≢◌, ℕ, ◌+◌, ◌<◌, ◌≤◌, not, List, [], get_or, Some, ◌⊎◌, inl, inr, refl, sym, ap, ◌∙◌, subst, arith}
-use Rattle.std.specs.Prelude.{IsTrue, IsFalse, All, nat_lt}
+use Rattle.std.proofs.Common.{◌≡◌, ◌≢◌, ℕ, ◌<◌, ◌≤◌, not, List, [], get_or, Some, ◌⊎◌, inl, inr, refl, sym, ap, ◌∙◌, subst, arith}
+use Rattle.std.specs.Prelude.{IsTrue, IsFalse, All}
 use Rattle.std.specs.List.Sorted.{IsStrictlyIncreasing}
-use Rattle.std.proofs.lemmas.Bool.{false≢true, and_parts, not-true, cases_lt, lt-ltb}
-use Rattle.st_model.specs.Lists.{has, up_to}
+use Rattle.std.proofs.lemmas.Bool.{false≢true, and_parts, not-true, cases_lt}
+use Rattle.st_model.specs.Lists.{has}
 use Rattle.st_model.specs.Network.{IsVertex}
 use Rattle.st_model.proofs.Marked.{has_at, place_of}
 use Rattle.bidirected_form.specs.declared.kind.VertexKind.{VertexKind}
 use Rattle.bidirected_form.specs.declared.kind.VertexKind.TheVariants.{Outside, Must, May}
 use Rattle.bidirected_form.specs.Digraph.{Digraph, kind_of, remaining}
 use Rattle.bidirected_form.specs.Entering.{enters, CanBear}
-use Rattle.prize_transform.specs.Twins.{Ends, left_of, prize_in, prized, has_end}
-use Rattle.prize_transform.proofs.Numbered.{has-filter}
-use Rattle.prize_transform.proofs.Prized.{has_end-numbered, has_up_to}
+use Rattle.prize_transform.specs.Twins.{Ends, left_of}
 use Rattle.cut_packing.specs.declared.cut.Cut.{Cut}
 use Rattle.dual_ascent.specs.Left.{AreEndsOf}
-use Rattle.dual_ascent.specs.Raises.{Reaches, IsOpen, UsesUpAnArc, ReachesTarget, SpendsThePrize, IsLeast, IsRaise, here, there}
+use Rattle.dual_ascent.specs.Raises.{Reaches, IsOpen, UsesUpAnArc, ReachesTarget, SpendsThePrize, IsLeast, IsRaise, there}
 use Rattle.dual_ascent.specs.Turns.{HasAnArcLeft, IsGrown, IsLimit}
+use Rattle.dual_ascent.proofs.ChargedCuts.{left_free}
 
 must_or_not : (k : VertexKind) → (k ≡ Must) ⊎ (k ≢ Must)
 must_or_not Must = inl refl
@@ -108,14 +107,10 @@ module _ (D : Digraph) (E : Ends) (room q : ℕ) (members : List ℕ) (limit : �
     h.names,
   )
 
--- the vertex of a raise is in range
-pub raised_in_range : (D : Digraph) (E : Ends) (room : ℕ) (c : Cut) → IsRaise D E room [] c → IsVertex D.n c.q
-raised_in_range D E room c r =
-    let place = place_of c.set c.q ((r.exact c.q).1 here) in
-    subst (IsVertex D.n) place.2 (r.set.in_range place.0 0 place.1)
+-- the arcs can bear a raise
+pub raise_borne : (D : Digraph) (E : Ends) (room : ℕ) (c : Cut) → IsRaise D E room [] c → CanBear D c.set c.y
+raise_borne D E room c r u v left entering is = omega (arith, r.least.arcs u v left entering is)
 
--- a vertex of whose prize something is left has an end
-pub left_has_end : (D : Digraph) (E : Ends) (q : ℕ) → AreEndsOf D E → IsVertex D.n q → 0 < left_of E q → IsTrue (has_end E.ends q)
-left_has_end D E q ends range left =
-    let pays : 0 < prize_in D q = omega (arith, left, ends.within q) in
-    rw ends.ends (has_end-numbered (D.n + 1) (prized D) q ∙ has-filter (λ v. nat_lt 0 (prize_in D v)) (up_to D.n) q (has_up_to D.n q range) (lt-ltb 0 (prize_in D q) pays))
+-- and so can the prize, if something is left of it
+pub raise_paid : (D : Digraph) (E : Ends) (room : ℕ) (c : Cut) → AreEndsOf D E → IsRaise D E room [] c → 0 < left_of E c.q → c.y ≤ left_of E c.q
+raise_paid D E room c ends r some = omega (arith, r.least.prize (left_free D E c.q ends some))

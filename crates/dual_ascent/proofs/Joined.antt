@@ -1,13 +1,14 @@
 -- A packing with raises behind its cuts.
-use Rattle.std.proofs.Common.{◌≡◌, ◌≢◌, ℕ, ◌+◌, ◌-◌, ◌<◌, ◌≤◌, Bool, true, false, ◌&&◌, List, [], Option, Some, None, ◌⊎◌, inl, inr, refl, sym, ap, ◌∙◌, subst, arith}
-use Rattle.std.specs.Prelude.{IsTrue, IsFalse, IfSome, if◌then◌else◌, All}
+use Rattle.std.proofs.Common.{◌≡◌, ◌≢◌, ℕ, ◌+◌, ◌-◌, ◌<◌, ◌≤◌, Bool, true, false, List, [], Option, Some, None, ◌⊎◌, inl, inr, refl, sym, ap, ◌∙◌, subst, arith}
+use Rattle.std.specs.Prelude.{IsTrue, IsFalse, IfSome, All}
 use Rattle.std.specs.Option.{option_map}
-use Rattle.std.proofs.lemmas.Bool.{cases_Bool, and_parts, both_ways}
+use Rattle.std.proofs.lemmas.Bool.{cases_Bool, both_ways}
 use Rattle.std.proofs.lemmas.List.Elements.{All-append, All-nil}
 use Rattle.st_model.specs.declared.branch.Branch.{Branch}
 use Rattle.st_model.specs.Lists.{has}
 use Rattle.st_model.specs.Network.{Network, IsVertex, link, pays}
 use Rattle.st_model.specs.Branch.{is_present, is_certain}
+use Rattle.st_model.proofs.Sums.{total-append}
 use Rattle.graph_store.specs.Graph.{Graph, IsGraph}
 use Rattle.bidirected_form.specs.declared.kind.VertexKind.TheVariants.{Must}
 use Rattle.bidirected_form.specs.Bidirected.{is_open, arc_cost}
@@ -17,13 +18,12 @@ use Rattle.cut_packing.specs.declared.cut.Cut.{Cut}
 use Rattle.cut_packing.specs.declared.packing.Packing.{Packing}
 use Rattle.cut_packing.specs.Packing.{load, named, IsRoot, CutFits, PrizesFit, Fits, weight}
 use Rattle.cut_packing.specs.Full.{IsUsedUp, IsReached, IsFull, here as at_root, there as along}
-use Rattle.cut_packing.proofs.Sums.{total-append}
 use Rattle.dual_ascent.specs.Left.{raised}
 use Rattle.dual_ascent.specs.Raises.{IsUsedUp as HasNothingLeft, Reaches, here, there, IsOpen, IsRaise}
 use Rattle.dual_ascent.specs.Ascent.{ReachesAll}
 use Rattle.dual_ascent.specs.Laws.{joined, IsRaised}
-use Rattle.dual_ascent.proofs.ChargedCuts.{load-append, named-append}
-use Rattle.dual_ascent.proofs.OpenVertices.{certain_present, undecided_present, open_vertex, open_present, open_must, open_prized, must_certain, may_free, free_prize, linked_cost}
+use Rattle.dual_ascent.proofs.ChargedCuts.{before_taking, load-append, named-append}
+use Rattle.dual_ascent.proofs.OpenVertices.{certain_present, undecided_present, open_vertex, open_present, open_must, open_prized, must_certain, may_free, free_prize, linked_cost, cost_linked}
 use Rattle.dual_ascent.proofs.Raised.{each_cut, raises_load, raises_named}
 
 -- no cut of a packing that fits holds its root
@@ -64,19 +64,12 @@ module _ (g : Graph) (B : Branch) (P : Packing) (D : Digraph) (E : Ends) (target
 
   -- an arc that the raises use up is used up by both together
   used_up : (u v : ℕ) → HasNothingLeft D A.cuts u v → IsUsedUp g.network B (joined P A) u v
-  used_up u v none = by_case (is_open g B u && is_open g B v) refl (link g.network.links u v) refl (sym (h.left.remaining u v) ∙ none)
-    where
-      by_case : (b : Bool) → (is_open g B u && is_open g B v) ≡ b → (price : Option ℕ) → link g.network.links u v ≡ price → option_map (λ c. c - load P.cuts (u, v)) (if b then price else None) ≡ Some (load A.cuts (u, v)) → IsUsedUp g.network B (joined P A) u v
-      by_case true both (Some p) cost e =
-          let parts = and_parts (is_open g B u) (is_open g B v) both in
-          let tail = open_present g B u parts.0 in
-          let head = open_present g B v parts.1 in
-          let left : p - load P.cuts (u, v) ≡ load A.cuts (u, v) = cc in
-          let borne : load P.cuts (u, v) ≤ p = rw (cost) at (h.fits.arcs u v tail head) in
-          let all : p ≡ load (joined P A).cuts (u, v) = omega (arith, left, borne, load-append P.cuts A.cuts (u, v)) in
-          record { tail = tail; head = head; used = cost ∙ ap Some all }
-      by_case true both None cost e = absurd cc
-      by_case false some price cost e = absurd cc
+  used_up u v none =
+      let before = before_taking (arc_cost g B u v) (load P.cuts (u, v)) (load A.cuts (u, v)) (sym (h.left.remaining u v) ∙ none) in
+      let linked = cost_linked g B u v before.0 before.1 in
+      let borne = rw linked.2 at (h.fits.arcs u v linked.0 linked.1) in
+      let all : before.0 ≡ load (joined P A).cuts (u, v) = omega (arith, before.2, borne, load-append P.cuts A.cuts (u, v)) in
+      record { tail = linked.0; head = linked.1; used = linked.2 ∙ ap Some all }
 
   -- so what the root reaches over such arcs is reached
   walked : (r v u : ℕ) → Reaches D A.cuts v u → IsReached g.network B (joined P A) r u → IsReached g.network B (joined P A) r v

@@ -1,6 +1,6 @@
 -- What a vertex of a branch is, by whether it is present and certain.
-use Rattle.std.proofs.Common.{◌≡◌, ℕ, ◌<◌, ◌≤◌, Bool, true, false, not, Some, inl, inr, refl, ap, ◌∙◌, arith}
-use Rattle.std.specs.Prelude.{IsTrue, IsFalse}
+use Rattle.std.proofs.Common.{◌≡◌, ℕ, ◌<◌, ◌≤◌, Bool, true, false, ◌&&◌, not, Some, None, inl, inr, refl, ap, ◌∙◌, arith}
+use Rattle.std.specs.Prelude.{IsTrue, IsFalse, if◌then◌else◌}
 use Rattle.std.specs.Option.{is_some}
 use Rattle.std.proofs.lemmas.Bool.{and_parts, and_from, or_cases, both_ways, cases_Bool}
 use Rattle.std.proofs.lemmas.List.Elements.{recursion_from_All}
@@ -84,3 +84,11 @@ linked_cost g B u v price graph whole tail head cost =
     let at_tail = linked_vertex g.network.n g.network.links u v ends (ap is_some cost) in
     let at_head = linked_vertex g.network.n g.network.links v u ends (ap is_some (link-comm g.network.links v u ∙ cost)) in
     rw (open_vertex g B u whole at_tail tail, open_vertex g B v whole at_head head) cost
+
+-- and an arc is such a link
+pub cost_linked : (g : Graph) (B : Branch) (u v price : ℕ) → arc_cost g B u v ≡ Some price → IsTrue (is_present B u) × IsTrue (is_present B v) × (link g.network.links u v ≡ Some price)
+cost_linked g B u v price = by_case (is_open g B u && is_open g B v) refl
+  where
+    by_case : (b : Bool) → (is_open g B u && is_open g B v) ≡ b → (if b then link g.network.links u v else None) ≡ Some price → IsTrue (is_present B u) × IsTrue (is_present B v) × (link g.network.links u v ≡ Some price)
+    by_case false gone e = absurd (let clash : ⊥ = cc in clash)
+    by_case true both cost = let parts = and_parts (is_open g B u) (is_open g B v) both in (open_present g B u parts.0, open_present g B v parts.1, cost)

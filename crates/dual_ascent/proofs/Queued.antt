@@ -1,26 +1,26 @@
 -- Who waits, from turn to turn.
-use Rattle.std.proofs.Common.{◌≡◌, ◌≢◌, ℕ, ◌+◌, ◌-◌, ◌<◌, ◌≤◌, Bool, true, false, ◌||◌, List, [], ◌∷◌, ◌++◌, length, get_or, Option, Some, None, ◌⊎◌, inl, inr, refl, sym, ap, ◌∙◌, subst, arith}
-use Rattle.std.specs.Prelude.{IsTrue, if◌then◌else◌, ◌==◌, All, IsPermutation, IfSome}
+use Rattle.std.proofs.Common.{◌≡◌, ℕ, ◌+◌, ◌-◌, ◌<◌, ◌≤◌, ◌||◌, List, [], ◌∷◌, ◌++◌, length, get_or, Option, Some, None, ◌⊎◌, inl, inr, refl, sym, ap, ◌∙◌, subst, arith}
+use Rattle.std.specs.Prelude.{IsTrue, ◌==◌, All, IsPermutation, IfSome}
 use Rattle.std.specs.List.{HoldsAt}
 use Rattle.std.specs.Option.{option_map}
-use Rattle.std.proofs.lemmas.Bool.{false≢true, eqb-true, eq-eqb, or_cases, or_left, or_right, cases_eq, ne_eqb, cases_lt}
+use Rattle.std.proofs.lemmas.Bool.{false≢true, eqb-true, eq-eqb, or_cases, or_left, or_right, cases_lt}
 use Rattle.std.proofs.lemmas.List.{get_or_past, get_or_append_left, get_or_push, length_push}
 use Rattle.std.proofs.lemmas.List.Elements.{All-nil, All-cons, All-tail, All-head, All-weaker}
 use Rattle.std.proofs.lemmas.List.Sorted.{All-permutation, list_any-IsPermutation}
 use Rattle.st_model.specs.Lists.{has}
 use Rattle.st_model.specs.Network.{IsVertex}
 use Rattle.st_model.proofs.Marked.{has_at}
-use Rattle.bidirected_form.specs.declared.kind.VertexKind.{VertexKind}
-use Rattle.bidirected_form.specs.declared.kind.VertexKind.TheVariants.{Outside, Must, May}
+use Rattle.bidirected_form.specs.declared.kind.VertexKind.TheVariants.{Outside, Must}
 use Rattle.bidirected_form.specs.Digraph.{Digraph, IsDigraph, kind_of}
-use Rattle.bidirected_form.specs.Entering.{enters, Charges}
-use Rattle.prize_transform.specs.Twins.{Ends, left_of, prize_for}
+use Rattle.prize_transform.specs.Twins.{Ends, prize_for}
 use Rattle.cut_packing.specs.declared.cut.Cut.{Cut}
+use Rattle.cut_packing.specs.Packing.{load}
 use Rattle.dual_ascent.specs.declared.growing.Growth.{Growth}
 use Rattle.dual_ascent.specs.declared.waiting.Waiting.{Waiting}
-use Rattle.dual_ascent.specs.Left.{AreEndsOf}
+use Rattle.dual_ascent.specs.Left.{AreEndsOf, AreLowered, AreSpent}
 use Rattle.dual_ascent.specs.Raises.{IsUsedUp, Reaches, IsOpen, IsRaise, here}
-use Rattle.dual_ascent.specs.Turns.{AreSeeds, IsGrowth, IsWaiting, Entry, waits, AreWaiting, Spends}
+use Rattle.dual_ascent.specs.Turns.{AreSeeds, IsGrowth, IsWaiting, Entry, waits, AreWaiting}
+use Rattle.dual_ascent.proofs.ChargedCuts.{open_behind}
 use Rattle.dual_ascent.proofs.Reaching.{reaches_over}
 
 -- an open vertex is in range
@@ -80,80 +80,58 @@ all_listed D E k queue digraph ends all h = record {
   others = λ v open_at. inl (h.listed v (omega (arith, all, (open_in_range D E v digraph ends open_at).1)) open_at);
 }
 
--- the one whose turn it is waits
-pub waiting_next : (D : Digraph) (E : Ends) (cuts : List Cut) (queue rest : List Entry) (e : Entry) → IsPermutation queue (e ∷ rest) → AreWaiting D E cuts queue → IsWaiting D cuts e.0
-waiting_next D E cuts queue rest e moved h = All-head (λ (x : Entry). IsWaiting D cuts x.0) e rest (All-permutation (λ (x : Entry). IsWaiting D cuts x.0) queue (e ∷ rest) moved h.each)
-
--- it has its turn and is passed over
-pub waiting_past : (D : Digraph) (E : Ends) (cuts : List Cut) (queue rest : List Entry) (e : Entry) → IsPermutation queue (e ∷ rest) → (IsOpen D E [] e.0.vertex → Reaches D [] e.0.vertex D.root) → AreWaiting D E cuts queue → AreWaiting D E cuts rest
-waiting_past D E cuts queue rest e moved done h = record {
-  each = All-tail (λ (x : Entry). IsWaiting D cuts x.0) e rest (All-permutation (λ (x : Entry). IsWaiting D cuts x.0) queue (e ∷ rest) moved h.each);
+-- the first one has its turn and is passed over
+pub waiting_past : (D : Digraph) (E : Ends) (cuts : List Cut) (rest : List Entry) (e : Entry) → (IsOpen D E [] e.0.vertex → Reaches D [] e.0.vertex D.root) → AreWaiting D E cuts (e ∷ rest) → AreWaiting D E cuts rest
+waiting_past D E cuts rest e done h = record {
+  each = All-tail (λ (x : Entry). IsWaiting D cuts x.0) e rest h.each;
   others = λ v open_at. elim (h.others v open_at) [ inl waiting ↦ still v open_at waiting | inr reached ↦ inr reached ];
 }
   where
-    still : (v : ℕ) → IsOpen D E [] v → IsTrue (waits queue v) → IsTrue (waits rest v) ⊎ Reaches D [] v D.root
+    still : (v : ℕ) → IsOpen D E [] v → IsTrue (waits (e ∷ rest) v) → IsTrue (waits rest v) ⊎ Reaches D [] v D.root
     still v open_at waiting =
-        elim (or_cases (e.0.vertex == v) (waits rest v) (sym (list_any-IsPermutation (λ (x : Entry). x.0.vertex == v) queue (e ∷ rest) moved) ∙ waiting)) [
+        elim (or_cases (e.0.vertex == v) (waits rest v) waiting) [
           | inl same ↦ let is = eqb-true e.0.vertex v same in inr (subst (λ (w : ℕ). Reaches D [] w D.root) is (done (subst (IsOpen D E []) (sym is) open_at)))
           | inr there ↦ inl there
         ]
 
--- a charge uses more arcs up, and opens nothing
-used_still : (D D' : Digraph) (set : List ℕ) (y : ℕ) → Charges D D' set y → (u v : ℕ) → IsUsedUp D [] u v → IsUsedUp D' [] u v
-used_still D D' set y h u v used = h.remaining u v ∙ rw used (by_case (enters set u v))
-  where
-    by_case : (b : Bool) → (if b then option_map (λ r. r - y) (Some 0) else Some 0) ≡ Some 0
-    by_case true = ap Some (omega arith)
-    by_case false = refl
+-- cuts use more arcs up
+used_still : (D D' : Digraph) (cuts : List Cut) → AreLowered D D' cuts → (u v : ℕ) → IsUsedUp D [] u v → IsUsedUp D' [] u v
+used_still D D' cuts lowered u v used = lowered.remaining u v ∙ ap (option_map (λ r. r - load cuts (u, v))) used ∙ ap Some (omega arith)
 
 -- and the root reaches whom it reached
-pub growth_still : (D D' : Digraph) (set : List ℕ) (y : ℕ) (g : Growth) → Charges D D' set y → IsGrowth D g → IsGrowth D' g
-growth_still D D' set y g charges h = record {
-  set_count = h.set_count ∙ ap (λ (n : ℕ). n + 1) (sym charges.count);
-  in_range = subst (λ (n : ℕ). All (IsVertex n) g.set.members) (sym charges.count) h.in_range;
-  reached_count = h.reached_count ∙ ap (λ (n : ℕ). n + 1) (sym charges.count);
-  root = subst (λ (r : ℕ). IsTrue (has g.reached.members r)) (sym charges.root) h.root;
-  reached = All-weaker (λ v. Reaches D [] v D.root) (λ v. Reaches D' [] v D'.root) (λ v reached. subst (Reaches D' [] v) (sym charges.root) (reaches_over D D' [] [] (used_still D D' set y charges) v D.root reached)) g.reached.members h.reached;
+pub growth_still : (D D' : Digraph) (cuts : List Cut) (g : Growth) → AreLowered D D' cuts → IsGrowth D g → IsGrowth D' g
+growth_still D D' cuts g lowered h = record {
+  set_count = h.set_count ∙ ap (λ (n : ℕ). n + 1) (sym lowered.count);
+  in_range = subst (λ (n : ℕ). All (IsVertex n) g.set.members) (sym lowered.count) h.in_range;
+  reached_count = h.reached_count ∙ ap (λ (n : ℕ). n + 1) (sym lowered.count);
+  root = subst (λ (r : ℕ). IsTrue (has g.reached.members r)) (sym lowered.root) h.root;
+  reached = All-weaker (λ v. Reaches D [] v D.root) (λ v. Reaches D' [] v D'.root) (λ v reached. subst (Reaches D' [] v) (sym lowered.root) (reaches_over D D' [] [] (used_still D D' cuts lowered) v D.root reached)) g.reached.members h.reached;
 }
 
-open_before : (D D' : Digraph) (E E' : Ends) (c : Cut) → Charges D D' c.set c.y → Spends D E E' c → (v : ℕ) → IsOpen D' E' [] v → IsOpen D E [] v
-open_before D D' E E' c arcs spends v (inl must) = inl (sym (ap (λ (ks : List VertexKind). get_or ks v Outside) arcs.kinds) ∙ must)
-open_before D D' E E' c arcs spends v (inr left) = inr (omega (arith, left, no_more (kind_of D c.q) refl))
-  where
-    falls : kind_of D c.q ≢ Must → left_of E' v ≤ left_of E v
-    falls may = rw ((spends.may may).left v) (at (cases_eq v c.q))
-      where
-        at : (v ≡ c.q) ⊎ (v ≡ c.q → ⊥) → (if v == c.q then left_of E c.q - c.y else left_of E v) ≤ left_of E v
-        at (inl same) = rw (eq-eqb v c.q same) (omega (arith, ap (left_of E) same))
-        at (inr other) = rw (ne_eqb v c.q other) (omega arith)
+-- they open nothing
+open_before : (D : Digraph) (E : Ends) (cuts : List Cut) (v : ℕ) → IsOpen D E cuts v → IsOpen D E [] v
+open_before D E cuts v (inl must) = inl must
+open_before D E cuts v (inr left) = inr (omega (arith, left))
 
-    no_more : (k : VertexKind) → kind_of D c.q ≡ k → left_of E' v ≤ left_of E v
-    no_more Must e = rw (spends.must e) (omega arith)
-    no_more Outside e = falls (λ must. let clash : ⊥ = cc in clash)
-    no_more (May p) e = falls (λ must. let clash : ⊥ = cc in clash)
-
--- it has its turn, is raised, and waits again
-pub waiting_again : (D D' : Digraph) (E E' : Ends) (room : ℕ) (cuts : List Cut) (queue rest queue' : List Entry) (e e' : Entry) (c : Cut) → IsPermutation queue (e ∷ rest) → IsRaise D E room [] c → c.q ≡ e.0.vertex → Charges D D' c.set c.y → Spends D E E' c
-    → IsPermutation (e' ∷ rest) queue' → e'.0.vertex ≡ e.0.vertex → e'.0.last ≡ Some (length cuts) → AreWaiting D E cuts queue → AreWaiting D' E' (cuts ++ c ∷ []) queue'
-waiting_again D D' E E' room cuts queue rest queue' e e' c popped raise q arcs spends pushed vertex last h = record {
+-- the first one has its turn, is raised, and waits again
+pub waiting_again : (D D' : Digraph) (E E' : Ends) (room : ℕ) (cuts : List Cut) (rest queue' : List Entry) (e e' : Entry) (c : Cut) → IsRaise D E room [] c → c.q ≡ e.0.vertex → AreLowered D D' (c ∷ []) → AreSpent E E' (c ∷ [])
+    → IsPermutation (e' ∷ rest) queue' → e'.0.vertex ≡ e.0.vertex → e'.0.last ≡ Some (length cuts) → AreWaiting D E cuts (e ∷ rest) → AreWaiting D' E' (cuts ++ c ∷ []) queue'
+waiting_again D D' E E' room cuts rest queue' e e' c raise q lowered spent pushed vertex last h = record {
   each = All-permutation (λ (x : Entry). IsWaiting D' (cuts ++ c ∷ []) x.0) (e' ∷ rest) queue' pushed (All-cons (λ (x : Entry). IsWaiting D' (cuts ++ c ∷ []) x.0) e' rest new (All-weaker (λ (x : Entry). IsWaiting D cuts x.0) (λ (x : Entry). IsWaiting D' (cuts ++ c ∷ []) x.0) (λ x. still x.0) rest rest_before));
-  others = λ v open_at. elim (h.others v (open_before D D' E E' c arcs spends v open_at)) [ inl waiting ↦ inl (same_wait v ∙ waiting) | inr reached ↦ inr (subst (Reaches D' [] v) (sym arcs.root) (more v D.root reached)) ];
+  others = λ v open_at. elim (h.others v (open_before D E (c ∷ []) v (open_behind D D' E E' (c ∷ []) lowered spent v open_at))) [ inl waiting ↦ inl (same_wait v ∙ waiting) | inr reached ↦ inr (subst (Reaches D' [] v) (sym lowered.root) (more v D.root reached)) ];
 }
   where
     more : (w v : ℕ) → Reaches D [] w v → Reaches D' [] w v
-    more = reaches_over D D' [] [] (used_still D D' c.set c.y arcs)
-
-    both : All (λ (x : Entry). IsWaiting D cuts x.0) (e ∷ rest)
-    both = All-permutation (λ (x : Entry). IsWaiting D cuts x.0) queue (e ∷ rest) popped h.each
+    more = reaches_over D D' [] [] (used_still D D' (c ∷ []) lowered)
 
     rest_before : All (λ (x : Entry). IsWaiting D cuts x.0) rest
-    rest_before = All-tail (λ (x : Entry). IsWaiting D cuts x.0) e rest both
+    rest_before = All-tail (λ (x : Entry). IsWaiting D cuts x.0) e rest h.each
 
     seeds_still : (w : ℕ) (set : List ℕ) → AreSeeds D w set → AreSeeds D' w set
-    seeds_still w set s = record { held = s.held; in_range = subst (λ (n : ℕ). All (IsVertex n) set) (sym arcs.count) s.in_range; reaching = All-weaker (Reaches D [] w) (Reaches D' [] w) (more w) set s.reaching }
+    seeds_still w set s = record { held = s.held; in_range = subst (λ (n : ℕ). All (IsVertex n) set) (sym lowered.count) s.in_range; reaching = All-weaker (Reaches D [] w) (Reaches D' [] w) (more w) set s.reaching }
 
     in_range_still : (w : ℕ) → IsVertex D.n w → IsVertex D'.n w
-    in_range_still w range = subst (λ (n : ℕ). IsVertex n w) (sym arcs.count) range
+    in_range_still w range = subst (λ (n : ℕ). IsVertex n w) (sym lowered.count) range
 
     still : (w : Waiting) → IsWaiting D cuts w → IsWaiting D' (cuts ++ c ∷ []) w
     still w waiting = record { in_range = in_range_still w.vertex waiting.in_range; seeds = at w.last waiting.seeds }
@@ -163,17 +141,16 @@ waiting_again D D' E E' room cuts queue rest queue' e e' c popped raise q arcs s
         at (Some place) s = (omega (arith, s.0, length_push cuts c), λ d. rw (get_or_append_left cuts (c ∷ []) d place s.0) (seeds_still w.vertex _ (s.1 d)))
 
     seeds_new : AreSeeds D' e'.0.vertex c.set
-    seeds_new = subst (λ (w : ℕ). AreSeeds D' w c.set) (q ∙ sym vertex) (record { held = (raise.exact c.q).1 here; in_range = subst (λ (n : ℕ). All (IsVertex n) c.set) (sym arcs.count) raise.set.in_range; reaching = λ k d below. more c.q _ ((raise.exact (get_or c.set k d)).0 (has_at c.set k d below)) })
+    seeds_new = subst (λ (w : ℕ). AreSeeds D' w c.set) (q ∙ sym vertex) (record { held = (raise.exact c.q).1 here; in_range = subst (λ (n : ℕ). All (IsVertex n) c.set) (sym lowered.count) raise.set.in_range; reaching = λ k d below. more c.q _ ((raise.exact (get_or c.set k d)).0 (has_at c.set k d below)) })
 
     new : IsWaiting D' (cuts ++ c ∷ []) e'.0
     new = record {
-      in_range = subst (IsVertex D'.n) (sym vertex) (in_range_still e.0.vertex (All-head (λ (x : Entry). IsWaiting D cuts x.0) e rest both).in_range);
+      in_range = subst (IsVertex D'.n) (sym vertex) (in_range_still e.0.vertex (All-head (λ (x : Entry). IsWaiting D cuts x.0) e rest h.each).in_range);
       seeds = rw last (omega (arith, length_push cuts c), λ d. rw (get_or_push cuts c d (length cuts) refl) seeds_new);
     }
 
-    same_wait : (v : ℕ) → waits queue' v ≡ waits queue v
-    same_wait v =
-        sym (list_any-IsPermutation (λ (x : Entry). x.0.vertex == v) (e' ∷ rest) queue' pushed) ∙ ap (λ (w : ℕ). (w == v) || waits rest v) vertex ∙ sym (list_any-IsPermutation (λ (x : Entry). x.0.vertex == v) queue (e ∷ rest) popped)
+    same_wait : (v : ℕ) → waits queue' v ≡ waits (e ∷ rest) v
+    same_wait v = sym (list_any-IsPermutation (λ (x : Entry). x.0.vertex == v) (e' ∷ rest) queue' pushed) ∙ ap (λ (w : ℕ). (w == v) || waits rest v) vertex
 
 -- where none waits, all that are open are reached
 pub none_waiting : (D : Digraph) (E : Ends) (cuts : List Cut) → AreWaiting D E cuts [] → (v : ℕ) → IsOpen D E [] v → Reaches D [] v D.root

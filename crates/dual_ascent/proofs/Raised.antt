@@ -1,18 +1,19 @@
 -- What raises take of each arc and prize, together.
-use Rattle.std.proofs.Common.{◌≡◌, ◌≢◌, ℕ, ◌+◌, ◌≤◌, Bool, true, false, List, [], ◌∷◌, ◌++◌, Some, ◌⊎◌, inl, inr, refl, sym, ◌∙◌, subst, append_assoc, append-nil, arith}
+use Rattle.std.proofs.Common.{◌≡◌, ◌≢◌, ℕ, ◌+◌, ◌≤◌, Bool, true, false, List, [], ◌∷◌, ◌++◌, Some, ◌⊎◌, inl, inr, refl, sym, ap, ◌∙◌, subst, append_assoc, append-nil, arith}
 use Rattle.std.specs.Prelude.{◌==◌, if◌then◌else◌, All}
 use Rattle.std.specs.List.{AllByRecursion}
 use Rattle.std.proofs.lemmas.Bool.{eqb-true}
 use Rattle.std.proofs.lemmas.List.Elements.{All-from_recursion}
 use Rattle.st_model.specs.Lists.{total}
 use Rattle.st_model.specs.Branch.{IsVertexSet}
+use Rattle.st_model.proofs.Sums.{total-append}
 use Rattle.bidirected_form.specs.declared.kind.VertexKind.TheVariants.{Must}
 use Rattle.bidirected_form.specs.Digraph.{Digraph, kind_of, remaining}
 use Rattle.bidirected_form.specs.Entering.{enters}
 use Rattle.prize_transform.specs.Twins.{Ends, left_of}
 use Rattle.cut_packing.specs.declared.cut.Cut.{Cut}
 use Rattle.cut_packing.specs.Packing.{load, named}
-use Rattle.cut_packing.proofs.Sums.{total-append}
+use Rattle.dual_ascent.specs.Left.{raised}
 use Rattle.dual_ascent.specs.Raises.{AreRaises, IsRaise}
 
 -- what holds of each place in a list, that it parts into what stands before and after
@@ -39,6 +40,31 @@ each_cut Q cuts each = All-from_recursion Q cuts (go [] cuts refl)
     go before [] e = tt
     go before (c ∷ rest) e = (each before c rest e, go (before ++ c ∷ []) rest (e ∙ sym (append_assoc before (c ∷ []) rest)))
 
+-- an element of a list with one more at its end is that one, or stands in the list
+split_push : {X : Type 0} (xs : List X) (x : X) (before : List X) (y : X) (after : List X) → xs ++ x ∷ [] ≡ before ++ y ∷ after → ((xs ≡ before) × (x ≡ y)) ⊎ ((rest : List X) × (xs ≡ before ++ y ∷ rest))
+split_push [] x [] y after e = inl (refl, cc)
+split_push {X} [] x (b ∷ before) y after e = absurd (none before (let tails : [] ≡ before ++ y ∷ after = cc in tails))
+  where
+    none : (zs : List X) → [] ≡ zs ++ y ∷ after → ⊥
+    none [] e = cc
+    none (z ∷ zs) e = cc
+split_push (a ∷ xs) x [] y after e = let same : a ≡ y = cc in inr (xs, ap (λ b. b ∷ xs) same)
+split_push {X} (a ∷ xs) x (b ∷ before) y after e =
+    let same : a ≡ b = cc in
+    let tails : xs ++ x ∷ [] ≡ before ++ y ∷ after = cc in
+    elim (split_push xs x before y after tails) [
+      | inl last ↦ inl (let lists : xs ≡ before = last.0 in cc, last.1)
+      | inr earlier ↦ inr (earlier.0, let lists : xs ≡ before ++ y ∷ earlier.0 = earlier.1 in cc)
+    ]
+
+-- raises and one more behind them
+pub raises_push : (D : Digraph) (E : Ends) (target : ℕ) (cuts : List Cut) (c : Cut) → AreRaises D E target cuts → IsRaise D E target cuts c → AreRaises D E target (cuts ++ c ∷ [])
+raises_push D E target cuts c h new before d after e =
+    elim (split_push cuts c before d after e) [
+      | inl last ↦ subst (λ (x : Cut). IsRaise D E target before x) last.1 (subst (λ (xs : List Cut). IsRaise D E target xs c) last.0 new)
+      | inr earlier ↦ h before d earlier.0 earlier.1
+    ]
+
 module _ (D : Digraph) (E : Ends) (target : ℕ) (cuts : List Cut) (raises : AreRaises D E target cuts) where
   -- no arc bears more than what remains of it
   pub raises_load : (u v r : ℕ) → remaining D u v ≡ Some r → load cuts (u, v) ≤ r
@@ -60,3 +86,7 @@ module _ (D : Digraph) (E : Ends) (target : ℕ) (cuts : List Cut) (raises : Are
 
   pub raises_sets : All (λ c. IsVertexSet D.n c.set) cuts
   raises_sets = each_cut (λ c. IsVertexSet D.n c.set) cuts (λ before c after e. (raises before c after e).set)
+
+  -- together they are worth no more than the target
+  pub raises_sum : raised cuts ≤ target
+  raises_sum = total_within (λ c. c.y) target cuts (λ before c after e. inr (raises before c after e).least.room)

@@ -39,7 +39,7 @@ keeps_looked D cuts w w' rest same = λ E h. record {
 pub first_waiting : (D : Digraph) (cuts : List Cut) (old new : List Entry) (w : Waiting) → IsPermutation old (record { 0 = w } ∷ new) → All (λ (e : Entry). IsWaiting D cuts e.0) old → IsWaiting D cuts w
 first_waiting D cuts old new w moved each = All-head (λ (x : Entry). IsWaiting D cuts x.0) (record { 0 = w }) new (All-permutation (λ (x : Entry). IsWaiting D cuts x.0) old (record { 0 = w } ∷ new) moved each)
 
-pub rest_waiting : (D : Digraph) (cuts : List Cut) (old new : List Entry) (w : Waiting) → IsPermutation old (record { 0 = w } ∷ new) → All (λ (e : Entry). IsWaiting D cuts e.0) old → All (λ (e : Entry). IsWaiting D cuts e.0) new
+rest_waiting : (D : Digraph) (cuts : List Cut) (old new : List Entry) (w : Waiting) → IsPermutation old (record { 0 = w } ∷ new) → All (λ (e : Entry). IsWaiting D cuts e.0) old → All (λ (e : Entry). IsWaiting D cuts e.0) new
 rest_waiting D cuts old new w moved each = All-tail (λ (x : Entry). IsWaiting D cuts x.0) (record { 0 = w }) new (All-permutation (λ (x : Entry). IsWaiting D cuts x.0) old (record { 0 = w } ∷ new) moved each)
 
 -- the first one is taken, and looked at
@@ -48,6 +48,7 @@ pub turn_made : (D : Digraph) (cuts : List Cut) (members : List ℕ) (old new : 
 turn_made D cuts members old new w t moved each same looked = record {
   waiting = same_waiting D cuts w t.waiting same (first_waiting D cuts old new w moved each);
   waited = λ E h. keeps_looked D cuts w t.waiting new same E (keeps_moved D cuts old (record { 0 = w } ∷ new) moved E h);
+  rest = rest_waiting D cuts old new w moved each;
   looked = subst (λ (q : ℕ). IsLooked D members q t.is_reached) (sym same.vertex) looked;
 }
 
@@ -56,6 +57,7 @@ pub turn_after : (D : Digraph) (cuts : List Cut) (members : List ℕ) (first old
 turn_after D cuts members first old new t keeps turn = record {
   waiting = turn.waiting;
   waited = λ E h. turn.waited E (keeps E h);
+  rest = turn.rest;
   looked = turn.looked;
 }
 
@@ -63,5 +65,5 @@ turn_after D cuts members first old new t keeps turn = record {
 pub keeps_back : (D : Digraph) (cuts : List Cut) (members : List ℕ) (first old new back : List Entry) (t : Turn) → KeepsWaiting D cuts first old → IsTurn D cuts members old new t → IsPermutation (record { 0 = t.waiting } ∷ new) back → KeepsWaiting D cuts first back
 keeps_back D cuts members first old new back t keeps turn pushed = λ E h. keeps_moved D cuts (record { 0 = t.waiting } ∷ new) back pushed E (turn.waited E (keeps E h))
 
-pub all_back : (D : Digraph) (cuts : List Cut) (members : List ℕ) (old new back : List Entry) (t : Turn) → All (λ (e : Entry). IsWaiting D cuts e.0) new → IsTurn D cuts members old new t → IsPermutation (record { 0 = t.waiting } ∷ new) back → All (λ (e : Entry). IsWaiting D cuts e.0) back
-all_back D cuts members old new back t rest turn pushed = All-permutation (λ (x : Entry). IsWaiting D cuts x.0) (record { 0 = t.waiting } ∷ new) back pushed (All-cons (λ (x : Entry). IsWaiting D cuts x.0) (record { 0 = t.waiting }) new turn.waiting rest)
+pub all_back : (D : Digraph) (cuts : List Cut) (members : List ℕ) (old new back : List Entry) (t : Turn) → IsTurn D cuts members old new t → IsPermutation (record { 0 = t.waiting } ∷ new) back → All (λ (e : Entry). IsWaiting D cuts e.0) back
+all_back D cuts members old new back t turn pushed = All-permutation (λ (x : Entry). IsWaiting D cuts x.0) (record { 0 = t.waiting } ∷ new) back pushed (All-cons (λ (x : Entry). IsWaiting D cuts x.0) (record { 0 = t.waiting }) new turn.waiting turn.rest)

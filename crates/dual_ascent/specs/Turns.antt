@@ -1,14 +1,17 @@
 -- The turns of an ascent. Helpers' clauses cite this, and no public one.
-use Rattle.std.specs.Prelude.{◌≡◌, ◌≢◌, ℕ, ◌+◌, ◌<◌, ◌≤◌, ◌⊎◌, ◌↔◌, ◌==◌, min, Bool, IsTrue, IsFalse, if◌then◌else◌, List, [], ◌∷◌, length, All, Contains, IfSome, MatchBool, Some}
+use Rattle.std.specs.Prelude.{◌≡◌, ◌≢◌, ℕ, ◌+◌, ◌<◌, ◌≤◌, ◌⊎◌, ◌↔◌, ◌==◌, min, Bool, IsTrue, IsFalse, if◌then◌else◌, List, [], ◌∷◌, length, All, Contains, IfSome, MatchBool, Option, Some, None}
 use Rattle.std.specs.List.{HoldsAt, list_any}
+use Rattle.std.specs.BinaryHeap.{heap_items, heap_len}
+use Rattle.std.specs.declared.alloc.Global.{Global}
 use Rattle.std.specs.declared.cmp.Reverse.{Reverse}
+use Rattle.std.specs.declared.collections.binary_heap.BinaryHeap.{BinaryHeap}
 use Rattle.st_model.specs.Lists.{has}
 use Rattle.st_model.specs.Network.{IsVertex}
 use Rattle.bidirected_form.specs.declared.arc.Arc.{Arc}
 use Rattle.bidirected_form.specs.declared.kind.VertexKind.TheVariants.{Must}
 use Rattle.bidirected_form.specs.Digraph.{Digraph, kind_of, remaining}
 use Rattle.bidirected_form.specs.Entering.{enters}
-use Rattle.prize_transform.specs.Twins.{Ends, Charges, left_of}
+use Rattle.prize_transform.specs.Twins.{Ends, left_of}
 use Rattle.cut_packing.specs.declared.cut.Cut.{Cut}
 use Rattle.dual_ascent.specs.declared.growing.Growth.{Growth}
 use Rattle.dual_ascent.specs.declared.turning.Turn.{Turn}
@@ -77,12 +80,13 @@ IsLooked D members q met = MatchBool met (Reaches D [] q D.root) (IsGrown D q me
 pub record IsTurn (D : Digraph) (cuts : List Cut) (members : List ℕ) (old new : List Entry) (t : Turn) : Type 0 where
   pub waiting : IsWaiting D cuts t.waiting
   pub waited : KeepsWaiting D cuts old (record { 0 = t.waiting } ∷ new)
+  pub rest : All (λ e. IsWaiting D cuts e.0) new
   pub looked : IsLooked D members t.waiting.vertex t.is_reached
 
--- the cut's value is taken from the prize of its q, where that may be left out
-pub record Spends (D : Digraph) (old new : Ends) (c : Cut) : Type 0 where
-  pub must : kind_of D c.q ≡ Must → new ≡ old
-  pub may : kind_of D c.q ≢ Must → Charges old new c.q c.y
+-- nobody waited; or one of those who waited has its turn, and the others wait on
+abbrev pub TakesTurn : Digraph → List Cut → List ℕ → BinaryHeap Entry Global → BinaryHeap Entry Global → Option Turn → Type 0
+TakesTurn D cuts members old new None = heap_items old ≡ []
+TakesTurn D cuts members old new (Some t) = IsTurn D cuts members (heap_items old) (heap_items new) t × (heap_len new + 1 ≡ heap_len old)
 
 -- some arc that enters the set has so much left
 pub record HasAnArcLeft (D : Digraph) (set : List ℕ) (y : ℕ) : Type 0 where

@@ -3,8 +3,9 @@ ghost use Rattle.dual_ascent.specs.Ascent.{IsAscent};
 ghost use Rattle.dual_ascent.specs.Left.{AreEndsOf};
 
 use crate::Ascent;
+use crate::charging::charge_cut;
 use crate::growing::Growth;
-use crate::raising::{charge, raise_for};
+use crate::raising::raise_for;
 use crate::turning::next_fresh;
 use crate::waiting::{Waiting, all_open};
 use bidirected_form::Arcs;
@@ -40,7 +41,7 @@ pub fn ascend(
         let Some(raise) = raise_for(alloc, arcs, twins, &growth.set, &turn, room)? else {
             continue;
         };
-        charge(arcs, twins, &raise.cut);
+        charge_cut(arcs, twins, &raise.cut);
         room -= raise.cut.y;
         queue.push(Reverse(Waiting {
             place: turn.waiting.place,

@@ -22,8 +22,9 @@ pub fn charge_cuts(arcs: &mut Arcs, twins: &mut Twins, cuts: &[Cut])
     }
 }
 
-// Takes what one cut takes.
-fn charge_cut(arcs: &mut Arcs, twins: &mut Twins, cut: &Cut)
+// Takes the value of a cut from the arcs that enter its set, and from the prize of its vertex, if
+// anything is left of that.
+pub fn charge_cut(arcs: &mut Arcs, twins: &mut Twins, cut: &Cut)
     requires set { IsVertexSet arcs.old.n cut.now.set }
     requires root { IsFalse (has cut.now.set arcs.old.root) }
     requires enough { CanBear arcs.old cut.now.set cut.now.y }

@@ -7,8 +7,6 @@
 #![tactic(auto)]
 
 mod ascending;
-#[cfg(test)]
-mod ascending_tests;
 mod ascent;
 mod border;
 mod charging;

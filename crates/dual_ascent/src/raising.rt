@@ -2,10 +2,8 @@ ghost use Rattle.std.specs.Prelude.{◌≡◌, ℕ, ◌+◌, ◌<◌, ◌≤◌,
 ghost use Rattle.std.specs.List.Sorted.{IsStrictlyIncreasing};
 ghost use Rattle.st_model.specs.Lists.{has};
 ghost use Rattle.st_model.specs.Network.{IsVertex};
-ghost use Rattle.bidirected_form.specs.Entering.{Charges};
-ghost use Rattle.dual_ascent.specs.Left.{AreEndsOf};
 ghost use Rattle.dual_ascent.specs.Raises.{IsOpen, IsRaise, Reaches};
-ghost use Rattle.dual_ascent.specs.Turns.{IsLimit, IsLooked, Spends};
+ghost use Rattle.dual_ascent.specs.Turns.{IsLimit, IsLooked};
 
 use crate::border::border_of;
 use crate::turning::Turn;
@@ -80,18 +78,4 @@ fn cut_round(alloc: Global, set: &VertexSet, q: u32, y: u64) -> Result<Cut, Allo
         q,
         y,
     })
-}
-
-// Takes the value of a cut from the arcs that enter its set, and from the prize of its vertex,
-// where that may be left out.
-pub fn charge(arcs: &mut Arcs, twins: &mut Twins, cut: &Cut)
-    requires ends { AreEndsOf arcs.old twins.old }
-    requires raise { (room : ℕ) × IsRaise arcs.old twins.old room [] cut.now }
-    ensures arcs { Charges arcs.old arcs.new cut.now.set cut.now.y }
-    ensures ends { Spends arcs.old twins.old twins.new cut.now }
-{
-    if !is_certain(arcs, cut.q) {
-        twins.charge(cut.q, cut.y);
-    }
-    arcs.charge(cut.set.as_slice(), cut.y);
 }

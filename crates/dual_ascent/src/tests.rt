@@ -1,1 +1,2 @@
+mod ascending;
 mod extending;

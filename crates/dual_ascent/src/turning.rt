@@ -1,6 +1,6 @@
-ghost use Rattle.std.specs.Prelude.{◌≡◌, ◌+◌, [], All, IfNone, IfOk, IfSome, OnOk};
-ghost use Rattle.std.specs.BinaryHeap.{heap_items, heap_len};
-ghost use Rattle.dual_ascent.specs.Turns.{IsGrowth, IsLooked, IsSameVertex, IsTurn, IsWaiting};
+ghost use Rattle.std.specs.Prelude.{All, IfOk, OnOk};
+ghost use Rattle.std.specs.BinaryHeap.{heap_items};
+ghost use Rattle.dual_ascent.specs.Turns.{IsGrowth, IsLooked, IsSameVertex, IsWaiting, TakesTurn};
 
 use crate::border::border_of;
 use crate::growing::Growth;
@@ -29,9 +29,7 @@ pub fn next_fresh(
     requires waiting { All (λ e. IsWaiting arcs.now cuts.now e.0) (heap_items queue.old) }
     requires growth { IsGrowth arcs.now growth.old }
     ensures growth { OnOk result (IsGrowth arcs.now growth.new) }
-    ensures turn { IfOk result (λ found. IfSome found (IsTurn arcs.now cuts.now growth.new.set.members (heap_items queue.old) (heap_items queue.new))) }
-    ensures len { IfOk result (λ found. IfSome found (λ _. heap_len queue.new + 1 ≡ heap_len queue.old)) }
-    ensures empty { IfOk result (λ found. IfNone found (heap_items queue.old ≡ [])) }
+    ensures turn { IfOk result (TakesTurn arcs.now cuts.now growth.new.set.members queue.old queue.new) }
 {
     for _ in 0..queue.len() {
         let Some(turn) = take_turn(arcs, cuts, growth, queue)? else {
@@ -68,10 +66,7 @@ fn take_turn(
     requires waiting { All (λ e. IsWaiting arcs.now cuts.now e.0) (heap_items queue.old) }
     requires growth { IsGrowth arcs.now growth.old }
     ensures growth { OnOk result (IsGrowth arcs.now growth.new) }
-    ensures turn { IfOk result (λ found. IfSome found (IsTurn arcs.now cuts.now growth.new.set.members (heap_items queue.old) (heap_items queue.new))) }
-    ensures waiting { IfOk result (λ found. IfSome found (λ _. All (λ e. IsWaiting arcs.now cuts.now e.0) (heap_items queue.new))) }
-    ensures len { IfOk result (λ found. IfSome found (λ _. heap_len queue.new + 1 ≡ heap_len queue.old)) }
-    ensures empty { IfOk result (λ found. IfNone found (heap_items queue.old ≡ [])) }
+    ensures turn { IfOk result (TakesTurn arcs.now cuts.now growth.new.set.members queue.old queue.new) }
 {
     match next(queue) {
         Some(waiting) => Ok(Some(look(arcs, cuts, growth, waiting)?)),

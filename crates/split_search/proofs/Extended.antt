@@ -1,6 +1,5 @@
 -- What an ascent makes of a node's packing.
 use Rattle.std.proofs.Common.{◌≡◌, ℕ, ◌+◌, ◌^◌, ◌<◌, ◌≤◌, None, subst, ◌∙◌, arith}
-use Rattle.std.specs.Prelude.{All}
 use Rattle.st_model.specs.declared.branch.Branch.{Branch}
 use Rattle.st_model.specs.Network.{Network, IsInstance}
 use Rattle.cut_packing.specs.declared.packing.Packing.{Packing}
@@ -14,14 +13,14 @@ use Rattle.split_search.specs.declared.step.End.TheVariants.{Close, Split}
 use Rattle.split_search.specs.declared.step.Step.{Step}
 use Rattle.split_search.specs.Node.{IsNode, IsNoLighter, IsChoice}
 use Rattle.split_search.specs.Step.{IsEnd, IsStep, least_after}
-use Rattle.split_search.proofs.Writing.{small_packing, writable_packing}
+use Rattle.split_search.proofs.Writing.{writable_packing}
 
 -- a node whose extended packing weighs enough closes by it
-pub reached_step : (I J : Network) (N : Node) (P : Packing) (r target least : ℕ) → J ≡ I → IsInstance I → IsNode I N → least ≤ weight I N.branch N.packing + target → IsExtension J N.branch N.packing r target (Reached P) → All (λ c. c.y < 2 ^ 64) P.cuts
+pub reached_step : (I J : Network) (N : Node) (P : Packing) (r target least : ℕ) → J ≡ I → IsInstance I → IsNode I N → weight I N.branch N.packing + target ≡ least → least < 2 ^ 64 → IsExtension J N.branch N.packing r target (Reached P)
     → IsStep I N least (record { better = None; end = Close P })
-reached_step I J N P r target least same instance node enough extended small =
+reached_step I J N P r target least same instance node all small extended =
     let e = subst (λ (K : Network). IsExtension K N.branch N.packing r target (Reached P)) same extended in
-    record { tree = tt; ends = (record { fits = e.0.fits; weighs = omega (arith, enough, e.1) }, small_packing I N.branch P instance e.0.fits e.0.sets e.0.few small) }
+    record { tree = tt; ends = (record { fits = e.0.fits; weighs = omega (arith, all, e.1) }, writable_packing I N.branch P instance e.0.fits e.0.sets e.0.few (omega (arith, all, small, e.2))) }
 
 -- the node with a full packing
 pub full_node : (I J : Network) (N : Node) (P : Packing) (r target least : ℕ) → J ≡ I → IsInstance I → IsNode I N → weight I N.branch N.packing + target ≤ least → least < 2 ^ 64 → IsExtension J N.branch N.packing r target (Full P)

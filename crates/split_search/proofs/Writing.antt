@@ -43,25 +43,22 @@ writable_cuts : (I : Network) (B : Branch) (cuts : List Cut) → IsInstance I �
 writable_cuts I B [] instance fits sets small = tt
 writable_cuts I B (c ∷ cuts) instance fits sets small = (writable_cut I B c instance fits.0 sets.0 small.0, writable_cuts I B cuts instance fits.1 sets.1 small.1)
 
+-- values are small where they sum up to little
+small_values : (cuts : List Cut) → total (λ c. c.y) cuts < 2 ^ 64 → AllByRecursion (λ c. c.y < 2 ^ 64) cuts
+small_values [] small = tt
+small_values (c ∷ cuts) small = (omega (arith, small), small_values cuts (omega (arith, small)))
+
 -- a packing that fits can be written where its sets ascend and its values are small
-pub small_packing : (I : Network) (B : Branch) (P : Packing) → IsInstance I → Fits I B P → AreSets I.n P → length P.cuts < 2 ^ 64 → All (λ c. c.y < 2 ^ 64) P.cuts → IsWritablePacking P
-small_packing I B P instance fits sets few small = record {
+pub writable_packing : (I : Network) (B : Branch) (P : Packing) → IsInstance I → Fits I B P → AreSets I.n P → length P.cuts < 2 ^ 64 → total (λ c. c.y) P.cuts < 2 ^ 64 → IsWritablePacking P
+writable_packing I B P instance fits sets few small = record {
   root = by_root P.root fits.root;
   few_cuts = few;
-  cuts = All-from_recursion IsWritableCut P.cuts (writable_cuts I B P.cuts instance (recursion_from_All (CutFits I B) P.cuts fits.cuts) (recursion_from_All (λ (c : Cut). IsVertexSet I.n c.set) P.cuts sets) (recursion_from_All (λ (c : Cut). c.y < 2 ^ 64) P.cuts small));
+  cuts = All-from_recursion IsWritableCut P.cuts (writable_cuts I B P.cuts instance (recursion_from_All (CutFits I B) P.cuts fits.cuts) (recursion_from_All (λ (c : Cut). IsVertexSet I.n c.set) P.cuts sets) (small_values P.cuts small));
 }
   where
     by_root : (root : Option ℕ) → MatchOption root (P.cuts ≡ []) (IsRoot I B P.cuts) → IfSome root IsAnyVertex
     by_root None none = tt
     by_root (Some r) root = any_vertex I r instance root.vertex
-
--- so they are where they sum up to little
-small_values : (cuts : List Cut) → total (λ c. c.y) cuts < 2 ^ 64 → AllByRecursion (λ c. c.y < 2 ^ 64) cuts
-small_values [] small = tt
-small_values (c ∷ cuts) small = (omega (arith, small), small_values cuts (omega (arith, small)))
-
-pub writable_packing : (I : Network) (B : Branch) (P : Packing) → IsInstance I → Fits I B P → AreSets I.n P → length P.cuts < 2 ^ 64 → total (λ c. c.y) P.cuts < 2 ^ 64 → IsWritablePacking P
-writable_packing I B P instance fits sets few small = small_packing I B P instance fits sets few (All-from_recursion (λ (c : Cut). c.y < 2 ^ 64) P.cuts (small_values P.cuts small))
 
 -- how many vertices are in the list
 abbrev members : ℕ → List ℕ → ℕ

@@ -1,4 +1,4 @@
-ghost use Rattle.std.specs.Prelude.{◌≡◌, ◌+◌, ◌*◌, ◌^◌, ◌<◌, ◌≤◌, length, All, IfOk, IfSome};
+ghost use Rattle.std.specs.Prelude.{◌≡◌, ◌+◌, ◌*◌, ◌<◌, ◌≤◌, length, IfOk, IfSome};
 ghost use Rattle.st_model.specs.Lists.{sum_to};
 ghost use Rattle.st_model.specs.Network.{IsInstance, pays};
 ghost use Rattle.st_model.specs.Arborescence.{IsTree, cost};
@@ -19,7 +19,7 @@ use crate::raising::raise;
 use crate::sides::Sides;
 use crate::step::{End, Priced, Step};
 use crate::used_up::used_up;
-use cut_packing::{Cut, Packing, weight};
+use cut_packing::{Packing, weight};
 use dual_ascent::{Ascent, Extension};
 use graph_store::Store;
 use level_packing::{Leaf, close_all};
@@ -124,10 +124,7 @@ fn ascend(
     let Node { branch, packing } = node;
     let Extension { ascent, arcs } = raise(alloc, instance, store, &branch, packing, root, least)?;
     match ascent {
-        Ascent::Reached(packing) => {
-            values_fit(packing.cuts.as_slice());
-            Ok(closed(packing))
-        }
+        Ascent::Reached(packing) => Ok(closed(packing)),
         Ascent::Full(packing) => {
             let heads = used_up(alloc, &arcs)?;
             let better = better_tree(alloc, instance, store, &branch, &heads, root, least)?;
@@ -167,19 +164,4 @@ fn least_after(least: u64, better: &Option<Priced>) -> u64
         Some(found) => found.price,
         None => least,
     }
-}
-
-// Each cut's value is a number of 64 bits, so that it can be written.
-fn values_fit(cuts: &[Cut])
-    ensures { All (λ c. c.y < 2 ^ 64) cuts.now }
-{
-    for cut in cuts {
-        value_fits(cut);
-    }
-}
-
-fn value_fits(cut: &Cut)
-    ensures { cut.now.y < 2 ^ 64 }
-{
-    let _value = cut.y;
 }

@@ -1,7 +1,7 @@
-use Rattle.std.proofs.Common.{◌≡◌, ◌∷◌, length, Some, ap, refl, subst, arith}
+use Rattle.std.proofs.Common.{◌≡◌, [], ◌∷◌, length, Some, ap, refl, subst, arith}
 use Rattle.std.specs.BinaryHeap.{heap_items}
-use Rattle.std.proofs.lemmas.List.Sorted.{IsPermutation-refl}
 use Rattle.dual_ascent.specs.Turns.{AreWaiting}
+use Rattle.dual_ascent.proofs.Fresh.{raise_borne, raise_paid}
 use Rattle.dual_ascent.proofs.Queued.{growth_still, none_waiting, waiting_past, waiting_again}
 use Rattle.dual_ascent.proofs.SoFar.{one_more, ends_now, ends_full}
 use Rattle.dual_ascent.proofs.ascending.ascend.Goals as goal
@@ -11,20 +11,20 @@ returns-in_default c =
     let D = c.args.arcs.now in
     let D' = c.loop-room.arcs in
     let cuts = c.loop-room.cuts.items in
-    let waiting = subst (AreWaiting D' c.loop-room.twins cuts) (rw c.in_default.is at c.in_ok-turn.ensures.empty) c.loop-room.invariant.waiting in
+    let waiting = subst (AreWaiting D' c.loop-room.twins cuts) (rw c.in_default.is at c.in_ok-turn.ensures.turn) c.loop-room.invariant.waiting in
     ends_full D D' c.args.twins.now c.loop-room.twins c.args.target c.loop-room.room cuts c.loop-room.invariant.so_far c.packing.result (rw c.root.ensures.root at c.packing.ensures) c.ranges.target.fits c.loop-room-test.true (none_waiting D' c.loop-room.twins cuts waiting)
 
 pub next_fresh-requires-clause-waiting : goal.next_fresh-requires-clause-waiting
 next_fresh-requires-clause-waiting c = rw c.deref.ensures.value c.loop-room.invariant.waiting.each
 
 pub raise_for-requires-clause-vertex : goal.raise_for-requires-clause-vertex
-raise_for-requires-clause-vertex c = (rw c.in-Some.is at c.in_ok-turn.ensures.turn).waiting.in_range
+raise_for-requires-clause-vertex c = (rw c.in-Some.is at c.in_ok-turn.ensures.turn).0.waiting.in_range
 
 pub raise_for-requires-clause-in_range : goal.raise_for-requires-clause-in_range
 raise_for-requires-clause-in_range c = c.in_ok-turn.ensures.growth.in_range
 
 pub raise_for-requires-clause-looked : goal.raise_for-requires-clause-looked
-raise_for-requires-clause-looked c = (rw c.in-Some.is at c.in_ok-turn.ensures.turn).looked
+raise_for-requires-clause-looked c = (rw c.in-Some.is at c.in_ok-turn.ensures.turn).0.looked
 
 pub loop-room-preserved-in_default-2 : goal.loop-room-preserved-in_default-2
 loop-room-preserved-in_default-2 c =
@@ -32,15 +32,26 @@ loop-room-preserved-in_default-2 c =
     let E' = c.loop-room.twins in
     let cuts = c.loop-room.cuts.items in
     let rest = heap_items c.next_fresh.new.queue in
-    let turn = rw c.deref.ensures.value at (rw c.in-Some.is at c.in_ok-turn.ensures.turn) in
+    let turn = (rw c.deref.ensures.value at (rw c.in-Some.is at c.in_ok-turn.ensures.turn)).0 in
     record {
       so_far = c.loop-room.invariant.so_far;
-      waiting = waiting_past D' E' cuts (record { 0 = c.in-Some.turn.waiting } ∷ rest) rest (record { 0 = c.in-Some.turn.waiting }) (IsPermutation-refl _) (rw c.in_default-2.is at c.in_ok-raise.ensures) (turn.waited E' c.loop-room.invariant.waiting);
+      waiting = waiting_past D' E' cuts rest (record { 0 = c.in-Some.turn.waiting }) (rw c.in_default-2.is at c.in_ok-raise.ensures) (turn.waited E' c.loop-room.invariant.waiting);
       growth = c.in_ok-turn.ensures.growth;
     }
 
-pub charge-requires-clause-ends : goal.charge-requires-clause-ends
-charge-requires-clause-ends c = ends_now c.args.arcs.now c.loop-room.arcs c.args.twins.now c.loop-room.twins c.args.target c.loop-room.room c.loop-room.cuts.items c.loop-room.invariant.so_far c.requires
+pub charge_cut-requires-clause-set : goal.charge_cut-requires-clause-set
+charge_cut-requires-clause-set c = (rw c.in-Some-2.is at c.in_ok-raise.ensures).0.set
+
+pub charge_cut-requires-clause-root : goal.charge_cut-requires-clause-root
+charge_cut-requires-clause-root c = (rw c.in-Some-2.is at c.in_ok-raise.ensures).0.apart
+
+pub charge_cut-requires-clause-enough : goal.charge_cut-requires-clause-enough
+charge_cut-requires-clause-enough c = raise_borne c.loop-room.arcs c.loop-room.twins c.loop-room.room c.in-Some-2.raise.cut (rw c.in-Some-2.is at c.in_ok-raise.ensures).0
+
+pub charge_cut-requires-clause-prize : goal.charge_cut-requires-clause-prize
+charge_cut-requires-clause-prize c =
+    let ends = ends_now c.args.arcs.now c.loop-room.arcs c.args.twins.now c.loop-room.twins c.args.target c.loop-room.room c.loop-room.cuts.items c.loop-room.invariant.so_far c.requires in
+    raise_paid c.loop-room.arcs c.loop-room.twins c.loop-room.room c.in-Some-2.raise.cut ends (rw c.in-Some-2.is at c.in_ok-raise.ensures).0
 
 pub loop-room-preserved : goal.loop-room-preserved
 loop-room-preserved c =
@@ -49,11 +60,11 @@ loop-room-preserved c =
     let cuts = c.loop-room.cuts.items in
     let cut = c.in-Some-2.raise.cut in
     let raise = rw c.in-Some-2.is at c.in_ok-raise.ensures in
-    let turn = rw c.deref.ensures.value at (rw c.in-Some.is at c.in_ok-turn.ensures.turn) in
+    let turn = (rw c.deref.ensures.value at (rw c.in-Some.is at c.in_ok-turn.ensures.turn)).0 in
     let rest = heap_items c.next_fresh.new.queue in
     let last : c.len.result ≡ length cuts = omega (arith, c.len.ensures, c.loop-room.cuts.ok.0) in
     record {
-      so_far = rw c.in_ok-push-2.ensures.items (one_more c.args.arcs.now D' c.args.twins.now E' c.args.target c.loop-room.room cuts c.loop-room.invariant.so_far c.charge.new.arcs c.charge.new.twins cut raise.0 c.requires c.charge.ensures.arcs c.charge.ensures.ends);
-      waiting = rw c.in_ok-push-2.ensures.items (waiting_again D' c.charge.new.arcs E' c.charge.new.twins c.loop-room.room cuts (record { 0 = c.in-Some.turn.waiting } ∷ rest) rest (heap_items c.push.new.self) _ _ cut (IsPermutation-refl _) raise.0 raise.1 c.charge.ensures.arcs c.charge.ensures.ends c.in_ok-push.ensures.permutation refl (ap Some last) (turn.waited E' c.loop-room.invariant.waiting));
-      growth = growth_still D' c.charge.new.arcs cut.set cut.y c.next_fresh.new.growth c.charge.ensures.arcs c.in_ok-turn.ensures.growth;
+      so_far = rw c.in_ok-push-2.ensures.items (one_more c.args.arcs.now D' c.args.twins.now E' c.args.target c.loop-room.room cuts c.loop-room.invariant.so_far c.charge_cut.new.arcs c.charge_cut.new.twins cut raise.0 c.charge_cut.ensures.arcs c.charge_cut.ensures.ends);
+      waiting = rw c.in_ok-push-2.ensures.items (waiting_again D' c.charge_cut.new.arcs E' c.charge_cut.new.twins c.loop-room.room cuts rest (heap_items c.push.new.self) (record { 0 = c.in-Some.turn.waiting }) _ cut raise.0 raise.1 c.charge_cut.ensures.arcs c.charge_cut.ensures.ends c.in_ok-push.ensures.permutation refl (ap Some last) (turn.waited E' c.loop-room.invariant.waiting));
+      growth = growth_still D' c.charge_cut.new.arcs (cut ∷ []) c.next_fresh.new.growth c.charge_cut.ensures.arcs c.in_ok-turn.ensures.growth;
     }

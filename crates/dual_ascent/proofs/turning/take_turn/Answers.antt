@@ -1,5 +1,5 @@
 use Rattle.std.specs.BinaryHeap.{heap_items}
-use Rattle.dual_ascent.proofs.Turned.{first_waiting, rest_waiting, turn_made}
+use Rattle.dual_ascent.proofs.Turned.{first_waiting, turn_made}
 use Rattle.dual_ascent.proofs.turning.take_turn.Goals as goal
 
 pub look-requires-clause-waiting : goal.look-requires-clause-waiting
@@ -7,7 +7,4 @@ look-requires-clause-waiting c = first_waiting c.args.arcs.now c.args.cuts.now (
 
 pub returns-in_ok-look-in-Some-clause-turn : goal.returns-in_ok-look-in-Some-clause-turn
 returns-in_ok-look-in-Some-clause-turn c =
-    turn_made c.args.arcs.now c.args.cuts.now c.look.new.growth.set.members (heap_items c.args.queue.now) (heap_items c.next.new.queue) c.in-Some.waiting c.in_ok-look-in-Some.field-0 c.in-Some.ensures.moved c.requires.waiting c.in_ok-look-in-Some.ensures.same c.in_ok-look-in-Some.ensures.looked
-
-pub returns-in_ok-look-in-Some-clause-waiting : goal.returns-in_ok-look-in-Some-clause-waiting
-returns-in_ok-look-in-Some-clause-waiting c = rest_waiting c.args.arcs.now c.args.cuts.now (heap_items c.args.queue.now) (heap_items c.next.new.queue) c.in-Some.waiting c.in-Some.ensures.moved c.requires.waiting
+    (turn_made c.args.arcs.now c.args.cuts.now c.look.new.growth.set.members (heap_items c.args.queue.now) (heap_items c.next.new.queue) c.in-Some.waiting c.in_ok-look-in-Some.field-0 c.in-Some.ensures.moved c.requires.waiting c.in_ok-look-in-Some.ensures.same c.in_ok-look-in-Some.ensures.looked, c.in-Some.ensures.len)

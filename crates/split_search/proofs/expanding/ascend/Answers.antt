@@ -9,8 +9,7 @@ use Rattle.split_search.proofs.expanding.ascend.Goals as goal
 pub returns-in-Reached : goal.returns-in-Reached
 returns-in-Reached c =
     let e = rw c.in-Reached.is at c.in_ok-ascent.ensures.extended in
-    let small = rw c.as_slice.ensures at c.values_fit.ensures in
-    rw c.closed.ensures (reached_step c.args.instance.now c.args.instance.now c.args.node c.in-Reached.packing c.args.root (c.args.least - weight c.args.instance.now c.args.node.branch c.args.node.packing) c.args.least refl c.requires.instance c.requires.node (omega arith) e small)
+    rw c.closed.ensures (reached_step c.args.instance.now c.args.instance.now c.args.node c.in-Reached.packing c.args.root (c.args.least - weight c.args.instance.now c.args.node.branch c.args.node.packing) c.args.least refl c.requires.instance c.requires.node (omega (arith, c.requires.light)) c.ranges.least.fits e)
 
 -- the node with its full packing is no lighter
 full : (c : In-Full) → IsNoLighter c.args.instance.now c.args.node (record { branch = c.args.node.branch; packing = c.in-Full.packing })
