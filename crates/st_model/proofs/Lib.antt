@@ -14,4 +14,5 @@ pub mod RegrowSteps
 pub mod RegrowLaws
 pub mod RegrowAlike
 pub mod Marked
+pub mod Extending
 pub mod Halves
