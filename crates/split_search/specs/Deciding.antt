@@ -5,7 +5,7 @@ use Rattle.st_model.specs.Lists.{has}
 use Rattle.st_model.specs.Network.{Network, IsVertex, pays}
 use Rattle.st_model.specs.Branch.{IsVertexSet, is_certain}
 use Rattle.graph_store.specs.Graph.{Graph}
-use Rattle.cut_packing.specs.Led.{heads_at}
+use Rattle.vertex_lists.specs.Led.{heads_at}
 use Rattle.dual_ascent.specs.Left.{IsWhole}
 
 -- the graph is the network, and no vertex is gone

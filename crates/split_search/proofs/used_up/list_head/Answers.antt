@@ -1,6 +1,6 @@
 use Rattle.std.proofs.Common.{◌<◌, [], ◌∷◌, ◌++◌, length, get_or, arith}
 use Rattle.std.proofs.lemmas.List.{length-map}
-use Rattle.cut_packing.proofs.VectorLists.{lists-set}
+use Rattle.vertex_lists.proofs.VectorLists.{lists-set}
 use Rattle.level_packing.specs.Forest.{lists}
 use Rattle.split_search.proofs.Heads.{one_listed}
 use Rattle.split_search.proofs.used_up.list_head.Goals.{then-arc-eq0+in_ok-push, else-arc-eq0}

@@ -1,6 +1,6 @@
 use Rattle.std.proofs.Common.{◌<◌, length, sym, arith}
 use Rattle.std.proofs.lemmas.Option.{slice_get_within, get_or_from_slice_get}
-use Rattle.cut_packing.proofs.VectorLists.{list_at}
+use Rattle.vertex_lists.proofs.VectorLists.{list_at}
 use Rattle.split_search.proofs.used_up.reached.Goals as goal
 
 pub add_all-requires : goal.add_all-requires
