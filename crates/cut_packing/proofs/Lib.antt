@@ -1,12 +1,10 @@
 pub mod Sums
 pub mod Members
 pub mod Loaded
-pub mod VectorLists
 pub mod ArcLists
 pub mod Turned
 pub mod Charged
 pub mod Duality
 pub mod Judged
 pub mod HeldSets
-pub mod Walked
 pub mod UsedUpArcs

@@ -8,11 +8,11 @@ use Rattle.std.proofs.lemmas.List.Elements.{All-head, All-tail, recursion_from_A
 use Rattle.st_model.specs.declared.branch.Branch.{Branch}
 use Rattle.st_model.specs.Lists.{has}
 use Rattle.st_model.specs.Network.{Network, IsInstance, IsVertex, link}
+use Rattle.vertex_lists.specs.Led.{heads_at, IsLed, start, along, AreLed}
 use Rattle.cut_packing.specs.declared.arcs.LoadedArc.{LoadedArc}
 use Rattle.cut_packing.specs.declared.packing.Packing.{Packing}
 use Rattle.cut_packing.specs.Packing.{load}
 use Rattle.cut_packing.specs.Full.{IsUsedUp, IsReached, here, there}
-use Rattle.cut_packing.specs.Led.{heads_at, IsLed, start, along, AreLed}
 use Rattle.cut_packing.specs.Loads.{arcs_into, IsLoaded, AreLoaded}
 use Rattle.cut_packing.specs.UsedUp.{is_used, AreUsedUp}
 use Rattle.st_model.proofs.Marked.{has_at, place_of}

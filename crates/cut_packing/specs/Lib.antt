@@ -1,6 +1,5 @@
 pub mod Packing
 pub mod Loads
-pub mod Led
 pub mod Full
 pub mod UsedUp
 pub mod SetTable

@@ -1,8 +1,8 @@
 ghost use Rattle.std.specs.Prelude.{◌≡◌, ◌+◌, ◌<◌, ◌≤◌, ◌↔◌, ◌^◌, IsTrue, [], length, map, All, slice_set};
 ghost use Rattle.cut_packing.specs.Loads.{arcs_into, laid};
 
-use crate::lists::Lists;
 use st_model::VertexSet;
+use vertex_lists::Lists;
 
 /// An arc into some vertex: its tail, the cost of its link, and the value of the cuts it enters.
 #[derive(Clone, Copy, Debug)]
@@ -15,47 +15,39 @@ pub struct LoadedArc {
 /// The arcs into each vertex below a count.
 pub type Arcs = Lists<LoadedArc>;
 
-impl Lists<LoadedArc> {
-    /// Whether each arc bears at most its link's cost.
-    pub fn can_bear(&self) -> bool
-        ensures { IsTrue result ↔ All (All (λ arc. arc.load ≤ arc.cost)) self.now }
-    {
-        lists_can_bear(&self.lists)
-    }
-
-    /// Lays a value on the arcs into a vertex from outside a set.
-    pub fn lay(&mut self, head: u32, set: &VertexSet, value: u64)
-        requires head { head < length self.old }
-        requires room { All (λ arc. arc.load + value < 2 ^ 128) (arcs_into self.old head) }
-        ensures { self.new ≡ slice_set self.old head
-            (map (laid set.now.members value) (arcs_into self.old head)) }
-    {
-        lay_on(&mut self.lists[head as usize], set, value);
-    }
+/// Whether each arc bears at most its link's cost.
+pub fn can_bear(arcs: &Arcs) -> bool
+    ensures { IsTrue result ↔ All (All (λ arc. arc.load ≤ arc.cost)) arcs.now }
+{
+    lists_can_bear(arcs.lists())
 }
 
 // Whether each arc of each list bears at most its link's cost.
 fn lists_can_bear(lists: &[Vec<LoadedArc>]) -> bool
     ensures { IsTrue result ↔ All (λ list. All (λ arc. arc.load ≤ arc.cost) list.items) lists.now }
 {
-    lists.iter().all(|list| can_bear(list))
+    lists.iter().all(|list| list_can_bear(list))
 }
 
-// Whether each arc bears at most its link's cost.
-fn can_bear(arcs: &[LoadedArc]) -> bool
+// Whether each arc of a list bears at most its link's cost.
+fn list_can_bear(arcs: &[LoadedArc]) -> bool
     ensures { IsTrue result ↔ All (λ arc. arc.load ≤ arc.cost) arcs.now }
 {
     arcs.iter().all(|arc| arc.load <= u128::from(arc.cost))
 }
 
-// Lays a value on the arcs from outside a set.
-fn lay_on(arcs: &mut [LoadedArc], set: &VertexSet, value: u64)
-    requires { All (λ arc. arc.load + value < 2 ^ 128) arcs.old }
-    ensures { arcs.new ≡ map (laid set.now.members value) arcs.old }
+/// Lays a value on the arcs into a vertex from outside a set.
+pub fn lay_into(arcs: &mut Arcs, head: u32, set: &VertexSet, value: u64)
+    requires head { head < length arcs.old }
+    requires room { All (λ arc. arc.load + value < 2 ^ 128) (arcs_into arcs.old head) }
+    ensures { arcs.new ≡ slice_set arcs.old head
+        (map (laid set.now.members value) (arcs_into arcs.old head)) }
 {
-    for arc in arcs.iter_mut() {
+    for place in 0..arcs.at(head).len() {
+        let arc = arcs.at(head)[place];
         if !set.contains(arc.tail) {
-            arc.load += u128::from(value);
+            let load = arc.load + u128::from(value);
+            arcs.set(head, place, LoadedArc { load, ..arc });
         }
     }
 }

@@ -5,6 +5,7 @@ ghost use Rattle.st_model.specs.Lists.{has};
 ghost use Rattle.st_model.specs.Network.{IsVertex};
 ghost use Rattle.cut_packing.specs.Packing.{IsRoot, RootFits, CutFits, ArcsFit, PrizesFit, Fits};
 
+use crate::arcs::can_bear;
 use crate::loads::loads;
 use crate::named::named_values;
 use crate::{Cut, Packing};
@@ -129,7 +130,7 @@ fn arcs_fit(
         (λ yes. IsTrue yes ↔ ArcsFit instance.now branch.now packing.now.cuts) }
 {
     let arcs = loads(alloc, instance, branch, packing.cuts.as_slice())?;
-    Ok(arcs.can_bear())
+    Ok(can_bear(&arcs))
 }
 
 // Whether no vertex that may be left out is named beyond what it pays.

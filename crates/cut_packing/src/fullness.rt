@@ -6,9 +6,9 @@ ghost use Rattle.cut_packing.specs.Full.{is_open, IsReached, IsFullFrom, IsFull}
 use crate::Packing;
 use crate::named::named_values;
 use crate::used_up::used_up;
-use crate::walk::walk;
 use st_model::{Branch, Instance, Need, VertexSet};
 use std::alloc::{AllocError, Global};
+use vertex_lists::walk;
 
 /// Whether a packing is full in a branch: from its root, arcs whose whole cost the cuts take lead
 /// to every vertex that is required or inside, and to every undecided one that the cuts that name

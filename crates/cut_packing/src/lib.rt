@@ -11,7 +11,6 @@ mod cut;
 mod fitting;
 mod fullness;
 mod law;
-mod lists;
 mod loads;
 mod named;
 mod packing;
@@ -19,7 +18,6 @@ mod set_table;
 #[cfg(test)]
 mod tests;
 mod used_up;
-mod walk;
 mod weighing;
 
 pub use cut::Cut;

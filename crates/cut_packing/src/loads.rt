@@ -4,7 +4,7 @@ ghost use Rattle.cut_packing.specs.Loads.{arcs_into, laid, AreLoaded};
 ghost use Rattle.st_model.specs.VertexSet.{AllApart};
 
 use crate::Cut;
-use crate::arcs::{Arcs, LoadedArc};
+use crate::arcs::{Arcs, LoadedArc, lay_into};
 use st_model::{Branch, Instance, Link, VertexSet};
 use std::alloc::{AllocError, Global};
 
@@ -72,6 +72,6 @@ fn lay(arcs: &mut Arcs, set: &VertexSet, value: u64)
         then map (laid set.now.members value) (arcs_into arcs.old v) else arcs_into arcs.old v) }
 {
     for head in set.members() {
-        arcs.lay(*head, set, value);
+        lay_into(arcs, *head, set, value);
     }
 }

@@ -1,15 +1,15 @@
 ghost use Rattle.std.specs.Prelude.{◌≡◌, ℕ, ◌<◌, ◌^◌, ◌==◌, ◌&&◌, ◌||◌, length, All, IfOk, OnOk};
 ghost use Rattle.st_model.specs.Lists.{has};
-ghost use Rattle.cut_packing.specs.Led.{heads_at};
+ghost use Rattle.vertex_lists.specs.Led.{heads_at};
 ghost use Rattle.cut_packing.specs.Loads.{arcs_into};
 ghost use Rattle.cut_packing.specs.UsedUp.{is_used, AreUsedUp};
 
 use crate::Packing;
 use crate::arcs::{Arcs, LoadedArc};
-use crate::lists::Lists;
 use crate::loads::loads;
 use st_model::{Branch, Instance};
 use std::alloc::{AllocError, Global};
+use vertex_lists::Lists;
 
 /// The heads of the arcs whose whole cost the cuts take, listed at their tails.
 pub fn used_up(

@@ -7,13 +7,15 @@ use Rattle.std.proofs.lemmas.Option.{get_or_from_slice_get, slice_get_within}
 use Rattle.std.proofs.lemmas.List.Elements.{All-nil, All-cons, All-append, All-push, All-weaker, recursion_from_All}
 use Rattle.st_model.specs.Lists.{has}
 use Rattle.st_model.specs.Network.{IsVertex}
+use Rattle.st_model.specs.VertexSet.{Extends}
+use Rattle.st_model.proofs.Extending.{Extends-insert}
+use Rattle.st_model.proofs.Marked.{at_member, has-push, place_of}
+use Rattle.vertex_lists.specs.Led.{IsLed, AreLed, start, along}
+use Rattle.vertex_lists.proofs.Walked.{IsWalked, IsWalked-step, AreLed-done}
 use Rattle.bidirected_form.specs.declared.arc.Arc.{Arc}
 use Rattle.bidirected_form.specs.Digraph.{Digraph, IsDigraph, arcs_into, left_from, remaining}
 use Rattle.bidirected_form.proofs.Lookups.{Rise, Rise-rest, left_from-found}
 use Rattle.cut_packing.specs.declared.cut.Cut.{Cut}
-use Rattle.cut_packing.specs.Led.{Extends, IsLed, AreLed, start, along}
-use Rattle.st_model.proofs.Marked.{at_member, has-push, place_of}
-use Rattle.cut_packing.proofs.Walked.{Extends-insert, IsWalked, IsWalked-step, AreLed-done}
 use Rattle.dual_ascent.specs.declared.growing.Growth.{Growth}
 use Rattle.dual_ascent.specs.Raises.{IsUsedUp, Reaches, here, there}
 use Rattle.dual_ascent.specs.Turns.{free_tails, AreSeeds, IsGathered, IsGrowth}

@@ -1,7 +1,7 @@
 ghost use Rattle.std.specs.Prelude.{◌≡◌, ℕ, ◌+◌, ◌<◌, [], All, IfOk, IsFalse, MatchBool, OnOk};
 ghost use Rattle.st_model.specs.Lists.{has};
 ghost use Rattle.st_model.specs.Network.{IsVertex};
-ghost use Rattle.cut_packing.specs.Led.{Extends};
+ghost use Rattle.st_model.specs.VertexSet.{Extends};
 ghost use Rattle.dual_ascent.specs.Raises.{Reaches};
 ghost use Rattle.dual_ascent.specs.Turns.{AreSeeds, IsGathered, IsGrown, IsGrowth, IsWaiting, free_tails};
 
@@ -90,20 +90,8 @@ fn gather_from(
         → IsGathered arcs.now q reached.now.members set.new.members met) }
 {
     set.clear();
-    add_all(set, vertices)?;
+    set.extend(vertices)?;
     grow(arcs, set, reached)
-}
-
-// Adds the vertices of a list.
-fn add_all(set: &mut VertexSet, vertices: &[u32]) -> Result<(), AllocError>
-    requires { All (λ v. v < set.old.count) vertices.now }
-    ensures count { set.new.count ≡ set.old.count }
-    ensures extends { OnOk result (Extends set.old.members set.new.members vertices.now) }
-{
-    for vertex in vertices {
-        set.insert(*vertex)?;
-    }
-    Ok(())
 }
 
 // Adds what reaches the set over arcs with nothing left, as far as none is met that is reached.

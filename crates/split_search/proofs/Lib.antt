@@ -4,7 +4,6 @@ pub mod Turns
 pub mod Continuing
 pub mod Writing
 pub mod Those
-pub mod Heads
 pub mod Steps
 pub mod Extended
 pub mod Heavier

@@ -1,11 +1,12 @@
 -- A branch's vertices by what is decided of them. Helpers' clauses cite this, and no public one.
-use Rattle.std.specs.Prelude.{◌≡◌, ℕ, ◌<◌, ◌≤◌, Bool, ◌||◌, not, IsTrue, List, [], length, All, Option, Some, None}
+use Rattle.std.specs.Prelude.{◌≡◌, ℕ, ◌≤◌, ◌==◌, Bool, ◌&&◌, ◌||◌, not, IsTrue, List, [], All, Option, Some, None}
+use Rattle.std.specs.List.{list_any}
 use Rattle.st_model.specs.declared.branch.Branch.{Branch}
 use Rattle.st_model.specs.Lists.{has}
 use Rattle.st_model.specs.Network.{Network, IsVertex, pays}
 use Rattle.st_model.specs.Branch.{IsVertexSet, is_certain}
 use Rattle.graph_store.specs.Graph.{Graph}
-use Rattle.cut_packing.specs.Led.{heads_at}
+use Rattle.bidirected_form.specs.declared.arc.Arc.{Arc}
 use Rattle.dual_ascent.specs.Left.{IsWhole}
 
 -- the graph is the network, and no vertex is gone
@@ -32,7 +33,6 @@ abbrev pub IsDearest : Network → List ℕ → Option ℕ → ℕ → Type 0
 IsDearest I vertices None prize = vertices ≡ []
 IsDearest I vertices (Some v) prize = IsTrue (has vertices v) × (prize ≡ pays I v) × All (λ w. pays I w ≤ prize) vertices
 
--- a list for each vertex below a count, of such vertices
-pub record AreHeads (count : ℕ) (heads : List (List ℕ)) : Type 0 where
-  pub long : length heads ≡ count
-  pub in_range : (u : ℕ) → All (λ v. v < count) (heads_at heads u)
+-- whether one of the arcs comes from u and has nothing left
+abbrev pub is_used_up : List Arc → ℕ → Bool
+is_used_up arcs u = list_any (λ arc. (arc.tail == u) && (arc.remaining == 0)) arcs

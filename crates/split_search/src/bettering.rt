@@ -1,18 +1,18 @@
-ghost use Rattle.std.specs.Prelude.{◌≡◌, ◌+◌, ◌<◌, ◌≤◌, IfOk, IfSome, IfNone, length};
+ghost use Rattle.std.specs.Prelude.{◌≡◌, ℕ, ◌+◌, ◌<◌, ◌≤◌, All, IfOk, IfSome, IfNone, length};
 ghost use Rattle.st_model.specs.Arborescence.{IsTree, cost};
 ghost use Rattle.st_model.specs.Branch.{IsBranch};
 ghost use Rattle.st_model.specs.Network.{IsVertex};
-ghost use Rattle.level_packing.specs.Forest.{lists};
-ghost use Rattle.split_search.specs.Deciding.{AreHeads, AreThose, IsWholeOf, is_left_out};
+ghost use Rattle.vertex_lists.specs.Led.{heads_at};
+ghost use Rattle.split_search.specs.Deciding.{AreThose, IsWholeOf, is_left_out};
 ghost use Rattle.split_search.specs.Step.{IsBetter};
 
 use crate::sides::Sides;
 use crate::step::Priced;
-use crate::used_up::reached;
 use graph_store::Store;
 use st_model::{Branch, Instance, Listed, Tree, VertexSet, tree_cost};
 use std::alloc::{AllocError, Global};
 use tree_heuristic::{first_tree, prune};
+use vertex_lists::{Lists, walk};
 
 /// A tree that costs less than the least cost known, if one is found: a first tree, pruned, over
 /// the vertices to which arcs with nothing left lead from a root, and those that have to be
@@ -22,17 +22,17 @@ pub fn better_tree(
     instance: &Instance,
     store: &Store,
     branch: &Branch,
-    heads: &[Vec<u32>],
+    heads: &Lists<u32>,
     root: u32,
     least: u64,
 ) -> Result<Option<Priced>, AllocError>
     requires store { IsWholeOf instance.now store.now }
     requires branch { IsBranch instance.now branch.now }
-    requires heads { AreHeads (length heads.now) (lists heads.now) }
+    requires heads { (u : ℕ) → All (λ v. v < length heads.now) (heads_at heads.now u) }
     requires root { root < length heads.now }
     ensures { IfOk result (λ better. IfSome better (IsBetter instance.now least)) }
 {
-    let reached = reached(alloc, heads, root)?;
+    let reached = walk(alloc, heads, root)?;
     let narrow = narrowed(alloc, instance, branch, &reached)?;
     let Some(tree) = first_tree(alloc, store, &narrow)? else {
         return Ok(None);

@@ -14,6 +14,7 @@ pub mod RegrowSteps
 pub mod RegrowLaws
 pub mod RegrowAlike
 pub mod Marked
+pub mod Extending
 pub mod Halves
 pub mod Booleans
 pub mod Members

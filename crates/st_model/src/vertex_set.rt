@@ -1,6 +1,6 @@
-ghost use Rattle.std.specs.Prelude.{◌≡◌, ℕ, ◌<◌, ◌≤◌, [], ◌∷◌, ◌++◌, length, slice_get, OnOk, OnErr, IfOk, All, if◌then◌else◌};
+ghost use Rattle.std.specs.Prelude.{◌≡◌, ℕ, ◌<◌, ◌≤◌, [], ◌∷◌, ◌++◌, length, take, slice_get, OnOk, OnErr, IfOk, All, if◌then◌else◌};
 ghost use Rattle.st_model.specs.Lists.{has};
-ghost use Rattle.st_model.specs.VertexSet.{AllApart, IsMarked};
+ghost use Rattle.st_model.specs.VertexSet.{AllApart, Extends, IsMarked};
 
 use std::alloc::{AllocError, Global};
 use std::marker::Model;
@@ -88,6 +88,21 @@ impl VertexSet {
         if !self.marks[vertex as usize] {
             self.members.push(vertex)?;
             self.marks[vertex as usize] = true;
+        }
+        Ok(())
+    }
+
+    /// Adds all of the vertices of a list. After an error it has those of a front of the list.
+    pub fn extend(&mut self, vertices: &[u32]) -> Result<(), AllocError>
+        requires { All (λ v. v < self.old.count) vertices.now }
+        ensures count { self.new.count ≡ self.old.count }
+        ensures extends { OnOk result
+            (Extends self.old.members self.new.members vertices.now) }
+        ensures err { OnErr result
+            ((k : ℕ) × Extends self.old.members self.new.members (take k vertices.now)) }
+    {
+        for &vertex in vertices {
+            self.insert(vertex)?;
         }
         Ok(())
     }

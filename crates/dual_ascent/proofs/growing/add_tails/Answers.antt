@@ -1,8 +1,8 @@
 use Rattle.std.proofs.Common.{◌∙◌, List, get_or, take, refl, sym, subst}
 use Rattle.std.proofs.lemmas.List.{take_more}
+use Rattle.st_model.specs.VertexSet.{Extends}
+use Rattle.st_model.proofs.Extending.{Extends-none}
 use Rattle.bidirected_form.specs.declared.arc.Arc.{Arc}
-use Rattle.cut_packing.specs.Led.{Extends}
-use Rattle.cut_packing.proofs.Walked.{Extends-none}
 use Rattle.dual_ascent.specs.Turns.{free_tails}
 use Rattle.dual_ascent.proofs.Reaching.{tails_with, tails_past}
 use Rattle.dual_ascent.proofs.growing.add_tails.Goals as goal

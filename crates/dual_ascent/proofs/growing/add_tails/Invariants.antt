@@ -1,5 +1,5 @@
 use Rattle.std.proofs.Common.{◌≡◌, take}
-use Rattle.cut_packing.specs.Led.{Extends}
+use Rattle.st_model.specs.VertexSet.{Extends}
 use Rattle.dual_ascent.specs.Turns.{free_tails}
 use Rattle.dual_ascent.proofs.growing.add_tails.Given as goal
 

@@ -1,7 +1,11 @@
-use Rattle.std.proofs.Common.{◌+◌}
-use Rattle.level_packing.specs.Forest.{lists}
-use Rattle.split_search.specs.Deciding.{AreHeads}
+use Rattle.std.proofs.Common.{◌≡◌, ℕ, ◌+◌, ◌&&◌, length}
+use Rattle.std.specs.Prelude.{nat_lt}
+use Rattle.st_model.specs.Lists.{has}
+use Rattle.vertex_lists.specs.Led.{heads_at}
+use Rattle.bidirected_form.specs.Digraph.{arcs_into}
+use Rattle.split_search.specs.Deciding.{is_used_up}
 use Rattle.split_search.proofs.used_up.used_up.Given as goal
 
 abbrev pub invariant-loop-before : goal.invariant-loop-before
-invariant-loop-before l = AreHeads (l.arcs.n + 1) (lists l.heads.items)
+invariant-loop-before l =
+    record { count : length l.heads ≡ l.arcs.n + 1; listed : (u v : ℕ) → has (heads_at l.heads u) v ≡ ((nat_lt 0 v && nat_lt v (l.before + 1)) && is_used_up (arcs_into l.arcs v) u) }

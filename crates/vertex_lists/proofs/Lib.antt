@@ -1,0 +1,2 @@
+pub mod VectorLists
+pub mod Walked
