@@ -97,7 +97,7 @@ module _ (g : Graph) (B : Branch) (P : Packing) (root : ℕ) (graph : IsGraph g)
     }
 
     pub extended_reached : (new : Packing) → new ≡ joined P A → length new.cuts < 2 ^ 64 → target ≤ raised A.cuts → IsExtension g.network B P root target (Reached new)
-    extended_reached new same few reached = rw same (both_extend (rw same at few), omega (arith, both_fit.1, reached), omega (arith, both_fit.1, raises_sum D E target A.cuts ascended.cuts))
+    extended_reached new same few reached = rw same (both_extend (rw same at few), omega (arith, both_fit.1, reached, raises_sum D E target A.cuts ascended.cuts))
 
     pub extended_full : (new : Packing) → new ≡ joined P A → length new.cuts < 2 ^ 64 → raised A.cuts < target → ReachesAll D E A.cuts → IsExtension g.network B P root target (Full new)
     extended_full new same few below all = rw same (both_extend (rw same at few), omega (arith, both_fit.1, below), joined_full g B P D E target A raised_is all)

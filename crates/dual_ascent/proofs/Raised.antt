@@ -40,14 +40,15 @@ each_cut Q cuts each = All-from_recursion Q cuts (go [] cuts refl)
     go before [] e = tt
     go before (c ∷ rest) e = (each before c rest e, go (before ++ c ∷ []) rest (e ∙ sym (append_assoc before (c ∷ []) rest)))
 
+-- no element stands in an empty list
+pub nil_apart : {X : Type 0} (before : List X) (y : X) (after : List X) → [] ≡ before ++ y ∷ after → ⊥
+nil_apart [] y after e = cc
+nil_apart (b ∷ before) y after e = cc
+
 -- an element of a list with one more at its end is that one, or stands in the list
 split_push : {X : Type 0} (xs : List X) (x : X) (before : List X) (y : X) (after : List X) → xs ++ x ∷ [] ≡ before ++ y ∷ after → ((xs ≡ before) × (x ≡ y)) ⊎ ((rest : List X) × (xs ≡ before ++ y ∷ rest))
 split_push [] x [] y after e = inl (refl, cc)
-split_push {X} [] x (b ∷ before) y after e = absurd (none before (let tails : [] ≡ before ++ y ∷ after = cc in tails))
-  where
-    none : (zs : List X) → [] ≡ zs ++ y ∷ after → ⊥
-    none [] e = cc
-    none (z ∷ zs) e = cc
+split_push [] x (b ∷ before) y after e = absurd (nil_apart before y after (let tails : [] ≡ before ++ y ∷ after = cc in tails))
 split_push (a ∷ xs) x [] y after e = let same : a ≡ y = cc in inr (xs, ap (λ b. b ∷ xs) same)
 split_push {X} (a ∷ xs) x (b ∷ before) y after e =
     let same : a ≡ b = cc in

@@ -16,7 +16,7 @@ use Rattle.dual_ascent.specs.Ascent.{IsAscent, IsAscended, ReachesAll}
 use Rattle.dual_ascent.specs.Left.{AreEndsOf, AreLowered, AreSpent, raised}
 use Rattle.dual_ascent.specs.Raises.{IsUsedUp, Reaches, IsOpen, UsesUpAnArc, ReachesTarget, SpendsThePrize, IsLeast, IsRaise, AreRaises}
 use Rattle.dual_ascent.proofs.ChargedCuts.{AreLowered-none, AreLowered-append, AreSpent-none, AreSpent-append, before_taking, kinds_kept, open_behind}
-use Rattle.dual_ascent.proofs.Raised.{raises_load, raises_push}
+use Rattle.dual_ascent.proofs.Raised.{nil_apart, raises_load, raises_push}
 use Rattle.dual_ascent.proofs.Reaching.{reaches_over}
 
 -- cuts that are raises, what they leave of arcs and prizes, and of the target
@@ -30,16 +30,12 @@ pub record AreSoFar (D D' : Digraph) (E E' : Ends) (target room : ℕ) (cuts : L
 -- none so far
 pub none_so_far : (D : Digraph) (E : Ends) (target : ℕ) → AreSoFar D D E E target target []
 none_so_far D E target = record {
-  raises = λ before c after e. absurd (none before c after e);
+  raises = λ before c after e. absurd (nil_apart before c after e);
   arcs = AreLowered-none D;
   ends = AreSpent-none E;
   sum = omega arith;
   few = omega arith;
 }
-  where
-    none : (before : List Cut) (c : Cut) (after : List Cut) → [] ≡ before ++ c ∷ after → ⊥
-    none [] c after e = cc
-    none (b ∷ before) c after e = cc
 
 module _ (D D' : Digraph) (E E' : Ends) (target room : ℕ) (cuts : List Cut) (h : AreSoFar D D' E E' target room cuts) where
   -- what remains of an arc, before the cuts and behind them

@@ -31,10 +31,10 @@ pub record IsExtended (I : Network) (B : Branch) (P new : Packing) (root : ℕ) 
   -- so that they can be counted in 64 bits
   pub few : length new.cuts < 2 ^ 64
 
--- it weighs as much more as was asked for, and no more than that; or it weighs less, and is full
+-- it weighs just as much more as was asked for; or it weighs less, and is full
 abbrev pub IsExtension : Network → Branch → Packing → ℕ → ℕ → Ascent → Type 0
 IsExtension I B P root target (Full new) = IsExtended I B P new root × (weight I B new < weight I B P + target) × IsFull I B new
-IsExtension I B P root target (Reached new) = IsExtended I B P new root × (weight I B P + target ≤ weight I B new) × (weight I B new ≤ weight I B P + target)
+IsExtension I B P root target (Reached new) = IsExtended I B P new root × (weight I B new ≡ weight I B P + target)
 
 -- the cuts of the packing
 abbrev pub packing_of : Ascent → Packing

@@ -20,7 +20,7 @@ pub reached_step : (I J : Network) (N : Node) (P : Packing) (r target least : �
     → IsStep I N least (record { better = None; end = Close P })
 reached_step I J N P r target least same instance node all small extended =
     let e = subst (λ (K : Network). IsExtension K N.branch N.packing r target (Reached P)) same extended in
-    record { tree = tt; ends = (record { fits = e.0.fits; weighs = omega (arith, all, e.1) }, writable_packing I N.branch P instance e.0.fits e.0.sets e.0.few (omega (arith, all, small, e.2))) }
+    record { tree = tt; ends = (record { fits = e.0.fits; weighs = omega (arith, all, e.1) }, writable_packing I N.branch P instance e.0.fits e.0.sets e.0.few (omega (arith, all, small, e.1))) }
 
 -- the node with a full packing
 pub full_node : (I J : Network) (N : Node) (P : Packing) (r target least : ℕ) → J ≡ I → IsInstance I → IsNode I N → weight I N.branch N.packing + target ≤ least → least < 2 ^ 64 → IsExtension J N.branch N.packing r target (Full P)

@@ -33,7 +33,7 @@ second_extends I B P E root least first (Full new) lighter light h s worse =
     let heavy = first_heavy I B P root (least - weight I B P) first h in
     (extends_other I B E P new root (omega (arith, heavy, worse)) s.0, omega (arith, s.1, lighter, light), s.2)
 second_extends I B P E root least first (Reached new) lighter light h s worse =
-    (extends_other I B E P new root (omega (arith, s.1, lighter, light)) s.0, omega (arith, s.1, lighter, light), omega (arith, s.2, lighter, light))
+    (extends_other I B E P new root (omega (arith, s.1, lighter, light)) s.0, omega (arith, s.1, lighter, light))
 
 pub either_extends : (I : Network) (B : Branch) (P E : Packing) (root least : ℕ) (first second chosen : Extension) → weight I B E ≤ weight I B P → weight I B P < least → IsExtension I B P root (least - weight I B P) first.ascent → IsExtension I B E root (least - weight I B E) second.ascent
     → (chosen ≡ first) ⊎ ((chosen ≡ second) × IsNoWorse I B first.ascent second.ascent) → IsExtension I B P root (least - weight I B P) chosen.ascent
