@@ -3,12 +3,12 @@ use Rattle.std.proofs.Common.{◌≡◌, ◌≢◌, ℕ, ◌+◌, ◌-◌, ◌<�
 use Rattle.std.specs.Prelude.{All, IsTrue, IsFalse, IsSome, ◌↔◌, if◌then◌else◌}
 use Rattle.std.specs.Option.{option_map, is_some}
 use Rattle.std.specs.List.Sorted.{IsStrictlyIncreasing}
+use Rattle.std.proofs.Math.Bool.{or-true, or-false}
 use Rattle.std.proofs.lemmas.Bool.{cases_eq, ne_eqb, eq-eqb, eqb-true, false≢true, cases_lt}
-use Rattle.std.proofs.lemmas.List.{get_or_past, get_or-map, length-map, get_or-take, length-take-le}
-use Rattle.std.proofs.lemmas.List.Kept.{AllPairs-from_increasing}
+use Rattle.std.proofs.lemmas.List.{get_or_past, get_or-map, length-map}
 use Rattle.st_model.specs.Lists.{has}
 use Rattle.st_model.specs.Network.{IsVertex}
-use Rattle.st_model.proofs.Marked.{has_more, place_of}
+use Rattle.st_model.proofs.Marked.{AllApart-at, AllApart-from_increasing, has_more}
 use Rattle.bidirected_form.specs.declared.arc.Arc.{Arc}
 use Rattle.bidirected_form.specs.Digraph.{Digraph, IsDigraph, AreArcsInto, left_from, remaining, kind_of}
 use Rattle.bidirected_form.specs.declared.kind.VertexKind.TheVariants.{Outside}
@@ -34,21 +34,7 @@ left_lowered marks y (a ∷ arcs) u = rw (lowered_tail marks y a, left_lowered m
 
 -- a number of an ascending list isn't among those before it
 pub new_member : (set : List ℕ) → IsStrictlyIncreasing set → (i : ℕ) → i < length set → IsFalse (has (take i set) (get_or set i 0))
-new_member set rise i below = by_case (has (take i set) (get_or set i 0)) refl
-  where
-    clash : IsTrue (has (take i set) (get_or set i 0)) → ⊥
-    clash there =
-        let place = place_of (take i set) (get_or set i 0) there in
-        let k = place.0 in
-        let long : length (take i set) ≡ i = length-take-le i set (omega arith) in
-        let early : k < i = omega (arith, place.1, long) in
-        let is : get_or set k 0 ≡ get_or set i 0 = sym (get_or-take i set k 0 early) ∙ place.2 in
-        let less = AllPairs-from_increasing set rise k i 0 early below in
-        omega arith
-
-    by_case : (b : Bool) → has (take i set) (get_or set i 0) ≡ b → b ≡ false
-    by_case true e = absurd (clash e)
-    by_case false e = refl
+new_member set rise i below = AllApart-at set i (AllApart-from_increasing set rise) below
 
 abbrev pub AreLowered : List Bool → ℕ → List ℕ → List (List Arc) → List (List Arc) → Type 0
 AreLowered marks y seen old new = (v : ℕ) → row_of new v ≡ (if has seen v then map (lowered marks y) (row_of old v) else row_of old v)
@@ -61,17 +47,9 @@ next_row marks y set old now i rise below h = rw (h (get_or set i 0), new_member
 pub lowered_next : (marks : List Bool) (y : ℕ) (set : List ℕ) (old now : List (List Arc)) (i : ℕ) → IsStrictlyIncreasing set → i < length set → get_or set i 0 < length now → AreLowered marks y (take i set) old now → AreLowered marks y (take (i + 1) set) old (put now (get_or set i 0) (map (lowered marks y) (row_of now (get_or set i 0))))
 lowered_next marks y members old now i rise below room h v = rw (has_more members i v below) (by_case (cases_eq (get_or members i 0) v))
   where
-    either : (a : Bool) (x z : List Arc) → x ≡ (if a || true then x else z)
-    either true x z = refl
-    either false x z = refl
-
-    neither : (a : Bool) (x z : List Arc) → (if a then x else z) ≡ (if a || false then x else z)
-    neither true x z = refl
-    neither false x z = refl
-
     by_case : (get_or members i 0 ≡ v) ⊎ (get_or members i 0 ≢ v) → row_of (set now (get_or members i 0) (map (lowered marks y) (row_of now (get_or members i 0)))) v ≡ (if has (take i members) v || eqb (get_or members i 0) v then map (lowered marks y) (row_of old v) else row_of old v)
-    by_case (inl same) = subst (λ (w : ℕ). row_of (set now (get_or members i 0) (map (lowered marks y) (row_of now (get_or members i 0)))) w ≡ (if has (take i members) w || eqb (get_or members i 0) w then map (lowered marks y) (row_of old w) else row_of old w)) same (rw (get_or-set_same now (get_or members i 0) (map (lowered marks y) (row_of now (get_or members i 0))) [] room, next_row marks y members old now i rise below h, eq-eqb (get_or members i 0) (get_or members i 0) refl) (either (has (take i members) (get_or members i 0)) _ _))
-    by_case (inr differ) = rw (get_or-set_other now (get_or members i 0) v (map (lowered marks y) (row_of now (get_or members i 0))) [] (λ e. differ (sym e)), ne_eqb (get_or members i 0) v differ, h v) (neither (has (take i members) v) _ _)
+    by_case (inl same) = subst (λ (w : ℕ). row_of (set now (get_or members i 0) (map (lowered marks y) (row_of now (get_or members i 0)))) w ≡ (if has (take i members) w || eqb (get_or members i 0) w then map (lowered marks y) (row_of old w) else row_of old w)) same (rw (get_or-set_same now (get_or members i 0) (map (lowered marks y) (row_of now (get_or members i 0))) [] room, next_row marks y members old now i rise below h, eq-eqb (get_or members i 0) (get_or members i 0) refl, or-true (has (take i members) (get_or members i 0))) refl)
+    by_case (inr differ) = rw (get_or-set_other now (get_or members i 0) v (map (lowered marks y) (row_of now (get_or members i 0))) [] (λ e. differ (sym e)), ne_eqb (get_or members i 0) v differ, h v, or-false (has (take i members) v)) refl
 
 -- what remains of each arc after the rows are lowered
 pub remaining_lowered : (marks : List Bool) (y : ℕ) (members : List ℕ) (old new : List (List Arc)) → ((v : ℕ) → get_or marks v false ≡ has members v) → AreLowered marks y members old new → (u v : ℕ) → left_from (row_of new v) u ≡ (if enters members u v then option_map (λ r. r - y) (left_from (row_of old v) u) else left_from (row_of old v) u)
@@ -153,11 +131,7 @@ marks_gone marks set_marks gone members clear marked unmarked v = rw (unmarked v
     by_case false = refl
 
 pub marks_set : (marks set_marks : List Bool) (members : List ℕ) → ((v : ℕ) → get_or marks v false ≡ false) → ((v : ℕ) → get_or set_marks v false ≡ (has members v || get_or marks v false)) → (v : ℕ) → get_or set_marks v false ≡ has members v
-marks_set marks set_marks members clear marked v = rw (marked v, clear v) (by_case (has members v))
-  where
-    by_case : (a : Bool) → (a || false) ≡ a
-    by_case true = refl
-    by_case false = refl
+marks_set marks set_marks members clear marked v = rw (marked v, clear v) (or-false (has members v))
 
 -- an arc into the set from a vertex without a mark enters it
 pub entering_is : (D : Digraph) (marks : List Bool) (members : List ℕ) (u v : ℕ) → get_or marks u false ≡ has members u → (IsTrue (has members v) × IsFalse (get_or marks u false) × IsSome (left_from (row_of D.arcs v) u)) ↔ IsEntering D members (u, v)

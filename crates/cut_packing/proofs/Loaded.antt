@@ -1,7 +1,8 @@
 -- Arcs between present vertices: a link more, and a cut more.
-use Rattle.std.proofs.Common.{◌≡◌, ◌≢◌, ℕ, zero, suc, ◌+◌, ◌*◌, ◌^◌, ◌<◌, ◌≤◌, Bool, true, false, not, ◌&&◌, ◌||◌, List, [], ◌∷◌, ◌++◌, length, map, get_or, set, take, Some, None, ◌⊎◌, inl, inr, refl, sym, ◌∙◌, get_or-set_same, get_or-set_other, arith}
+use Rattle.std.proofs.Common.{◌≡◌, ◌≢◌, ℕ, zero, suc, ◌+◌, ◌*◌, ◌^◌, ◌<◌, ◌≤◌, Bool, true, false, not, ◌&&◌, List, [], ◌∷◌, ◌++◌, length, map, get_or, set, take, Some, None, ◌⊎◌, inl, inr, refl, sym, ◌∙◌, get_or-set_same, get_or-set_other, arith}
 use Rattle.std.specs.Prelude.{◌==◌, if◌then◌else◌, IsTrue, IsFalse, IsSome, All, AllPairs}
 use Rattle.std.specs.List.{list_any, AllByRecursion}
+use Rattle.std.proofs.Math.Bool.{or-true, or-false}
 use Rattle.std.proofs.lemmas.Bool.{cases_eq, cases_lt, eqb-true, eq-eqb, ne_eqb, or_cases, or_left, or_right, and_parts, and_from, both_ways, false≢true}
 use Rattle.std.proofs.lemmas.Bool.Decides.{nat_tests}
 use Rattle.std.proofs.lemmas.List.{get_or_past, length-set, take_more}
@@ -248,16 +249,8 @@ module _ (members : List ℕ) (apart : AllApart members) (y : ℕ) (before now :
   pub laid_next : (v : ℕ) → get_or members i 0 < length now → arcs_into (set now (get_or members i 0) (map (laid members y) (arcs_into now (get_or members i 0)))) v ≡ (if has (take (i + 1) members) v then map (laid members y) (arcs_into before v) else arcs_into before v)
   laid_next v room = into-set now (get_or members i 0) v (map (laid members y) (arcs_into now (get_or members i 0))) (λ list. list ≡ (if has (take (i + 1) members) v then map (laid members y) (arcs_into before v) else arcs_into before v)) room at_head elsewhere
     where
-      either : (a : Bool) (x z : List LoadedArc) → x ≡ (if a || true then x else z)
-      either true x z = refl
-      either false x z = refl
-
-      neither : (a : Bool) (x z : List LoadedArc) → (if a then x else z) ≡ (if a || false then x else z)
-      neither true x z = refl
-      neither false x z = refl
-
       at_head : v ≡ get_or members i 0 → map (laid members y) (arcs_into now (get_or members i 0)) ≡ (if has (take (i + 1) members) v then map (laid members y) (arcs_into before v) else arcs_into before v)
-      at_head e = rw (next_arcs, has_more members i v below, e, eq-eqb (get_or members i 0) (get_or members i 0) refl) (either (has (take i members) (get_or members i 0)) _ _)
+      at_head e = rw (next_arcs, has_more members i v below, e, eq-eqb (get_or members i 0) (get_or members i 0) refl, or-true (has (take i members) (get_or members i 0))) refl
 
       elsewhere : v ≢ get_or members i 0 → arcs_into now v ≡ (if has (take (i + 1) members) v then map (laid members y) (arcs_into before v) else arcs_into before v)
-      elsewhere e = rw (is v, has_more members i v below, ne_eqb (get_or members i 0) v (λ same. e (sym same))) (neither (has (take i members) v) _ _)
+      elsewhere e = rw (is v, has_more members i v below, ne_eqb (get_or members i 0) v (λ same. e (sym same)), or-false (has (take i members) v)) refl

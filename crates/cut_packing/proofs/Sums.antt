@@ -1,15 +1,14 @@
 -- Sums over lists and over vertices.
 use Rattle.std.proofs.Common.{◌≡◌, ◌≢◌, ℕ, zero, suc, ◌+◌, ◌*◌, ◌≤◌, ◌<◌, Bool, true, false, cond, ◌||◌, List, [], ◌∷◌, length, ◌⊎◌, inl, inr, refl, sym, ◌∙◌, arith}
-use Rattle.std.specs.Prelude.{◌==◌, if◌then◌else◌, IsTrue, IsFalse, AllPairs}
+use Rattle.std.specs.Prelude.{◌==◌, if◌then◌else◌, IsTrue, IsFalse}
 use Rattle.std.specs.List.{AllByRecursion}
 use Rattle.std.proofs.lemmas.Bool.{cases_lt, ne_eqb, eqb-true, eq-eqb, cond-true, cond-false, false≢true}
 use Rattle.std.proofs.lemmas.List.Elements.{recursion_from_All}
-use Rattle.std.proofs.lemmas.List.Folds.{list_any_none}
-use Rattle.std.proofs.lemmas.List.Kept.{AllPairs-from_increasing}
 use Rattle.st_model.specs.Lists.{has, total, sum_to}
 use Rattle.st_model.specs.Network.{IsVertex}
 use Rattle.st_model.specs.Branch.{IsVertexSet}
 use Rattle.st_model.specs.VertexSet.{AllApart}
+use Rattle.st_model.proofs.Marked.{AllApart-from_increasing}
 use Rattle.st_model.proofs.Sums.{sum_to_same, sum_to_le, sum_to-add, sum_to_none}
 pub use Rattle.st_model.proofs.Sums.{total-append}
 pub use Rattle.st_model.proofs.Costs.{total_more}
@@ -58,11 +57,6 @@ sum_to-at f (suc n) q h others = step (cases_lt q (suc n)) (λ below. sum_to-at 
         let rest = sum_to-none f n (λ v in_range. others v (in_range.0, omega (arith, in_range.1)) (omega (arith, in_range.1))) in
         rw last (omega (arith, rest))
 
-pub AllApart-from_increasing : (xs : List ℕ) → AllPairs (λ x y. x < y) xs → AllApart xs
-AllApart-from_increasing [] h = tt
-AllApart-from_increasing (x ∷ xs) h =
-    (list_any_none _ xs (λ k d below. ne_eqb _ x (λ same. absurd (omega (arith, h 0 (suc k) d (omega arith) (omega arith))))), AllApart-from_increasing xs (λ i j d before below. h (suc i) (suc j) d (omega arith) (omega arith)))
-
 -- where nothing stands twice and all is in range, a sum over a list is the sum over the vertices that it has
 total-members : (f : ℕ → ℕ) (n : ℕ) (xs : List ℕ) → AllByRecursion (IsVertex n) xs → AllApart xs → total f xs ≡ sum_to (λ v. if has xs v then f v else 0) n
 total-members f n [] h apart = sym (sum_to_none n)
@@ -87,4 +81,4 @@ total-members f n (x ∷ xs) h apart =
 -- a sum over a set of vertices is the sum over the vertices that it has
 pub total-IsVertexSet : (f : ℕ → ℕ) (n : ℕ) (xs : List ℕ) → IsVertexSet n xs → total f xs ≡ sum_to (λ v. if has xs v then f v else 0) n
 total-IsVertexSet f n xs h =
-    total-members f n xs (recursion_from_All _ xs h.in_range) (AllApart-from_increasing xs (AllPairs-from_increasing xs h.ascending))
+    total-members f n xs (recursion_from_All _ xs h.in_range) (AllApart-from_increasing xs h.ascending)

@@ -84,23 +84,22 @@ is_told es a b low high joint ordered low_is high_is at = record {
         by_case false other = let apart : a ≡ b → ⊥ = λ e. grind (arith, nat_tests) in omega arith
 
 -- what is said of look-ups, said of places and of links
+place_of-where : (es new : List Entry) (v w : ℕ) (there : Bool) (found : Option Joint) (told : Option (ℕ × ℕ)) → joint_of new v w ≡ cond there found (joint_of es v w) → (there ≡ true → option_map (place_in v w) found ≡ told) → place_of new v w ≡ cond there told (place_of es v w)
+place_of-where es new v w there found told now at = ap (option_map (place_in v w)) now ∙ split there refl
+  where
+    split : (t : Bool) → there ≡ t → option_map (place_in v w) (cond t found (joint_of es v w)) ≡ cond t told (place_of es v w)
+    split true is = at is
+    split false is = refl
+
 pub place_of-gone : (es new : List Entry) (a b low high : ℕ) → low ≡ min a b → high ≡ max a b → ((x y : ℕ) → joint_of new x y ≡ cond (are_ends a b x y) None (joint_of es x y)) → (w : ℕ) → place_of new low w ≡ cond (eqb w high) None (place_of es low w)
 place_of-gone es new a b low high low_is high_is gone w =
     let same : are_ends a b low w ≡ eqb w high = grind (arith, nat_tests) in
-    ap (option_map (place_in low w)) (gone low w) ∙ rw same (split (eqb w high))
-  where
-    split : (t : Bool) → option_map (place_in low w) (cond t None (joint_of es low w)) ≡ cond t None (place_of es low w)
-    split true = refl
-    split false = refl
+    place_of-where es new low w (eqb w high) None None (gone low w ∙ ap (λ t. cond t None (joint_of es low w)) same) (λ is. refl)
 
 pub place_of-gone_high : (es new : List Entry) (a b low high : ℕ) → low ≡ min a b → high ≡ max a b → ((x y : ℕ) → joint_of new x y ≡ cond (are_ends a b x y) None (joint_of es x y)) → (w : ℕ) → place_of new high w ≡ cond (eqb w low) None (place_of es high w)
 place_of-gone_high es new a b low high low_is high_is gone w =
     let same : are_ends a b high w ≡ eqb w low = grind (arith, nat_tests) in
-    ap (option_map (place_in high w)) (gone high w) ∙ rw same (split (eqb w low))
-  where
-    split : (t : Bool) → option_map (place_in high w) (cond t None (joint_of es high w)) ≡ cond t None (place_of es high w)
-    split true = refl
-    split false = refl
+    place_of-where es new high w (eqb w low) None None (gone high w ∙ ap (λ t. cond t None (joint_of es high w)) same) (λ is. refl)
 
 pub place_of-gone_others : (es new : List Entry) (a b low high : ℕ) → low ≡ min a b → high ≡ max a b → ((x y : ℕ) → joint_of new x y ≡ cond (are_ends a b x y) None (joint_of es x y)) → (v w : ℕ) → (v ≡ low → ⊥) → (v ≡ high → ⊥) → place_of new v w ≡ place_of es v w
 place_of-gone_others es new a b low high low_is high_is gone v w not_low not_high =
@@ -141,24 +140,14 @@ joint_of-push es new low high joint before is absent x y =
 
 -- the places of a new link's halves
 pub place_of-pushed : (es new : List Entry) (low high : ℕ) (joint : Joint) → low < high → ((x y : ℕ) → joint_of new x y ≡ cond (are_ends low high x y) (Some joint) (joint_of es x y)) → (w : ℕ) → place_of new low w ≡ cond (eqb w high) (Some (joint.low, joint.cost)) (place_of es low w)
-place_of-pushed es new low high joint before put w = ap (option_map (place_in low w)) (put low w) ∙ by_case (eqb w high) refl
-  where
-    same : are_ends low high low w ≡ eqb w high
-    same = grind (arith, nat_tests)
-
-    by_case : (t : Bool) → eqb w high ≡ t → option_map (place_in low w) (cond (are_ends low high low w) (Some joint) (joint_of es low w)) ≡ cond t (Some (joint.low, joint.cost)) (place_of es low w)
-    by_case true is = let yes : nat_lt low w ≡ true = grind (arith, nat_tests) in rw (same, is, yes) refl
-    by_case false is = rw (same, is) refl
+place_of-pushed es new low high joint before put w =
+    let same : are_ends low high low w ≡ eqb w high = grind (arith, nat_tests) in
+    place_of-where es new low w (eqb w high) (Some joint) (Some (joint.low, joint.cost)) (put low w ∙ ap (λ t. cond t (Some joint) (joint_of es low w)) same) (λ is. (let yes : nat_lt low w ≡ true = grind (arith, nat_tests) in rw yes refl))
 
 pub place_of-pushed_high : (es new : List Entry) (low high : ℕ) (joint : Joint) → low < high → ((x y : ℕ) → joint_of new x y ≡ cond (are_ends low high x y) (Some joint) (joint_of es x y)) → (w : ℕ) → place_of new high w ≡ cond (eqb w low) (Some (joint.high, joint.cost)) (place_of es high w)
-place_of-pushed_high es new low high joint before put w = ap (option_map (place_in high w)) (put high w) ∙ by_case (eqb w low) refl
-  where
-    same : are_ends low high high w ≡ eqb w low
-    same = grind (arith, nat_tests)
-
-    by_case : (t : Bool) → eqb w low ≡ t → option_map (place_in high w) (cond (are_ends low high high w) (Some joint) (joint_of es high w)) ≡ cond t (Some (joint.high, joint.cost)) (place_of es high w)
-    by_case true is = let no : nat_lt high w ≡ false = grind (arith, nat_tests) in rw (same, is, no) refl
-    by_case false is = rw (same, is) refl
+place_of-pushed_high es new low high joint before put w =
+    let same : are_ends low high high w ≡ eqb w low = grind (arith, nat_tests) in
+    place_of-where es new high w (eqb w low) (Some joint) (Some (joint.high, joint.cost)) (put high w ∙ ap (λ t. cond t (Some joint) (joint_of es high w)) same) (λ is. (let no : nat_lt high w ≡ false = grind (arith, nat_tests) in rw no refl))
 
 pub place_of-pushed_others : (es new : List Entry) (low high : ℕ) (joint : Joint) → ((x y : ℕ) → joint_of new x y ≡ cond (are_ends low high x y) (Some joint) (joint_of es x y)) → (v w : ℕ) → (v ≡ low → ⊥) → (v ≡ high → ⊥) → place_of new v w ≡ place_of es v w
 place_of-pushed_others es new low high joint put v w not_low not_high =

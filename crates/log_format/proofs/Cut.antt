@@ -1,9 +1,9 @@
 -- Where words and keywords end.
-use Rattle.std.proofs.Common.{◌≡◌, ◌≢◌, ℕ, suc, Bool, true, false, cond, not, eqb, inl, inr, List, [], ◌∷◌, ◌++◌, length, take, drop, Option, Some, None, option_map, refl, sym, ap, ◌∙◌, arith}
+use Rattle.std.proofs.Common.{◌≡◌, ◌≢◌, ℕ, suc, Bool, true, false, cond, not, eqb, inl, inr, List, [], ◌∷◌, ◌++◌, length, take, drop, Option, Some, None, option_map, refl, sym, ap, ◌∙◌}
 use Rattle.std.specs.Prelude.{◌==◌, position, MatchOption, unwrap_or}
 use Rattle.std.proofs.lemmas.Bool.{eqb-true, eq-eqb, and_parts, and_from, not-true}
-use Rattle.std.proofs.lemmas.Bool.Decides.{nat_tests}
 use denote.Ref.{Bor}
+use Rattle.st_model.proofs.Links.{position-cons}
 use Rattle.log_format.specs.Reading.{after, word_at}
 use Rattle.decimals.proofs.Steps.{chosen}
 use Rattle.decimals.proofs.Numerals.{lacks}
@@ -67,10 +67,6 @@ word_again (w ∷ word) rest h k =
     rw (not-true (eqb w 32) p.0, word_again word rest p.1 k) refl
 
 -- ---- by the position of the space
-
--- the first that passes is the head, or one behind it
-pub position-cons : {X : Type 0} (p : X → Bool) (x : X) (xs : List X) → position p (x ∷ xs) ≡ cond (p x) (Some 0) (option_map suc (position p xs))
-position-cons p x xs = grind (arith, nat_tests)
 
 -- the bytes on either side of an index, or all of them
 abbrev sides : List ℕ → Option ℕ → List ℕ × List ℕ

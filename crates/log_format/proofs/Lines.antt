@@ -1,6 +1,6 @@
 -- The lines of some bytes: each up to its end, and what is left.
-use Rattle.std.proofs.Common.{◌≡◌, ℕ, suc, ◌<◌, ◌≤◌, ◌^◌, Bool, true, false, cond, not, eqb, List, [], ◌∷◌, ◌++◌, length, map, take, drop, Option, Some, None, option_map, refl, sym, ap, ◌∙◌, append_assoc, arith}
-use Rattle.std.specs.Prelude.{◌==◌, position, codes}
+use Rattle.std.proofs.Common.{◌≡◌, ℕ, ◌<◌, ◌≤◌, ◌^◌, Bool, true, false, cond, not, eqb, List, [], ◌∷◌, ◌++◌, length, map, Option, Some, None, option_map, refl, sym, ap, ◌∙◌, append_assoc, arith}
+use Rattle.std.specs.Prelude.{◌==◌, codes}
 use Rattle.std.specs.List.{flat_map, AllByRecursion}
 use Rattle.std.proofs.lemmas.Bool.{eqb-true, and_parts, not-true}
 use Rattle.std.proofs.lemmas.List.Elements.{recursion_from_All}
@@ -11,29 +11,13 @@ use Rattle.log_format.specs.declared.proof_line.ProofLine.{ProofLine}
 use Rattle.log_format.specs.declared.proof_line.ProofLine.TheVariants.{Split, Close}
 use Rattle.cut_packing.specs.declared.cut.Cut.{Cut}
 use Rattle.log_format.specs.Text.{ended, spaced, words, root_number, arc_line, cut_line, lines_of, claim_lines, log_lines, log_text, with_byte, cut_lines, whole_lines, unfinished, IsAnyVertex, IsWritableCut, IsWritableLine, IsClaimInRange, IsInLogRange}
-use Rattle.log_format.specs.Reading.{cut, most}
-use Rattle.log_format.proofs.Cut.{lacks-append, position-cons}
+use Rattle.byte_pieces.specs.Pieces.{cut}
+use Rattle.log_format.specs.Reading.{most}
+use Rattle.log_format.proofs.Cut.{lacks-append}
 use Rattle.decimals.proofs.Numerals.{lacks, decimal_lacks}
 use Rattle.log_format.proofs.Sets.{set_to}
 use Rattle.log_format.proofs.Runs.{root_in_range}
 use Rattle.st_model.specs.Network.{IsVertex}
-
--- ---- by the position of the end
-
--- the bytes on either side of an index, where there is one
-abbrev sides : List ℕ → Option ℕ → Option (List ℕ × List ℕ)
-sides bytes o = option_map (λ i. (take i bytes, drop (suc i) bytes)) o
-
--- the sides with one more byte in front
-sides-cons : (b : ℕ) (bs : List ℕ) (o : Option ℕ) (test : Bool) → cond test (Some ([], bs)) (option_map (λ x. (b ∷ x.0, x.1)) (sides bs o)) ≡ sides (b ∷ bs) (cond test (Some 0) (option_map suc o))
-sides-cons b bs o true = refl
-sides-cons b bs None false = refl
-sides-cons b bs (Some i) false = refl
-
--- a cut is made at the first position of the byte
-pub cut-position : (d : ℕ) (bytes : List ℕ) → cut d bytes ≡ sides bytes (position (λ b. b == d) bytes)
-cut-position d [] = refl
-cut-position d (b ∷ bs) = rw (position-cons, cut-position d bs) (sides-cons b bs (position (λ b. b == d) bs) (b == d))
 
 -- ---- lines
 

@@ -10,7 +10,7 @@ use Rattle.log_format.specs.declared.fault.ReadError.TheVariants.{Fault, NoMemor
 use Rattle.log_format.specs.declared.log.Log.{Log}
 use Rattle.log_format.specs.declared.stage.Stage.TheVariants.{AtHeader}
 use Rattle.log_format.specs.Text.{ended, log_lines, log_text, whole_lines, unfinished, Begins, IsLog}
-use Rattle.log_format.specs.Reading.{cut}
+use Rattle.byte_pieces.specs.Pieces.{cut}
 use Rattle.log_format.specs.Refused.{LogRefused, IsRefusedBy}
 use Rattle.log_format.proofs.Finishing.{read_none, read_begins, same_lines}
 use Rattle.log_format.proofs.Lines.{cut_some, cut_none, text_lines, lines_make}

@@ -1,5 +1,5 @@
 -- Reading a log line by line. Helpers' clauses cite this, and no public one.
-use Rattle.std.specs.Prelude.{◌≡◌, ℕ, zero, suc, ◌+◌, ◌-◌, ◌≤◌, ◌==◌, List, [], ◌∷◌, ◌++◌, length, Option, Some, None, Result, Ok, Err, option_map, if◌then◌else◌, codes}
+use Rattle.std.specs.Prelude.{◌≡◌, ℕ, zero, suc, ◌+◌, ◌-◌, ◌≤◌, ◌==◌, List, [], ◌∷◌, ◌++◌, length, Option, Some, None, Result, Ok, Err, if◌then◌else◌, codes}
 use Rattle.std.specs.Str.{bytes_eq}
 use Rattle.cut_packing.specs.declared.cut.Cut.{Cut}
 use Rattle.decimals.specs.Numbers.{◌>>=◌, number}
@@ -22,11 +22,6 @@ Fails BadLine read = read ≡ None
 abbrev pub Gives : {X Y : Type 0} → (X → Y) → Result X LineError → Option Y → Type 0
 Gives view (Ok x) read = read ≡ Some (view x)
 Gives view (Err e) read = Fails e read
-
--- what stands before the first byte d, and what stands behind it
-abbrev pub cut : ℕ → List ℕ → Option (List ℕ × List ℕ)
-cut d [] = None
-cut d (b ∷ bs) = if b == d then Some ([], bs) else option_map (λ x. (b ∷ x.0, x.1)) (cut d bs)
 
 -- what stands behind a keyword
 abbrev pub after : List ℕ → List ℕ → Option (List ℕ)

@@ -1,26 +1,10 @@
-ghost use Rattle.std.specs.Prelude.{◌≡◌, [], ◌+◌, ◌<◌, ◌≤◌, ◌==◌, length, option_map, position, IfSome, IfOk, IfErr, MatchResult};
-ghost use Rattle.log_format.specs.Reading.{cut};
+ghost use Rattle.std.specs.Prelude.{◌≡◌, [], ◌+◌, ◌≤◌, length, IfOk, IfErr, MatchResult};
 ghost use Rattle.log_format.specs.Text.{IsLog, Begins, log_text, whole_lines, unfinished};
 ghost use Rattle.log_format.specs.Refused.{IsRefusedBy};
 
 use crate::{Kind, LineError, Log, LogFault, LogReader, ReadError};
+use byte_pieces::cut_at;
 use std::alloc::Global;
-
-// The index of the first end of a line.
-fn end_index(bytes: &[u8]) -> Option<usize>
-    ensures { result ≡ position (λ b. b == 10) bytes.now }
-{
-    bytes.iter().position(|byte| *byte == b'\n')
-}
-
-// The first line, without its end, and what stands behind it.
-fn cut(bytes: &[u8]) -> Option<(&[u8], &[u8])>
-    ensures cut { option_map (λ x. (x.0.now, x.1.now)) result ≡ cut 10 bytes.now }
-    ensures shorter { IfSome result (λ x. length x.1.now < length bytes.now) }
-{
-    let index = end_index(bytes)?;
-    Some((&bytes[..index], &bytes[index + 1..]))
-}
 
 // What is wrong at a line.
 fn fault(line: u64, kind: Kind) -> ReadError
@@ -41,7 +25,7 @@ fn read_lines<'a>(reader: &mut LogReader, bytes: &'a [u8]) -> Result<(u64, &'a [
 {
     let mut rest = bytes;
     let mut lines: u64 = 0;
-    while let Some((line, behind)) = cut(rest) {
+    while let Some((line, behind)) = cut_at(rest, b'\n') {
         lines += 1;
         match reader.line(line) {
             Ok(()) => {}

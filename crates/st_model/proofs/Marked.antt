@@ -1,14 +1,16 @@
 -- Marks at the members of a list.
 use Rattle.std.proofs.Common.{◌≡◌, ◌≢◌, ℕ, zero, suc, ◌+◌, ◌<◌, ◌≤◌, Bool, true, false, ◌||◌, eqb, List, [], ◌∷◌, ◌++◌, length, take, drop, get_or, set, ◌⊎◌, inl, inr, refl, sym, ap, ◌∙◌, get_or-set_same, get_or-set_other, drop-cons, add-one, arith}
-use Rattle.std.specs.Prelude.{◌==◌, All, IsTrue, IsFalse}
+use Rattle.std.specs.Prelude.{◌==◌, All, AllPairs, IsTrue, IsFalse}
 use Rattle.std.proofs.lemmas.Bool.{cases_eq, cases_lt, ne_eqb, eq-eqb, or_parts, or_left, or_from, or_cases, eqb-true, false≢true}
 use Rattle.std.proofs.Math.Bool.{or-true, or-false}
 use Rattle.std.proofs.lemmas.List.{get_or_past, take_more}
-use Rattle.std.proofs.lemmas.List.Folds.{list_any-append, list_any_at}
+use Rattle.std.proofs.lemmas.List.Folds.{list_any-append, list_any_at, list_any_none}
 use Rattle.std.proofs.lemmas.List.Elements.{recursion_from_All}
 use Rattle.std.proofs.lemmas.Map.Steps.{length-le_from_distinct_below}
 use Rattle.std.proofs.lemmas.Bool.Decides.{nat_tests}
 use Rattle.std.specs.List.{list_any, AllByRecursion, IsDistinct}
+use Rattle.std.specs.List.Sorted.{IsStrictlyIncreasing}
+use Rattle.std.proofs.lemmas.List.Kept.{AllPairs-from_increasing}
 use Rattle.st_model.specs.Lists.{has}
 use Rattle.st_model.specs.VertexSet.{AllApart, IsMarked}
 
@@ -73,6 +75,15 @@ pub IsMarked-at : (marks : List Bool) (members : List ℕ) (i : ℕ) → i < len
 IsMarked-at marks members i below h =
     let now = rw (drop-cons members i 0 below) at h in
     marked_below marks _ (now.marked _ ∙ or_left (get_or members i 0 == get_or members i 0) _ (eq-eqb _ _ refl))
+
+-- numbers that ascend are different
+pub AllApart-from_increasing : (xs : List ℕ) → IsStrictlyIncreasing xs → AllApart xs
+AllApart-from_increasing xs rise = by_pairs xs (AllPairs-from_increasing xs rise)
+  where
+    by_pairs : (xs : List ℕ) → AllPairs (λ x y. x < y) xs → AllApart xs
+    by_pairs [] h = tt
+    by_pairs (x ∷ xs) h =
+        (list_any_none _ xs (λ k d below. ne_eqb _ x (λ same. absurd (omega (arith, h 0 (suc k) d (omega arith) (omega arith))))), by_pairs xs (λ i j d before below. h (suc i) (suc j) d (omega arith) (omega arith)))
 
 -- no element stands before its place
 pub AllApart-at : (xs : List ℕ) (i : ℕ) → AllApart xs → i < length xs → IsFalse (has (take i xs) (get_or xs i 0))

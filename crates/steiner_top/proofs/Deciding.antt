@@ -31,48 +31,39 @@ certificate_checks w bytes tree primal dual log sent s =
     let c = s.found.certified in
     (s.instance, s.reads, (log, record { is_log = c.is_log; text = refl }, c.accepted, sym (ap verdict_of c.claims)))
 
+-- a file whose solution is given is answered by that tree, and by no refusal
+answered_found : (w : SolveWords) (bytes : List ℕ) (status : Status) (tree : Tree) (primal dual : ℕ) (log : Log) (texts : Texts) (taken now : Option (List ℕ)) (sent : List ℕ)
+    → RefusedExactly bytes → length bytes ≤ 2 ^ 34 → IsSolution w bytes tree primal dual log sent → ((status ≡ Optimal) × (dual ≡ primal)) ⊎ ((status ≡ Budget) × (dual < primal)) → now ≡ append_known taken sent → IsSaved (Some (solve w)) texts (Some (Found tree primal dual log))
+    → SolvesFile w bytes status (Some (Found tree primal dual log)) texts taken now
+answered_found w bytes status tree primal dual log texts taken now sent law short s ends took saved = record {
+  too_long = ((λ e. absurd (never TooLong (λ same. cc) (λ same. cc) e)), (λ long. absurd (omega (arith, short, long))));
+  refused = λ _. ((λ e. absurd (never RefusedFile (λ same. cc) (λ same. cc) e)), (λ r. absurd (law.not_both s.instance r.0 r.1 s.reads r.2)));
+  infeasible = λ I reads _. ((λ e. absurd (never Infeasible (λ same. cc) (λ same. cc) e)), (λ none. absurd (subst (λ J. IsTree J tree → ⊥) (law.one_instance I s.instance reads s.reads) (none tree) s.found.is_tree)));
+  solved = λ I t reads _ _. record {
+    tree = tree;
+    primal = primal;
+    dual = dual;
+    certificate = log;
+    sent = sent;
+    given = refl;
+    found = subst (λ J. IsFound w.nodes J tree primal dual log) (law.one_instance s.instance I s.reads reads) s.found;
+    text = s.text;
+    took = took;
+    ends = ends;
+    checks = certificate_checks w bytes tree primal dual log sent s;
+    log = saved;
+  };
+}
+  where
+    never : (other : Status) → Optimal ≢ other → Budget ≢ other → status ≡ other → ⊥
+    never other optimal budget is = elim ends [ inl h ↦ optimal (sym h.0 ∙ is) | inr h ↦ budget (sym h.0 ∙ is) ]
+
 -- how a file that was loaded whole is answered decides the status
 answered_file : (w : SolveWords) (bytes : List ℕ) (status : Status) (outcome : Option Outcome) (texts : Texts) (taken now : Option (List ℕ)) (sent : List ℕ)
     → RefusedExactly bytes → length bytes ≤ 2 ^ 34 → SolveAnswer w bytes status outcome sent → now ≡ append_known taken sent → IsSaved (Some (solve w)) texts outcome
     → SolvesFile w bytes status outcome texts taken now
-answered_file w bytes Optimal (Some (Found tree primal dual log)) texts taken now sent law short (s, same) took saved = record {
-  too_long = ((λ e. absurd cc), (λ long. absurd (omega (arith, short, long))));
-  refused = λ _. ((λ e. absurd cc), (λ r. absurd (law.not_both s.instance r.0 r.1 s.reads r.2)));
-  infeasible = λ I reads _. ((λ e. absurd cc), (λ none. absurd (subst (λ J. IsTree J tree → ⊥) (law.one_instance I s.instance reads s.reads) (none tree) s.found.is_tree)));
-  solved = λ I t reads _ _. record {
-    tree = tree;
-    primal = primal;
-    dual = dual;
-    certificate = log;
-    sent = sent;
-    given = refl;
-    found = subst (λ J. IsFound w.nodes J tree primal dual log) (law.one_instance s.instance I s.reads reads) s.found;
-    text = s.text;
-    took = took;
-    ends = inl (refl, same);
-    checks = certificate_checks w bytes tree primal dual log sent s;
-    log = saved;
-  };
-}
-answered_file w bytes Budget (Some (Found tree primal dual log)) texts taken now sent law short (s, below) took saved = record {
-  too_long = ((λ e. absurd cc), (λ long. absurd (omega (arith, short, long))));
-  refused = λ _. ((λ e. absurd cc), (λ r. absurd (law.not_both s.instance r.0 r.1 s.reads r.2)));
-  infeasible = λ I reads _. ((λ e. absurd cc), (λ none. absurd (subst (λ J. IsTree J tree → ⊥) (law.one_instance I s.instance reads s.reads) (none tree) s.found.is_tree)));
-  solved = λ I t reads _ _. record {
-    tree = tree;
-    primal = primal;
-    dual = dual;
-    certificate = log;
-    sent = sent;
-    given = refl;
-    found = subst (λ J. IsFound w.nodes J tree primal dual log) (law.one_instance s.instance I s.reads reads) s.found;
-    text = s.text;
-    took = took;
-    ends = inr (refl, below);
-    checks = certificate_checks w bytes tree primal dual log sent s;
-    log = saved;
-  };
-}
+answered_file w bytes Optimal (Some (Found tree primal dual log)) texts taken now sent law short (s, same) took saved = answered_found w bytes Optimal tree primal dual log texts taken now sent law short s (inl (refl, same)) took saved
+answered_file w bytes Budget (Some (Found tree primal dual log)) texts taken now sent law short (s, below) took saved = answered_found w bytes Budget tree primal dual log texts taken now sent law short s (inr (refl, below)) took saved
 answered_file w bytes Infeasible (Some (NoTree log)) texts taken now sent law short s took saved = record {
   too_long = ((λ e. absurd cc), (λ long. absurd (omega (arith, short, long))));
   refused = λ _. ((λ e. absurd cc), (λ r. absurd (law.not_both s.instance r.0 r.1 s.reads r.2)));

@@ -2,7 +2,7 @@
 use Rattle.std.proofs.Common.{◌≡◌, ℕ, suc, Bool, true, false, cond, not, List, [], ◌∷◌, length, take, drop, Option, Some, None, option_map, refl, sym, ap, ◌∙◌}
 use Rattle.std.specs.Prelude.{position, unwrap_or}
 use Rattle.stp_reader.specs.Lines.{with_byte, is_blank, words}
-use Rattle.stp_reader.proofs.Cut.{position-cons}
+use Rattle.st_model.proofs.Links.{position-cons}
 
 -- a blank in front makes no word
 blank_first : (b : ℕ) (bytes : List ℕ) → is_blank b ≡ true → words (b ∷ bytes) ≡ words bytes

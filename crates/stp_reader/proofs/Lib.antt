@@ -1,4 +1,3 @@
-pub mod Cut
 pub mod Pieces
 pub mod Blanks
 pub mod Values

@@ -1,5 +1,5 @@
 -- What all lines state is what is read of them, and where they state nothing is the first that has a reason.
-use Rattle.std.proofs.Common.{◌≡◌, ◌⊎◌, inl, inr, ℕ, suc, ◌+◌, List, [], ◌∷◌, ◌++◌, length, Option, Some, None, Result, Ok, Err, refl, ap, ◌∙◌, arith}
+use Rattle.std.proofs.Common.{◌≡◌, ◌⊎◌, ◌↔◌, inl, inr, ℕ, suc, ◌+◌, List, [], ◌∷◌, ◌++◌, length, Option, Some, None, Result, Ok, Err, refl, ap, ◌∙◌, arith}
 use Rattle.stp_reader.specs.declared.reason.Reason.{Reason}
 use Rattle.stp_reader.specs.Reason.{lesser_of, least}
 use Rattle.stp_reader.specs.Place.{File, nothing, graph, whole, Place, outside, behind_end, behind, behind_all}
@@ -11,33 +11,19 @@ use Rattle.stp_reader.proofs.Agreeing.{judge_answer}
 
 -- ---- behind the last line
 
-file_at_end : (p : Place) (f : File) → at_end p ≡ Ok f → file_at p ≡ Some f
-file_at_end (outside nothing) f e = absurd cc
-file_at_end (outside (graph g)) f e = absurd cc
-file_at_end (outside (whole g)) f e = let same : g ≡ f = cc in ap Some same
-file_at_end (behind_end g) f e = let same : g ≡ f = cc in ap Some same
-file_at_end p f e = absurd cc
+end_gives : (p : Place) (f : File) → (at_end p ≡ Ok f) ↔ (file_at p ≡ Some f)
+end_gives (outside nothing) f = (λ e. absurd cc, λ e. absurd cc)
+end_gives (outside (graph g)) f = (λ e. absurd cc, λ e. absurd cc)
+end_gives (outside (whole g)) f = (λ e. (let same : g ≡ f = cc in ap Some same), λ e. (let same : g ≡ f = cc in ap Ok same))
+end_gives (behind_end g) f = (λ e. (let same : g ≡ f = cc in ap Some same), λ e. (let same : g ≡ f = cc in ap Ok same))
+end_gives p f = (λ e. absurd cc, λ e. absurd cc)
 
-end_at_file : (p : Place) (f : File) → file_at p ≡ Some f → at_end p ≡ Ok f
-end_at_file (outside nothing) f e = absurd cc
-end_at_file (outside (graph g)) f e = absurd cc
-end_at_file (outside (whole g)) f e = let same : g ≡ f = cc in ap Ok same
-end_at_file (behind_end g) f e = let same : g ≡ f = cc in ap Ok same
-end_at_file p f e = absurd cc
-
-why_at_end : (p : Place) (r : Reason) → at_end p ≡ Err r → least (end_reasons p) ≡ Some r
-why_at_end (outside nothing) r e = cc
-why_at_end (outside (graph g)) r e = cc
-why_at_end (outside (whole g)) r e = absurd cc
-why_at_end (behind_end g) r e = absurd cc
-why_at_end p r e = cc
-
-end_why : (p : Place) (r : Reason) → least (end_reasons p) ≡ Some r → at_end p ≡ Err r
-end_why (outside nothing) r e = cc
-end_why (outside (graph g)) r e = cc
-end_why (outside (whole g)) r e = absurd cc
-end_why (behind_end g) r e = absurd cc
-end_why p r e = cc
+end_refuses : (p : Place) (r : Reason) → (at_end p ≡ Err r) ↔ (least (end_reasons p) ≡ Some r)
+end_refuses (outside nothing) r = (λ e. cc, λ e. cc)
+end_refuses (outside (graph g)) r = (λ e. cc, λ e. cc)
+end_refuses (outside (whole g)) r = (λ e. absurd cc, λ e. absurd cc)
+end_refuses (behind_end g) r = (λ e. absurd cc, λ e. absurd cc)
+end_refuses p r = (λ e. cc, λ e. cc)
 
 -- ---- all lines
 
@@ -56,7 +42,7 @@ none_least (r ∷ rs) e = absurd (some (least rs) e)
 
 -- a whole file is read
 pub is_read : (number : ℕ) (p : Place) (lines : List (List (List ℕ))) (f : File) → stated_from number p lines ≡ Ok f → AllRight p lines × (file_at (behind_all p lines) ≡ Some f)
-is_read number p [] f e = (tt, file_at_end p f (at_last (at_end p) e))
+is_read number p [] f e = (tt, (end_gives p f).0 (at_last (at_end p) e))
   where
     at_last : (r : Result File Reason) → at_line number r ≡ Ok f → r ≡ Ok f
     at_last (Ok g) e = cc
@@ -75,7 +61,7 @@ is_read number p (line ∷ lines) f e = by_case (least (reasons p line)) refl (r
         absurd cc
 
 pub read_again : (number : ℕ) (p : Place) (lines : List (List (List ℕ))) (f : File) → AllRight p lines → file_at (behind_all p lines) ≡ Some f → stated_from number p lines ≡ Ok f
-read_again number p [] f right e = ap (at_line number) (end_at_file p f e)
+read_again number p [] f right e = ap (at_line number) ((end_gives p f).1 e)
 read_again number p (line ∷ lines) f right e = rw (judge_answer p line, right.0) (read_again (suc number) (behind p line) lines f right.1 e)
 
 -- ---- the first line that has a reason
@@ -123,7 +109,7 @@ is_refused_at number p [] l r e = at_last (at_end p) refl e
     at_last (Ok f) is e = absurd cc
     at_last (Err q) is e =
         let same = same_fault number l q r e in
-        inr (record { place = omega (arith, same.0); right = tt; why = why_at_end p r (is ∙ ap (λ (x : Reason). Err x) same.1) })
+        inr (record { place = omega (arith, same.0); right = tt; why = (end_refuses p r).0 (is ∙ ap (λ (x : Reason). Err x) same.1) })
 is_refused_at number p (line ∷ lines) l r e = by_case (least (reasons p line)) refl (rw (judge_answer p line) at e) (is_refused_at (suc number) (behind p line) lines l r)
   where
     by_case : (o : Option Reason) → least (reasons p line) ≡ o → then_on (at_line number (answer (least (reasons p line)) (behind p line))) (λ q. stated_from (suc number) q lines) ≡ Err (l, r)
@@ -146,5 +132,5 @@ refused_again number p (line ∷ before) bad others l r place right why = rw (ju
 pub ended_again : (number : ℕ) (p : Place) (lines : List (List (List ℕ))) (l : ℕ) (r : Reason) → l ≡ length lines + number → AllRight p lines → least (end_reasons (behind_all p lines)) ≡ Some r → stated_from number p lines ≡ Err (l, r)
 ended_again number p [] l r place right why =
     let same : number ≡ l = omega (arith, place) in
-    rw (end_why p r why, same) refl
+    rw ((end_refuses p r).1 why, same) refl
 ended_again number p (line ∷ lines) l r place right why = rw (judge_answer p line, right.0) (ended_again (suc number) (behind p line) lines l r (omega (arith, place)) right.1 why)

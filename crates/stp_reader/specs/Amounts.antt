@@ -1,7 +1,8 @@
 -- What a word says as a count, a vertex or an amount, and the reasons why it says none.
-use Rattle.std.specs.Prelude.{ℕ, ◌+◌, ◌-◌, ◌*◌, ◌&&◌, ◌==◌, not, Bool, if◌then◌else◌, List, [], ◌∷◌, ◌++◌, length, Option, Some, None, option_map, unwrap_or, nat_le}
+use Rattle.std.specs.Prelude.{ℕ, ◌+◌, ◌-◌, ◌*◌, ◌&&◌, ◌==◌, not, Bool, if◌then◌else◌, List, [], ◌∷◌, ◌++◌, length, unwrap_or, nat_le}
 use Rattle.std.specs.List.{list_all}
 use Rattle.std.specs.Char.{is_ascii_digit}
+use Rattle.byte_pieces.specs.Pieces.{cut}
 use Rattle.stp_reader.specs.declared.reason.Reason.{Reason}
 use Rattle.stp_reader.specs.declared.reason.Reason.TheVariants.{BadNumber, Fraction, OutOfRange, VertexRange, NoVertices}
 use Rattle.stp_reader.specs.Reason.{when}
@@ -30,11 +31,6 @@ nodes_reasons word = count_reasons 1000000 word ++ when (is_number word && (valu
 -- why a word is no vertex from 1 to n
 abbrev pub vertex_reasons : ℕ → List ℕ → List Reason
 vertex_reasons n word = if is_number word then when (not (nat_le 1 (value word) && nat_le (value word) n)) VertexRange else BadNumber ∷ []
-
--- what stands before the first byte d, and what stands behind it
-abbrev pub cut : ℕ → List ℕ → Option (List ℕ × List ℕ)
-cut d [] = None
-cut d (b ∷ bs) = if b == d then Some ([], bs) else option_map (λ x. (b ∷ x.0, x.1)) (cut d bs)
 
 -- the whole part of an amount, and what stands behind its point
 abbrev pub parts : List ℕ → List ℕ × List ℕ

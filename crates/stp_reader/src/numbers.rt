@@ -6,7 +6,7 @@ ghost use Rattle.stp_reader.specs.Amounts.{is_number, value, parts};
 ghost use Rattle.stp_reader.specs.Judged.{within, count, nodes, vertex, amount};
 
 use crate::Reason;
-use crate::lines::cut_at;
+use byte_pieces::cut_at;
 use st_model::MAX_VERTICES;
 
 /// The greatest cost or prize.

@@ -1,7 +1,7 @@
 use Rattle.std.proofs.Common.{refl, add-one}
 use Rattle.std.proofs.lemmas.List.{take_rest}
-use Rattle.stp_reader.proofs.Cut.{cut-position}
-use Rattle.stp_reader.proofs.lines.cut_at.Goals as goal
+use Rattle.byte_pieces.proofs.Cut.{cut-position}
+use Rattle.byte_pieces.proofs.cut_at.Goals as goal
 
 pub returns-in_err-index-clause-cut : goal.returns-in_err-index-clause-cut
 returns-in_err-index-clause-cut c = rw (c.from_residual.ensures, cut-position c.args.byte c.args.bytes.now, ← c.index_of.ensures, c.in_err-index.was) refl
