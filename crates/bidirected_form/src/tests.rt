@@ -9,15 +9,10 @@ mod plain;
 
 use crate::{Arc, Arcs, VertexKind};
 use graph_store::Store;
-use st_model::{Branch, Instance, Link, Listed, Need};
+use st_model::{Branch, Listed};
 use std::alloc::{AllocError, Global};
 use std::test::Fail;
-
-fn link(a: u32, b: u32, cost: u64) -> Link
-    ensures { result ≡ record { a = a; b = b; cost = cost } }
-{
-    Link { a, b, cost }
-}
+use test_instances::triangle_with_centre;
 
 fn arc(tail: u32, remaining: u64) -> Arc {
     Arc { tail, remaining }
@@ -28,20 +23,7 @@ fn triangle(alloc: Global, outside: &[u32]) -> Result<Arcs, AllocError>
     ensures count { IfOk result (λ arcs. arcs.n ≡ 4) }
     ensures root { IfOk result (λ arcs. arcs.root ≡ 1) }
 {
-    let links = [
-        link(1, 4, 2),
-        link(2, 4, 2),
-        link(3, 4, 2),
-        link(1, 2, 4),
-        link(2, 3, 4),
-        link(1, 3, 4),
-    ];
-    let needs = [
-        (1, Need::Required),
-        (2, Need::Required),
-        (3, Need::Required),
-    ];
-    let instance = Instance::build(alloc, 4, &links, &needs)?;
+    let instance = triangle_with_centre(alloc, 4)?;
     let store = Store::of(alloc, &instance)?;
     let branch = Branch {
         inside: Listed::of(Vec::new(alloc)),

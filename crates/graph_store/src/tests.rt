@@ -2,53 +2,17 @@ ghost use Rattle.std.specs.Prelude.{◌≡◌, ◌≢◌, ◌+◌, ◌^◌, ◌<
 ghost use Rattle.st_model.specs.Network.{IsVertex, amount};
 
 use crate::{Half, Store};
-use st_model::{Instance, Link, Need};
+use st_model::Need;
 use std::alloc::{AllocError, Global};
 use std::test::Fail;
+use test_instances::triangle_with_centre;
 
 // A triangle 1, 2, 3 of required vertices whose sides cost 4, and its centre 4 at 2 from each.
 fn triangle(alloc: Global) -> Result<Store, AllocError>
     ensures count { IfOk result (λ store. store.network.n ≡ 4) }
     ensures amount { IfOk result (λ store. amount store.network ≤ 100) }
 {
-    let links = [
-        Link {
-            a: 1,
-            b: 4,
-            cost: 2,
-        },
-        Link {
-            a: 2,
-            b: 4,
-            cost: 2,
-        },
-        Link {
-            a: 3,
-            b: 4,
-            cost: 2,
-        },
-        Link {
-            a: 1,
-            b: 2,
-            cost: 4,
-        },
-        Link {
-            a: 2,
-            b: 3,
-            cost: 4,
-        },
-        Link {
-            a: 1,
-            b: 3,
-            cost: 4,
-        },
-    ];
-    let needs = [
-        (1, Need::Required),
-        (2, Need::Required),
-        (3, Need::Required),
-    ];
-    let instance = Instance::build(alloc, 4, &links, &needs)?;
+    let instance = triangle_with_centre(alloc, 4)?;
     Store::of(alloc, &instance)
 }
 

@@ -7,19 +7,14 @@ mod brute_force;
 use crate::Twins;
 use bidirected_form::Arcs;
 use graph_store::Store;
-use st_model::{Branch, Instance, Link, Listed, Need};
+use st_model::{Branch, Listed, Need};
 use std::alloc::{AllocError, Global};
 use std::test::Fail;
+use test_instances::pair;
 
-// Two vertices with prizes 3 and 4 and a link of 5 between them; the second one is the root.
-fn pair(alloc: Global) -> Result<Twins, AllocError> {
-    let links = [Link {
-        a: 1,
-        b: 2,
-        cost: 5,
-    }];
-    let needs = [(1, Need::Pays(3)), (2, Need::Pays(4))];
-    let instance = Instance::build(alloc, 2, &links, &needs)?;
+// The twins of two linked vertices with prizes 3 and 4; the second one is the root.
+fn twins_of_pair(alloc: Global) -> Result<Twins, AllocError> {
+    let instance = pair(alloc, Need::Pays(3), Need::Pays(4))?;
     let store = Store::of(alloc, &instance)?;
     let branch = Branch {
         inside: Listed::of(vec![in alloc; 2]?),
@@ -45,7 +40,7 @@ fn charge(twins: &mut Twins, q: u32, y: u64) {
 
 #[test]
 fn charges_the_one_end(rt: HostRuntime) -> Result<(), Fail> {
-    let mut twins = pair(rt.alloc())?;
+    let mut twins = twins_of_pair(rt.alloc())?;
     assert_eq!(rt; twins.ends(), [(3, 1)].as_slice());
     assert_eq!(rt; twins.left(1), 3);
     assert_eq!(rt; twins.left(2), 0);
@@ -94,7 +89,7 @@ fn go_back(
 
 #[test]
 fn goes_back_to_the_vertex(rt: HostRuntime) -> Result<(), Fail> {
-    let twins = pair(rt.alloc())?;
+    let twins = twins_of_pair(rt.alloc())?;
     match go_back(rt.alloc(), &twins, &[1, 3], 3)? {
         Some((set, vertex)) => {
             assert_eq!(rt; set.as_slice(), [1].as_slice());

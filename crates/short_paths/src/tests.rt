@@ -3,9 +3,10 @@ ghost use Rattle.st_model.specs.Network.{IsVertex};
 
 use crate::{Distances, from_many};
 use graph_store::Store;
-use st_model::{Instance, Link, Need};
+use st_model::{Instance, Need};
 use std::alloc::{AllocError, Global};
 use std::test::Fail;
+use test_instances::link;
 
 mod brute_force;
 
@@ -15,41 +16,13 @@ fn triangle(alloc: Global) -> Result<Store, AllocError>
     ensures { IfOk result (λ store. store.network.n ≡ 7) }
 {
     let links = [
-        Link {
-            a: 1,
-            b: 4,
-            cost: 2,
-        },
-        Link {
-            a: 2,
-            b: 4,
-            cost: 2,
-        },
-        Link {
-            a: 3,
-            b: 4,
-            cost: 2,
-        },
-        Link {
-            a: 1,
-            b: 2,
-            cost: 4,
-        },
-        Link {
-            a: 2,
-            b: 3,
-            cost: 4,
-        },
-        Link {
-            a: 1,
-            b: 3,
-            cost: 4,
-        },
-        Link {
-            a: 5,
-            b: 6,
-            cost: 0,
-        },
+        link(1, 4, 2),
+        link(2, 4, 2),
+        link(3, 4, 2),
+        link(1, 2, 4),
+        link(2, 3, 4),
+        link(1, 3, 4),
+        link(5, 6, 0),
     ];
     let instance = Instance::build(alloc, 7, &links, &[(1, Need::Required)])?;
     Store::of(alloc, &instance)

@@ -1,64 +1,17 @@
-ghost use Rattle.std.specs.Prelude.{◌≡◌, [], IfOk};
+ghost use Rattle.std.specs.Prelude.{◌≡◌, IfOk};
 
-use crate::{first_tree, prune, wall};
+use crate::{all_trees, first_tree, prune, wall};
 use graph_store::Store;
-use st_model::{Branch, Instance, Link, Listed, Need, Tree, is_tree, tree_cost};
+use st_model::{Instance, Listed, Need, Tree, is_tree, tree_cost};
 use std::alloc::{AllocError, Global};
 use std::test::Fail;
-
-// A triangle 1, 2, 3 of required vertices whose sides cost 4, and its centre 4 at 2 from each.
-fn triangle(alloc: Global) -> Result<Instance, AllocError>
-    ensures { IfOk result (λ i. i.n ≡ 4) }
-{
-    let links = [
-        Link {
-            a: 1,
-            b: 4,
-            cost: 2,
-        },
-        Link {
-            a: 2,
-            b: 4,
-            cost: 2,
-        },
-        Link {
-            a: 3,
-            b: 4,
-            cost: 2,
-        },
-        Link {
-            a: 1,
-            b: 2,
-            cost: 4,
-        },
-        Link {
-            a: 2,
-            b: 3,
-            cost: 4,
-        },
-        Link {
-            a: 1,
-            b: 3,
-            cost: 4,
-        },
-    ];
-    let needs = [
-        (1, Need::Required),
-        (2, Need::Required),
-        (3, Need::Required),
-    ];
-    Instance::build(alloc, 4, &links, &needs)
-}
+use test_instances::{link, triangle_with_centre};
 
 // Required vertices 1 and 3 that are not joined.
 fn apart(alloc: Global) -> Result<Instance, AllocError>
     ensures { IfOk result (λ i. i.n ≡ 3) }
 {
-    let links = [Link {
-        a: 1,
-        b: 2,
-        cost: 1,
-    }];
+    let links = [link(1, 2, 1)];
     let needs = [(1, Need::Required), (3, Need::Required)];
     Instance::build(alloc, 3, &links, &needs)
 }
@@ -67,35 +20,9 @@ fn apart(alloc: Global) -> Result<Instance, AllocError>
 fn path(alloc: Global) -> Result<Instance, AllocError>
     ensures { IfOk result (λ i. i.n ≡ 4) }
 {
-    let links = [
-        Link {
-            a: 1,
-            b: 2,
-            cost: 2,
-        },
-        Link {
-            a: 2,
-            b: 3,
-            cost: 2,
-        },
-        Link {
-            a: 3,
-            b: 4,
-            cost: 4,
-        },
-    ];
+    let links = [link(1, 2, 2), link(2, 3, 2), link(3, 4, 4)];
     let needs = [(1, Need::Pays(3)), (2, Need::Pays(9)), (4, Need::Pays(8))];
     Instance::build(alloc, 4, &links, &needs)
-}
-
-fn all_trees(alloc: Global) -> Branch
-    ensures inside { result.inside ≡ [] }
-    ensures outside { result.outside ≡ [] }
-{
-    Branch {
-        inside: Listed::of(Vec::new(alloc)),
-        outside: Listed::of(Vec::new(alloc)),
-    }
 }
 
 // What the first tree costs, if there is one, and u64::MAX where it is none.
@@ -130,7 +57,7 @@ fn pruned_cost(
 
 #[test]
 fn joins_the_corners(rt: HostRuntime) -> Result<(), Fail> {
-    let cost = first_cost(rt.alloc(), &triangle(rt.alloc())?)?;
+    let cost = first_cost(rt.alloc(), &triangle_with_centre(rt.alloc(), 4)?)?;
     assert!(rt; cost == Some(6) || cost == Some(8));
     Ok(())
 }
@@ -152,7 +79,7 @@ fn takes_what_is_worth_it(rt: HostRuntime) -> Result<(), Fail> {
 
 #[test]
 fn finds_walls(rt: HostRuntime) -> Result<(), Fail> {
-    assert!(rt; wall(rt.alloc(), &triangle(rt.alloc())?)?.is_none());
+    assert!(rt; wall(rt.alloc(), &triangle_with_centre(rt.alloc(), 4)?)?.is_none());
     let found = wall(rt.alloc(), &apart(rt.alloc())?)?.unwrap_or(Vec::new(rt.alloc()));
     let found = found.as_slice();
     assert!(rt; found == [1, 2].as_slice() || found == [3].as_slice());
@@ -162,7 +89,7 @@ fn finds_walls(rt: HostRuntime) -> Result<(), Fail> {
 // The way round over the sides, with the centre as a spare leaf.
 #[test]
 fn prunes_the_centre(rt: HostRuntime) -> Result<(), Fail> {
-    let instance = triangle(rt.alloc())?;
+    let instance = triangle_with_centre(rt.alloc(), 4)?;
     let cost = pruned_cost(rt.alloc(), &instance, 1, &[(1, 2), (2, 3), (1, 4)])?;
     assert!(rt; cost == 8);
     Ok(())

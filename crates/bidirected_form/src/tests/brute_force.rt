@@ -4,7 +4,7 @@ ghost use Rattle.st_model.specs.Lists.{has};
 ghost use Rattle.st_model.specs.Network.{IsVertex};
 
 use super::charge;
-use super::drawn::{Case, Draws, holds};
+use super::drawn::{Case, draw_case, draw_set, holds};
 use super::plain::{
     Table, least_remaining, lower, plain_arcs_into, plain_entering, plain_kind, plain_neighbours,
     plain_remaining, plain_table,
@@ -14,6 +14,7 @@ use graph_store::Store;
 use st_model::{Branch, Listed};
 use std::alloc::{AllocError, Global};
 use std::test::Fail;
+use test_instances::Draws;
 
 // The vertices of 1 to 6 that have a mark, ascending.
 fn members(alloc: Global, set: &[bool]) -> Result<Vec<u32>, AllocError>
@@ -146,10 +147,10 @@ fn same_turn(
     requires { arcs.old.n ≡ 6 }
     ensures { arcs.new.n ≡ 6 }
 {
-    if !same_entering(alloc, arcs, table, &draws.set(5))? {
+    if !same_entering(alloc, arcs, table, &draw_set(draws, 5))? {
         return Ok(false);
     }
-    let set = without(draws.set(4), arcs.root());
+    let set = without(draw_set(draws, 4), arcs.root());
     charge_both(alloc, arcs, table, &set, draws.below_ten())?;
     Ok(same_remaining(arcs, table) && same_arcs_into(alloc, arcs, table)?)
 }
@@ -157,7 +158,7 @@ fn same_turn(
 // Whether a drawn case, and six charges of it, are as in the plain program.
 fn agrees(alloc: Global, seed: u64) -> Result<bool, AllocError> {
     let mut draws = Draws { state: seed };
-    let case = draws.case(alloc)?;
+    let case = draw_case(alloc, &mut draws)?;
     let root = draws.vertex();
     let mut arcs = arcs_of(alloc, &case, root)?;
     let mut table = plain_table(&case);

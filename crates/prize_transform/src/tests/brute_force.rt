@@ -1,5 +1,4 @@
-ghost use Rattle.std.specs.Prelude.{◌≡◌, ◌≤◌, IfOk, slice_index_or};
-ghost use Rattle.st_model.specs.Network.{IsVertex, prize};
+ghost use Rattle.st_model.specs.Network.{IsVertex};
 
 use super::{charge, go_back};
 use crate::Twins;
@@ -8,67 +7,25 @@ use graph_store::Store;
 use st_model::{Branch, Instance, Listed, Need};
 use std::alloc::{AllocError, Global};
 use std::test::Fail;
+use test_instances::Draws;
 
-// Numbers that look random: a linear congruence modulo 2^64, its high bits.
-#[derive(Drop)]
-struct Draws {
-    state: u64,
+// So many numbers from 1 to 10, some of them more than once.
+fn numbers(alloc: Global, draws: &mut Draws, count: u32) -> Result<Vec<u32>, AllocError> {
+    let mut numbers = Vec::new(alloc);
+    for _turn in 0..count {
+        numbers.push(draws.below_ten() as u32 + 1)?;
+    }
+    Ok(numbers)
 }
 
-impl Draws {
-    fn below_ten(&mut self) -> u64
-        ensures { result ≤ 9 }
-    {
-        self.state = self
-            .state
-            .wrapping_mul(6_364_136_223_846_793_005)
-            .wrapping_add(1_442_695_040_888_963_407);
-        (self.state >> 33) % 10
-    }
-
-    // Required in two of ten cases, else a prize of 0 to 9.
-    fn need(&mut self) -> Need
-        ensures { prize result ≤ 9 }
-    {
-        if self.below_ten() < 2 {
-            Need::Required
-        } else {
-            Need::Pays(self.below_ten())
-        }
-    }
-
-    fn instance(&mut self, alloc: Global) -> Result<Instance, AllocError>
-        ensures { IfOk result (λ instance. instance.n ≡ 6) }
-    {
-        let needs = [
-            (1, self.need()),
-            (2, self.need()),
-            (3, self.need()),
-            (4, self.need()),
-            (5, self.need()),
-            (6, self.need()),
-        ];
-        Instance::build(alloc, 6, &[], &needs)
-    }
-
-    // So many numbers from 1 to 10, some of them more than once.
-    fn numbers(&mut self, alloc: Global, count: u32) -> Result<Vec<u32>, AllocError> {
-        let mut numbers = Vec::new(alloc);
-        for _turn in 0..count {
-            numbers.push(self.below_ten() as u32 + 1)?;
-        }
-        Ok(numbers)
-    }
-
-    // A list with an end and its vertex among drawn numbers.
-    fn list_with(&mut self, alloc: Global, end: u32, q: u32) -> Result<Vec<u32>, AllocError> {
-        let mut list = self.numbers(alloc, 3)?;
-        list.push(end)?;
-        list.extend_from_slice(&self.numbers(alloc, 3)?)?;
-        list.push(q)?;
-        list.extend_from_slice(&self.numbers(alloc, 2)?)?;
-        Ok(list)
-    }
+// A list with an end and its vertex among drawn numbers.
+fn list_with(alloc: Global, draws: &mut Draws, end: u32, q: u32) -> Result<Vec<u32>, AllocError> {
+    let mut list = numbers(alloc, draws, 3)?;
+    list.push(end)?;
+    list.extend_from_slice(&numbers(alloc, draws, 3)?)?;
+    list.push(q)?;
+    list.extend_from_slice(&numbers(alloc, draws, 2)?)?;
+    Ok(list)
 }
 
 // The twins of an instance where one drawn number is inside and one is outside, and the prize of
@@ -76,8 +33,8 @@ impl Draws {
 fn drawn(alloc: Global, draws: &mut Draws) -> Result<(Twins, Vec<(u32, u64)>), AllocError> {
     let instance = draws.instance(alloc)?;
     let branch = Branch {
-        inside: Listed::of(draws.numbers(alloc, 1)?),
-        outside: Listed::of(draws.numbers(alloc, 1)?),
+        inside: Listed::of(numbers(alloc, draws, 1)?),
+        outside: Listed::of(numbers(alloc, draws, 1)?),
     };
     let store = Store::of(alloc, &instance)?;
     let arcs = Arcs::of(alloc, &store, &branch, 1)?;
@@ -166,7 +123,7 @@ fn same_back(
     ends: &[(u32, u32)],
 ) -> Result<bool, AllocError> {
     for (end, q) in ends {
-        let list = draws.list_with(alloc, *end, *q)?;
+        let list = list_with(alloc, draws, *end, *q)?;
         let plain = plain_vertices(alloc, &list)?;
         match go_back(alloc, twins, &list, *end)? {
             Some((vertices, vertex)) if vertex == *q && vertices.as_slice() == plain.as_slice() =>

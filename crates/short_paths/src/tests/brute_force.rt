@@ -1,64 +1,11 @@
-ghost use Rattle.std.specs.Prelude.{◌≡◌, ◌≤◌, All, IfOk};
-ghost use Rattle.st_model.specs.Network.{IsVertex};
+ghost use Rattle.std.specs.Prelude.{◌≡◌};
 
 use crate::from_many;
 use graph_store::Store;
 use st_model::{Instance, Link};
 use std::alloc::{AllocError, Global};
 use std::test::Fail;
-
-// Numbers that look random: a linear congruence modulo 2^64, its high bits.
-#[derive(Drop)]
-struct Draws {
-    state: u64,
-}
-
-impl Draws {
-    fn below_ten(&mut self) -> u64
-        ensures { result ≤ 9 }
-    {
-        self.state = self
-            .state
-            .wrapping_mul(6_364_136_223_846_793_005)
-            .wrapping_add(1_442_695_040_888_963_407);
-        (self.state >> 33) % 10
-    }
-
-    // A link of cost 0 to 9; three in ten have equal ends, so they join nothing.
-    fn link(&mut self, a: u32, b: u32) -> Link
-        requires a { IsVertex 6 a }
-        requires b { IsVertex 6 b }
-        ensures ends { IsVertex 6 result.a × IsVertex 6 result.b }
-        ensures cost { result.cost ≤ 9 }
-    {
-        let b = if self.below_ten() < 3 { a } else { b };
-        Link {
-            a,
-            b,
-            cost: self.below_ten(),
-        }
-    }
-}
-
-// Six vertices with up to ten links.
-fn drawn(alloc: Global, seed: u64) -> Result<Instance, AllocError>
-    ensures { IfOk result (λ instance. instance.n ≡ 6) }
-{
-    let mut draws = Draws { state: seed };
-    let links = [
-        draws.link(1, 2),
-        draws.link(1, 3),
-        draws.link(1, 4),
-        draws.link(2, 3),
-        draws.link(2, 5),
-        draws.link(3, 4),
-        draws.link(3, 6),
-        draws.link(4, 5),
-        draws.link(4, 6),
-        draws.link(5, 6),
-    ];
-    Instance::build(alloc, 6, &links, &[])
-}
+use test_instances::Draws;
 
 // Lowers what a vertex costs to what it costs from another one.
 fn lower(least: &mut [u64], from: u32, to: u32, cost: u64) {
@@ -112,7 +59,7 @@ fn agrees(alloc: Global, instance: &Instance, limit: u64) -> Result<bool, AllocE
 fn agrees_with_a_plain_program(rt: HostRuntime) -> Result<(), Fail> {
     let alloc = rt.alloc();
     for seed in 0..20u64 {
-        let instance = drawn(alloc, seed)?;
+        let instance = Draws { state: seed }.instance(alloc)?;
         assert!(rt; agrees(alloc, &instance, 9)?, "seed {seed}, limit 9");
         assert!(rt;
             agrees(alloc, &instance, u64::MAX)?,

@@ -2,7 +2,7 @@ use Rattle.std.proofs.Common.{[], ◌∷◌}
 use Rattle.std.proofs.lemmas.List.Elements.{All-from_recursion}
 use Rattle.st_model.specs.declared.link.Link.{Link}
 use Rattle.st_model.specs.Network.{IsVertex}
-use Rattle.short_paths.proofs.tests.brute_force.drawn.Goals as goal
+use Rattle.test_instances.proofs.draws.Draws.instance.Goals as goal
 
 abbrev are_vertices : Link → Type 0
 are_vertices l = IsVertex 6 l.a × IsVertex 6 l.b
