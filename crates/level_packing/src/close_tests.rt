@@ -8,9 +8,10 @@ ghost use Rattle.level_packing.specs.Forest.{IsPresent};
 use crate::search::first_present;
 use crate::{Leaf, close_all};
 use cut_packing::Cut;
-use st_model::{Branch, Instance, Link, Listed, Need, Tree, VertexSet, is_tree, tree_cost};
+use st_model::{Branch, Instance, Listed, Need, Tree, VertexSet, is_tree, tree_cost};
 use std::alloc::{AllocError, Global};
 use std::test::Fail;
+use test_instances::{link, triangle_with_centre};
 
 // How a branch was closed, by this file's own sums.
 #[derive(Clone, Copy, Debug, PartialEq, Eq)]
@@ -145,44 +146,7 @@ fn closing_of(
 
 #[test]
 fn closes_the_triangle(rt: HostRuntime) -> Result<(), Fail> {
-    let links = [
-        Link {
-            a: 1,
-            b: 4,
-            cost: 2,
-        },
-        Link {
-            a: 2,
-            b: 4,
-            cost: 2,
-        },
-        Link {
-            a: 3,
-            b: 4,
-            cost: 2,
-        },
-        Link {
-            a: 1,
-            b: 2,
-            cost: 4,
-        },
-        Link {
-            a: 2,
-            b: 3,
-            cost: 4,
-        },
-        Link {
-            a: 1,
-            b: 3,
-            cost: 4,
-        },
-    ];
-    let needs = [
-        (1, Need::Required),
-        (2, Need::Required),
-        (3, Need::Required),
-    ];
-    let instance = Instance::build(rt.alloc(), 4, &links, &needs)?;
+    let instance = triangle_with_centre(rt.alloc(), 4)?;
     let with_centre = closing_of(rt.alloc(), &instance, &[4], &[], 9)?;
     assert_eq!(rt; with_centre, Closing::Tree { cost: 6, weight: 6 });
     let without_centre = closing_of(rt.alloc(), &instance, &[], &[4], 9)?;
@@ -194,18 +158,7 @@ fn closes_the_triangle(rt: HostRuntime) -> Result<(), Fail> {
 
 #[test]
 fn closes_parts_that_are_not_joined(rt: HostRuntime) -> Result<(), Fail> {
-    let links = [
-        Link {
-            a: 1,
-            b: 2,
-            cost: 3,
-        },
-        Link {
-            a: 3,
-            b: 4,
-            cost: 5,
-        },
-    ];
+    let links = [link(1, 2, 3), link(3, 4, 5)];
     let instance = Instance::build(rt.alloc(), 4, &links, &[(4, Need::Pays(7))])?;
     let both = closing_of(rt.alloc(), &instance, &[1, 2, 3, 4], &[], 9)?;
     assert!(rt; matches!(both, Closing::Wall { weight: 9.. }), "{both:?}");
@@ -224,59 +177,11 @@ fn closes_parts_that_are_not_joined(rt: HostRuntime) -> Result<(), Fail> {
 
 #[test]
 fn closes_along_the_cheapest_links(rt: HostRuntime) -> Result<(), Fail> {
-    let rising = [
-        Link {
-            a: 1,
-            b: 4,
-            cost: 7,
-        },
-        Link {
-            a: 2,
-            b: 3,
-            cost: 2,
-        },
-        Link {
-            a: 3,
-            b: 4,
-            cost: 4,
-        },
-        Link {
-            a: 1,
-            b: 2,
-            cost: 1,
-        },
-    ];
+    let rising = [link(1, 4, 7), link(2, 3, 2), link(3, 4, 4), link(1, 2, 1)];
     let ring = Instance::build(rt.alloc(), 4, &rising, &[])?;
-    let equal = [
-        Link {
-            a: 1,
-            b: 2,
-            cost: 5,
-        },
-        Link {
-            a: 2,
-            b: 3,
-            cost: 5,
-        },
-        Link {
-            a: 3,
-            b: 1,
-            cost: 5,
-        },
-    ];
+    let equal = [link(1, 2, 5), link(2, 3, 5), link(3, 1, 5)];
     let even = Instance::build(rt.alloc(), 3, &equal, &[])?;
-    let free = [
-        Link {
-            a: 1,
-            b: 2,
-            cost: 0,
-        },
-        Link {
-            a: 2,
-            b: 3,
-            cost: 0,
-        },
-    ];
+    let free = [link(1, 2, 0), link(2, 3, 0)];
     let gift = Instance::build(rt.alloc(), 3, &free, &[])?;
     let lone = Instance::build(rt.alloc(), 1, &[], &[])?;
     for (instance, inside, cost) in [
