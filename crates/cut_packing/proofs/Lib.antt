@@ -1,5 +1,4 @@
 pub mod Sums
-pub mod Members
 pub mod Loaded
 pub mod ArcLists
 pub mod Turned

@@ -10,8 +10,6 @@ use Rattle.st_model.specs.Branch.{IsVertexSet}
 use Rattle.st_model.specs.VertexSet.{AllApart}
 use Rattle.st_model.proofs.Marked.{AllApart-from_increasing}
 use Rattle.st_model.proofs.Sums.{sum_to_same, sum_to_le, sum_to-add, sum_to_none}
-pub use Rattle.st_model.proofs.Sums.{total-append}
-pub use Rattle.st_model.proofs.Costs.{total_more}
 
 -- a sum of sums is the sum of the sums
 pub total-add : {X : Type 0} (f g : X → ℕ) (xs : List X) → total (λ x. f x + g x) xs ≡ total f xs + total g xs

@@ -3,36 +3,23 @@ ghost use Rattle.std.specs.Prelude.{◌≡◌, ◌<◌, IfOk};
 mod judge;
 
 use crate::{Cut, Packing, SetTable, fits, is_full, proof_tree_bounds, weak_duality, weight};
-use judge::{Dice, plain_fits, plain_full};
-use st_model::{Branch, Instance, Link, Listed, Need};
+use judge::{plain_fits, plain_full};
+use st_model::{Branch, Instance, Listed, Need};
 use std::alloc::{AllocError, Global};
 use std::test::Fail;
+use test_instances::{Draws, links_of_triangle};
 
-// Three terminals joined to each other at 4, and to a centre at 2.
+// The triangle with sides of 4, where the centre pays so much.
 fn triangle(alloc: Global, centre: u64) -> Result<Instance, AllocError>
     requires { centre < 100 }
 {
-    let links = [
-        link(1, 4, 2),
-        link(2, 4, 2),
-        link(3, 4, 2),
-        link(1, 2, 4),
-        link(2, 3, 4),
-        link(1, 3, 4),
-    ];
     let needs = [
         (1, Need::Required),
         (2, Need::Required),
         (3, Need::Required),
         (4, Need::Pays(centre)),
     ];
-    Instance::build(alloc, 4, &links, &needs)
-}
-
-fn link(a: u32, b: u32, cost: u64) -> Link
-    ensures { result ≡ record { a = a; b = b; cost = cost } }
-{
-    Link { a, b, cost }
+    Instance::build(alloc, 4, &links_of_triangle(4), &needs)
 }
 
 fn cut(alloc: Global, set: &[u32], q: u32, y: u64) -> Result<Cut, AllocError> {
@@ -178,34 +165,34 @@ fn equal_sets_have_one_number(rt: HostRuntime) -> Result<(), Fail> {
 }
 
 // Some of the numbers from low to high.
-fn some_of(alloc: Global, dice: &mut Dice, low: u32, high: u32) -> Result<Vec<u32>, AllocError> {
+fn some_of(alloc: Global, draws: &mut Draws, low: u32, high: u32) -> Result<Vec<u32>, AllocError> {
     let mut some = Vec::new(alloc);
     for v in low..high {
-        if dice.roll(2) == 0 {
+        if draws.below(2) == 0 {
             some.push(v)?;
         }
     }
     Ok(some)
 }
 
-fn random_packing(alloc: Global, dice: &mut Dice) -> Result<Packing, AllocError> {
+fn random_packing(alloc: Global, draws: &mut Draws) -> Result<Packing, AllocError> {
     let mut cuts = Vec::new(alloc);
-    for _ in 0..dice.roll(4) {
-        let stray = dice.roll(12);
-        let mut set = some_of(alloc, dice, 2, 5)?;
+    for _ in 0..draws.below(4) {
+        let stray = draws.below(12) as u32;
+        let mut set = some_of(alloc, draws, 2, 5)?;
         if stray < 6 {
             set.push(stray)?;
         }
         cuts.push(Cut {
             set: Listed::of(set),
-            q: 2 + dice.roll(3),
-            y: u64::from(dice.roll(3)),
+            q: 2 + draws.below(3) as u32,
+            y: draws.below(3),
         })?;
     }
-    let root = if dice.roll(8) == 0 {
+    let root = if draws.below(8) == 0 {
         None
     } else {
-        Some(1 + dice.roll(6) / 5)
+        Some(1 + draws.below(6) as u32 / 5)
     };
     Ok(Packing {
         root,
@@ -213,10 +200,10 @@ fn random_packing(alloc: Global, dice: &mut Dice) -> Result<Packing, AllocError>
     })
 }
 
-fn random_branch(alloc: Global, dice: &mut Dice) -> Result<Branch, AllocError> {
+fn random_branch(alloc: Global, draws: &mut Draws) -> Result<Branch, AllocError> {
     let mut inside = Vec::new(alloc);
     let mut outside = Vec::new(alloc);
-    match dice.roll(4) {
+    match draws.below(4) {
         0 => inside.push(4)?,
         1 => outside.push(4)?,
         2 => outside.push(3)?,
@@ -232,10 +219,10 @@ fn random_branch(alloc: Global, dice: &mut Dice) -> Result<Branch, AllocError> {
 fn judged(
     alloc: Global,
     instance: &Instance,
-    dice: &mut Dice,
+    draws: &mut Draws,
 ) -> Result<([bool; 2], [bool; 2]), AllocError> {
-    let packing = random_packing(alloc, dice)?;
-    let branch = random_branch(alloc, dice)?;
+    let packing = random_packing(alloc, draws)?;
+    let branch = random_branch(alloc, draws)?;
     let called = [
         fits(alloc, instance, &branch, &packing)?,
         is_full(alloc, instance, &branch, &packing)?,
@@ -251,11 +238,11 @@ fn judged(
 fn random_packings_are_judged_alike(rt: HostRuntime) -> Result<(), Fail> {
     let alloc = rt.alloc();
     let instance = triangle(alloc, 1)?;
-    let mut dice = Dice { state: 2027 };
+    let mut draws = Draws { state: 2027 };
     let mut fitting = 0u32;
     let mut full = 0u32;
     for _ in 0..2000 {
-        let ([fit, filled], plain) = judged(alloc, &instance, &mut dice)?;
+        let ([fit, filled], plain) = judged(alloc, &instance, &mut draws)?;
         assert_eq!(rt; [fit, filled], plain);
         fitting = fitting.saturating_add(u32::from(fit));
         full = full.saturating_add(u32::from(filled));

@@ -11,7 +11,7 @@ use Rattle.bidirected_form.specs.Entering.{enters, CanBear}
 use Rattle.prize_transform.specs.Twins.{Ends, left_of, prize_for}
 use Rattle.cut_packing.specs.declared.cut.Cut.{Cut}
 use Rattle.cut_packing.specs.Packing.{load, named}
-use Rattle.cut_packing.proofs.Sums.{total_more}
+use Rattle.st_model.proofs.Costs.{total_more}
 use Rattle.dual_ascent.specs.Left.{AreEndsOf, AreBorne, AreLowered, AreSpent}
 use Rattle.dual_ascent.specs.Raises.{IsOpen}
 

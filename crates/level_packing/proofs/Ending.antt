@@ -10,7 +10,7 @@ use Rattle.st_model.specs.declared.link.Link.{Link}
 use Rattle.st_model.specs.declared.tree.Tree.{Tree}
 use Rattle.st_model.specs.Lists.{has, total, sum_to}
 use Rattle.st_model.specs.Network.{Network, IsInstance, IsVertex, link, pays}
-use Rattle.st_model.specs.Arborescence.{Grows, IsArborescence, reached, reached_from, arc_cost, missed, cost}
+use Rattle.st_model.specs.Arborescence.{IsArborescence, reached, arc_cost, missed, cost}
 use Rattle.st_model.specs.Branch.{IsVertexSet, is_present, is_certain}
 use Rattle.st_model.specs.Made.{is_between, has_pair, IsMadeOf, AreConnectedFrom}
 use Rattle.st_model.proofs.Links.{linked_in_range}
@@ -18,14 +18,16 @@ use Rattle.st_model.proofs.Distinct.{between-ends, total-arc_cost_made}
 use Rattle.st_model.proofs.Sums.{sum_to_same, sum_to_none}
 use Rattle.cut_packing.specs.declared.cut.Cut.{Cut}
 use Rattle.cut_packing.specs.Packing.{load, named, CutFits, Fits, outside_pays, weight}
-use Rattle.cut_packing.proofs.Members.{reached_from-more}
 use Rattle.st_model.proofs.Marked.{at_member}
+use Rattle.st_model.proofs.Members.{has-one}
+use Rattle.st_model.proofs.Reaching.{one_side, reached_in, tree-vertex}
+use Rattle.st_model.proofs.ThinGrowth.{has-reached_from}
 use Rattle.cut_packing.proofs.Turned.{turned, entered}
 use Rattle.cut_packing.proofs.Charged.{charged, turned_bears}
 use Rattle.level_packing.specs.Forest.{Groups, IsPresent, IsForest, IsToCome, cluster_of, members_of, level}
 use Rattle.level_packing.specs.Growing.{IsAlone}
 use Rattle.level_packing.specs.Spanning.{IsSpanning}
-use Rattle.level_packing.proofs.Members.{All-from_has, only_one, itself}
+use Rattle.level_packing.proofs.Members.{All-from_has, itself}
 
 -- every vertex alone is a forest that nothing was taken into
 pub alone_forest : (I : Network) (B : Branch) (root : ℕ) (links : List Link) (F : Groups) → IsPresent I B root → IsAlone I.n F → ((u v : ℕ) → IsPresent I B u → IsPresent I B v → IfSome (link I.links u v) (IsToCome links u v)) → IsForest I B root 0 links F
@@ -37,7 +39,7 @@ alone_forest I B root links F present alone complete = record {
     formed_len = alone.formed_len;
     own = λ v pv. rw (alone.cluster v pv.vertex.1) pv;
     settled = λ v pv. ap (cluster_of F) (alone.cluster v pv.vertex.1);
-    members = λ i v pi own. rw (alone.members i pi.vertex.1) (λ there. let same : i ≡ v = only_one i v there in (rw (← same) pi, rw (← same) (alone.cluster i pi.vertex.1)), λ at. let same : v ≡ i = sym (alone.cluster v at.0.vertex.1) ∙ at.1 in rw same (itself i));
+    members = λ i v pi own. rw (alone.members i pi.vertex.1) (λ there. let same : i ≡ v = has-one i v there in (rw (← same) pi, rw (← same) (alone.cluster i pi.vertex.1)), λ at. let same : v ≡ i = sym (alone.cluster v at.0.vertex.1) ∙ at.1 in rw same (itself i));
     chosen = rw alone.chosen (All-nil _);
     connected = λ S closed u v pu pv same. ap S (sym (alone.cluster u pu.vertex.1) ∙ same ∙ alone.cluster v pv.vertex.1);
   };
@@ -66,15 +68,6 @@ alone_forest I B root links F present alone complete = record {
     free : (o : Option ℕ) → IfSome o (λ price. 0 ≤ price)
     free None = tt
     free (Some price) = omega arith
-
--- what holds of all that is reached at first, and of each head, holds of all that is reached
-reached_in : (P : ℕ → Type 0) (r : List ℕ) (arcs : List (ℕ × ℕ)) → ((v : ℕ) → has r v ≡ true → P v) → AllByRecursion (λ arc. P arc.1) arcs → (v : ℕ) → has (reached_from r arcs) v ≡ true → P v
-reached_in P r [] first heads v there = first v there
-reached_in P r (arc ∷ arcs) first heads v there = reached_in P (arc.1 ∷ r) arcs (λ w here. by_case w (eqb arc.1 w) refl here) heads.1 v there
-  where
-    by_case : (w : ℕ) (b : Bool) → eqb arc.1 w ≡ b → b || has r w ≡ true → P w
-    by_case w true is h = let same : arc.1 ≡ w = grind (arith, nat_tests) in subst P same heads.0
-    by_case w false is h = first w h
 
 -- what holds of the ends of all pairs holds of the ends of one of them
 pair_ends : (P : ℕ → Type 0) (pairs : List (ℕ × ℕ)) (u v : ℕ) → AllByRecursion (λ pair. P pair.0 × P pair.1) pairs → has_pair pairs u v ≡ true → P u × P v
@@ -136,7 +129,7 @@ module _ (I : Network) (B : Branch) (root limit : ℕ) (F : Groups) (instance : 
 
     module _ (t : Tree) (starts : t.start ≡ root) (arborescence : IsArborescence I t) (made : IsMadeOf F.chosen t) (ends : All (λ pair. IsTrue (has (reached t) pair.0) × IsTrue (has (reached t) pair.1)) F.chosen) where
       root_reached : has (reached t) root ≡ true
-      root_reached = reached_from-more (t.start ∷ []) t.arcs root (rw starts (itself root))
+      root_reached = has-reached_from (t.start ∷ []) t.arcs root (rw starts (itself root))
 
       present_reached : (v : ℕ) → IsPresent I B v → has (reached t) v ≡ true
       present_reached v pv = sym (forest.clusters.connected (has (reached t)) (λ k d within. (ends k d within).0 ∙ sym (ends k d within).1) root v forest.rooted pv (sym (one v pv))) ∙ root_reached
@@ -145,7 +138,7 @@ module _ (I : Network) (B : Branch) (root limit : ℕ) (F : Groups) (instance : 
       reached_present v there = reached_in (λ w. is_present B w ≡ true) (t.start ∷ []) t.arcs at_start (recursion_from_All _ t.arcs (λ k d within. (pair_ends (λ w. is_present B w ≡ true) F.chosen _ _ (recursion_from_All _ F.chosen (λ j e short. let joined = forest.clusters.chosen j e short in (joined.from.present, joined.to.present))) (made k d within)).1)) v there
         where
           at_start : (w : ℕ) → has (t.start ∷ []) w ≡ true → is_present B w ≡ true
-          at_start w here = let same : root ≡ w = only_one root w (rw starts at here) in rw (← same) forest.rooted.present
+          at_start w here = let same : root ≡ w = has-one root w (rw starts at here) in rw (← same) forest.rooted.present
 
       pub spans : IsSpanning I B t
       spans = record { arborescence = arborescence; present = λ v vertex. same v vertex (has (reached t) v) (is_present B v) refl refl }
@@ -188,35 +181,6 @@ module _ (I : Network) (B : Branch) (root limit : ℕ) (F : Groups) (instance : 
 
       pub weighs : weight I B (record { root = Some root; cuts = F.cuts }) ≡ cost I t
       weighs = omega (arith, links_at_most, links_at_least, no_levels, missed_outside, forest.levels.balance)
-
-  -- where no two clusters are linked, what is reached stays in the start's
-  one_side : (S : ℕ → Bool) → ((u v : ℕ) → IsPresent I B u → IsPresent I B v → IsSome (link I.links u v) → S u ≡ S v) → (side : Bool) (r : List ℕ) (arcs : List (ℕ × ℕ)) → Grows I r arcs → ((v : ℕ) → IsVertex I.n v → has (reached_from r arcs) v ≡ true → is_present B v ≡ true) → ((v : ℕ) → has r v ≡ true → S v ≡ side) → (v : ℕ) → has (reached_from r arcs) v ≡ true → S v ≡ side
-  one_side S closed side r [] grows inside first v there = first v there
-  one_side S closed side r ((a, b) ∷ arcs) grows inside first v there = one_side S closed side (b ∷ r) arcs grows.3 inside (λ w here. by_case w (eqb b w) refl here) v there
-    where
-      vertices : IsVertex I.n a × IsVertex I.n b
-      vertices = in_range (link I.links a b) grows.0 (linked_in_range I.n I.links a b instance.ends)
-        where
-          in_range : (o : Option ℕ) → IsSome o → OnSome o (IsVertex I.n a × IsVertex I.n b) → IsVertex I.n a × IsVertex I.n b
-          in_range None some h = cc
-          in_range (Some price) some h = h
-
-      tail_present : IsPresent I B a
-      tail_present = record { vertex = vertices.0; present = inside a vertices.0 (reached_from-more (b ∷ r) arcs a (later (eqb b a) grows.1)) }
-        where
-          later : (t : Bool) → has r a ≡ true → t || has r a ≡ true
-          later true h = refl
-          later false h = h
-
-      head_present : IsPresent I B b
-      head_present = record { vertex = vertices.1; present = inside b vertices.1 (reached_from-more (b ∷ r) arcs b self) }
-        where
-          self : has (b ∷ r) b ≡ true
-          self = let test : eqb b b ≡ true = grind (arith, nat_tests) in rw test refl
-
-      by_case : (w : ℕ) (t : Bool) → eqb b w ≡ t → t || has r w ≡ true → S w ≡ side
-      by_case w true is here = let same : b ≡ w = grind (arith, nat_tests) in rw (← same) (sym (closed a b tail_present head_present grows.0) ∙ first a grows.1)
-      by_case w false is here = first w here
 
   -- a cut round a cluster that isn't the root's, of any value
   module _ (vertex : ℕ) (vertex_here : IsPresent I B vertex) (apart : cluster_of F vertex ≢ cluster_of F root) (inside : List ℕ) (same : (v : ℕ) → has inside v ≡ has (members_of F (cluster_of F vertex)) v) (target : ℕ) where
@@ -274,7 +238,8 @@ module _ (I : Network) (B : Branch) (root limit : ℕ) (F : Groups) (instance : 
     none_spans t spanning =
         let S : ℕ → Bool = λ v. cluster_of F v == cluster_of F root in
         let closed : (u v : ℕ) → IsPresent I B u → IsPresent I B v → IsSome (link I.links u v) → S u ≡ S v = λ u v pu pv linked. elim (cases_eq (cluster_of F u) (cluster_of F v)) [ inl together ↦ ap (λ i. i == cluster_of F root) together | inr off ↦ absurd (unlinked _ (not_linked I B root limit F u v forest pu pv off) linked) ] in
-        let side = one_side S closed (S t.start) (t.start ∷ []) t.arcs spanning.arborescence.grows (λ v in_range there. sym (spanning.present v in_range) ∙ there) (λ v here. ap S (sym (only_one t.start v here))) in
+        let present : (v : ℕ) → IsTrue (has (reached t) v) → IsPresent I B v = λ v there. let vertex = tree-vertex I t v instance spanning.arborescence there in record { vertex = vertex; present = sym (spanning.present v vertex) ∙ there } in
+        let side = one_side I S (S t.start) (t.start ∷ []) t.arcs (λ u v tu tv linked. closed u v (present u tu) (present v tv) linked) spanning.arborescence.grows (λ v here. ap S (sym (has-one t.start v here))) in
         let at_root = side root (spanning.present root forest.rooted.vertex ∙ forest.rooted.present) in
         let at_vertex = side vertex (spanning.present vertex vertex_here.vertex ∙ vertex_here.present) in
         contrary (cluster_of F vertex) (cluster_of F root) apart (at_vertex ∙ sym at_root)

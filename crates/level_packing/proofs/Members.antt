@@ -11,7 +11,7 @@ use Rattle.std.proofs.lemmas.Bool.Decides.{nat_tests}
 use Rattle.std.proofs.lemmas.List.Elements.{All-cons, All-nil}
 use Rattle.st_model.specs.Lists.{has}
 use Rattle.st_model.proofs.Marked.{has_more}
-use Rattle.st_model.proofs.Members.{has-one, has_same}
+use Rattle.st_model.proofs.Members.{has_same}
 
 -- what holds of each member holds of all
 pub All-from_has : (P : ℕ → Type 0) (xs : List ℕ) → ((v : ℕ) → IsTrue (has xs v) → P v) → All P xs
@@ -48,9 +48,6 @@ relabel_more cluster vertices i v name old within short before = rw (has_more ve
         let other : v ≢ get_or vertices i 0 = grind (arith, nat_tests) in
         rw (or-false (has (take i vertices) v)) (get_or-set_other cluster (get_or vertices i 0) v name 0 other ∙ before)
 
--- a list of one
-pub only_one : (i v : ℕ) → has (i ∷ []) v ≡ true → i ≡ v
-only_one = has-one
-
+-- the member of a list of one
 pub itself : (i : ℕ) → has (i ∷ []) i ≡ true
 itself i = grind (arith, nat_tests)

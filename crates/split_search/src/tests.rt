@@ -1,53 +1,16 @@
 use crate::{Gate, OpenGate};
-use st_model::{Instance, Link, Need};
+use st_model::{Instance, Need};
 use starting::bounds;
 use std::test::Fail;
+use test_instances::{link, triangle_with_centre};
 
 mod brute_force;
 mod starting;
 
-// A triangle of required vertices with sides 4, and its centre at 2 from each: cuts of the root
-// close it.
+// Sides of 4: cuts of the root close the triangle.
 #[test]
 fn goes_through_the_centre(rt: HostRuntime) -> Result<(), Fail> {
-    let links = [
-        Link {
-            a: 1,
-            b: 4,
-            cost: 2,
-        },
-        Link {
-            a: 2,
-            b: 4,
-            cost: 2,
-        },
-        Link {
-            a: 3,
-            b: 4,
-            cost: 2,
-        },
-        Link {
-            a: 1,
-            b: 2,
-            cost: 4,
-        },
-        Link {
-            a: 2,
-            b: 3,
-            cost: 4,
-        },
-        Link {
-            a: 1,
-            b: 3,
-            cost: 4,
-        },
-    ];
-    let needs = [
-        (1, Need::Required),
-        (2, Need::Required),
-        (3, Need::Required),
-    ];
-    let instance = Instance::build(rt.alloc(), 4, &links, &needs)?;
+    let instance = triangle_with_centre(rt.alloc(), 4)?;
     for (budget, dual, primal) in [(0, 0, 6), (1, 6, 6)] {
         let got = bounds(rt.alloc(), &instance, budget, &OpenGate)?;
         assert_eq!(rt; got, Some((dual, primal)), "with budget {budget}");
@@ -60,31 +23,11 @@ fn goes_through_the_centre(rt: HostRuntime) -> Result<(), Fail> {
 #[test]
 fn finds_the_centre(rt: HostRuntime) -> Result<(), Fail> {
     let links = [
-        Link {
-            a: 1,
-            b: 2,
-            cost: 5,
-        },
-        Link {
-            a: 2,
-            b: 3,
-            cost: 5,
-        },
-        Link {
-            a: 1,
-            b: 4,
-            cost: 2,
-        },
-        Link {
-            a: 2,
-            b: 4,
-            cost: 2,
-        },
-        Link {
-            a: 3,
-            b: 4,
-            cost: 2,
-        },
+        link(1, 2, 5),
+        link(2, 3, 5),
+        link(1, 4, 2),
+        link(2, 4, 2),
+        link(3, 4, 2),
     ];
     let needs = [
         (1, Need::Required),
@@ -99,47 +42,10 @@ fn finds_the_centre(rt: HostRuntime) -> Result<(), Fail> {
     Ok(())
 }
 
-// The same with sides 3: two of them cost as much as the centre.
+// Two sides of 3 cost as much as the way through the centre.
 #[test]
 fn ties_with_the_sides(rt: HostRuntime) -> Result<(), Fail> {
-    let links = [
-        Link {
-            a: 1,
-            b: 4,
-            cost: 2,
-        },
-        Link {
-            a: 2,
-            b: 4,
-            cost: 2,
-        },
-        Link {
-            a: 3,
-            b: 4,
-            cost: 2,
-        },
-        Link {
-            a: 1,
-            b: 2,
-            cost: 3,
-        },
-        Link {
-            a: 2,
-            b: 3,
-            cost: 3,
-        },
-        Link {
-            a: 1,
-            b: 3,
-            cost: 3,
-        },
-    ];
-    let needs = [
-        (1, Need::Required),
-        (2, Need::Required),
-        (3, Need::Required),
-    ];
-    let instance = Instance::build(rt.alloc(), 4, &links, &needs)?;
+    let instance = triangle_with_centre(rt.alloc(), 3)?;
     for (budget, dual, primal) in [(u64::MAX, 6, 6)] {
         let got = bounds(rt.alloc(), &instance, budget, &OpenGate)?;
         assert_eq!(rt; got, Some((dual, primal)), "with budget {budget}");
@@ -150,23 +56,7 @@ fn ties_with_the_sides(rt: HostRuntime) -> Result<(), Fail> {
 // Of three links between two required vertices the second is the cheapest.
 #[test]
 fn takes_the_cheapest_parallel_link(rt: HostRuntime) -> Result<(), Fail> {
-    let links = [
-        Link {
-            a: 1,
-            b: 2,
-            cost: 5,
-        },
-        Link {
-            a: 1,
-            b: 2,
-            cost: 3,
-        },
-        Link {
-            a: 2,
-            b: 1,
-            cost: 7,
-        },
-    ];
+    let links = [link(1, 2, 5), link(1, 2, 3), link(2, 1, 7)];
     let needs = [(1, Need::Required), (2, Need::Required)];
     let instance = Instance::build(rt.alloc(), 2, &links, &needs)?;
     for (budget, dual, primal) in [(0, 0, 3), (1, 3, 3)] {
@@ -182,51 +72,15 @@ fn takes_the_cheapest_parallel_link(rt: HostRuntime) -> Result<(), Fail> {
 #[test]
 fn crosses_an_odd_wheel(rt: HostRuntime) -> Result<(), Fail> {
     let links = [
-        Link {
-            a: 1,
-            b: 2,
-            cost: 2,
-        },
-        Link {
-            a: 1,
-            b: 3,
-            cost: 2,
-        },
-        Link {
-            a: 1,
-            b: 4,
-            cost: 2,
-        },
-        Link {
-            a: 5,
-            b: 2,
-            cost: 2,
-        },
-        Link {
-            a: 5,
-            b: 3,
-            cost: 2,
-        },
-        Link {
-            a: 6,
-            b: 3,
-            cost: 2,
-        },
-        Link {
-            a: 6,
-            b: 4,
-            cost: 2,
-        },
-        Link {
-            a: 7,
-            b: 2,
-            cost: 2,
-        },
-        Link {
-            a: 7,
-            b: 4,
-            cost: 2,
-        },
+        link(1, 2, 2),
+        link(1, 3, 2),
+        link(1, 4, 2),
+        link(5, 2, 2),
+        link(5, 3, 2),
+        link(6, 3, 2),
+        link(6, 4, 2),
+        link(7, 2, 2),
+        link(7, 4, 2),
     ];
     let needs = [
         (1, Need::Required),
@@ -252,18 +106,7 @@ fn crosses_an_odd_wheel(rt: HostRuntime) -> Result<(), Fail> {
 // prize outside weighs more than the tree that these lead to.
 #[test]
 fn leaves_the_least(rt: HostRuntime) -> Result<(), Fail> {
-    let links = [
-        Link {
-            a: 1,
-            b: 2,
-            cost: 4,
-        },
-        Link {
-            a: 2,
-            b: 3,
-            cost: 5,
-        },
-    ];
+    let links = [link(1, 2, 4), link(2, 3, 5)];
     let needs = [(1, Need::Pays(7)), (2, Need::Pays(9)), (3, Need::Pays(2))];
     let instance = Instance::build(rt.alloc(), 3, &links, &needs)?;
     for (budget, dual, primal) in [(0, 0, 11), (1, 0, 11), (2, 6, 6), (u64::MAX, 6, 6)] {
@@ -282,18 +125,7 @@ impl Gate for Still {
 
 #[test]
 fn passes_another_gate(rt: HostRuntime) -> Result<(), Fail> {
-    let links = [
-        Link {
-            a: 1,
-            b: 2,
-            cost: 3,
-        },
-        Link {
-            a: 2,
-            b: 3,
-            cost: 0,
-        },
-    ];
+    let links = [link(1, 2, 3), link(2, 3, 0)];
     let needs = [(1, Need::Required), (3, Need::Required)];
     let instance = Instance::build(rt.alloc(), 3, &links, &needs)?;
     assert_eq!(rt; bounds(rt.alloc(), &instance, 3, &Still)?, Some((3, 3)));

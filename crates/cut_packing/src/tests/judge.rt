@@ -1,28 +1,6 @@
 //! The definitions as a plain program over all vertices, apart from the calls that are tested.
-ghost use Rattle.std.specs.Prelude.{◌<◌};
-
 use crate::{Cut, Packing};
 use st_model::{Branch, Instance, Need};
-
-/// Numbers that look random, the same in each run.
-#[derive(Drop)]
-pub struct Dice {
-    pub state: u32,
-}
-
-impl Dice {
-    /// A number below a bound.
-    pub fn roll(&mut self, below: u32) -> u32
-        requires { 0 < below }
-        ensures { result < below }
-    {
-        self.state = self
-            .state
-            .wrapping_mul(1_664_525)
-            .wrapping_add(1_013_904_223);
-        (self.state >> 16) % below
-    }
-}
 
 fn holds(vertices: &[u32], vertex: u32) -> bool {
     vertices.contains(&vertex)

@@ -1,4 +1,4 @@
-ghost use Rattle.std.specs.Prelude.{◌≡◌, ◌<◌, ◌≤◌, IfOk};
+ghost use Rattle.std.specs.Prelude.{◌≤◌, IfOk};
 ghost use Rattle.dual_ascent.specs.Left.{AreEndsOf};
 
 use crate::{Ascent, ascend};
@@ -6,15 +6,10 @@ use bidirected_form::Arcs;
 use cut_packing::Packing;
 use graph_store::Store;
 use prize_transform::Twins;
-use st_model::{Branch, Instance, Link, Listed, Need};
+use st_model::{Branch, Instance, Listed, Need};
 use std::alloc::{AllocError, Global};
 use std::test::Fail;
-
-fn link(a: u32, b: u32, cost: u64) -> Link
-    ensures { result ≡ record { a = a; b = b; cost = cost } }
-{
-    Link { a, b, cost }
-}
+use test_instances::{pair, triangle_with_centre};
 
 // The arcs of an instance from vertex 1 on, and the ends, all whole.
 fn whole(alloc: Global, instance: &Instance) -> Result<(Arcs, Twins), AllocError>
@@ -61,29 +56,9 @@ fn weight(packing: &Packing) -> u64 {
     sum
 }
 
-// Three terminals joined to each other at 4, and to a centre at 2.
-fn triangle(alloc: Global) -> Result<Instance, AllocError>
-    ensures { IfOk result (λ instance. instance.n ≡ 4) }
-{
-    let links = [
-        link(1, 4, 2),
-        link(2, 4, 2),
-        link(3, 4, 2),
-        link(1, 2, 4),
-        link(2, 3, 4),
-        link(1, 3, 4),
-    ];
-    let needs = [
-        (1, Need::Required),
-        (2, Need::Required),
-        (3, Need::Required),
-    ];
-    Instance::build(alloc, 4, &links, &needs)
-}
-
 #[test]
 fn raises_the_triangle_to_its_optimum(rt: HostRuntime) -> Result<(), Fail> {
-    let instance = triangle(rt.alloc())?;
+    let instance = triangle_with_centre(rt.alloc(), 4)?;
     // Two cuts of 2 round the terminal that is first, and one of 2 round the other one.
     let orders: [&[u32]; 4] = [&[], &[3, 2], &[9, 3, 0, 3, 1, 4_000_000_000], &[4, 2]];
     for order in orders {
@@ -112,21 +87,12 @@ fn is_first(ascent: &Ascent, q: u32) -> bool {
 
 #[test]
 fn raises_first_what_is_named_first(rt: HostRuntime) -> Result<(), Fail> {
-    let instance = triangle(rt.alloc())?;
+    let instance = triangle_with_centre(rt.alloc(), 4)?;
     for (order, q) in [([2, 3], 2), ([3, 2], 3)] {
         let (ascent, _, _) = ascend_whole(rt.alloc(), &instance, &order, 1)?;
         assert!(rt; is_first(&ascent, q), "{q}");
     }
     Ok(())
-}
-
-// A root, and a vertex that may be left out for a prize, with a link of 5 between them.
-fn pair(alloc: Global, prize: u64) -> Result<Instance, AllocError>
-    requires { prize < 100 }
-    ensures { IfOk result (λ instance. instance.n ≡ 2) }
-{
-    let needs = [(1, Need::Required), (2, Need::Pays(prize))];
-    Instance::build(alloc, 2, &[link(1, 2, 5)], &needs)
 }
 
 #[test]
@@ -138,7 +104,7 @@ fn takes_no_more_than_the_prize(rt: HostRuntime) -> Result<(), Fail> {
         (5, (false, 5, 1), 0, 0),
         (7, (false, 5, 1), 0, 2),
     ] {
-        let instance = pair(rt.alloc(), prize)?;
+        let instance = pair(rt.alloc(), Need::Required, Need::Pays(prize))?;
         let (ascent, arcs, twins) = ascend_whole(rt.alloc(), &instance, &[], 100)?;
         assert_eq!(rt; outcome(&ascent), want, "for {prize}");
         assert_eq!(rt; arcs.remaining(1, 2), Some(arc), "for {prize}");

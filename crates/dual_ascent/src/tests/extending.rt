@@ -9,33 +9,10 @@ use bidirected_form::Arcs;
 use cut_packing::{Cut, Packing, fits, weight};
 use graph_store::Store;
 use prize_transform::Twins;
-use st_model::{Branch, Instance, Link, Listed, Need};
+use st_model::{Branch, Instance, Listed, Need};
 use std::alloc::{AllocError, Global};
 use std::test::Fail;
-
-fn link(a: u32, b: u32, cost: u64) -> Link
-    ensures { result ≡ record { a = a; b = b; cost = cost } }
-{
-    Link { a, b, cost }
-}
-
-// Three terminals joined to each other at 4, and to a centre at 2.
-fn triangle(alloc: Global) -> Result<Instance, AllocError> {
-    let links = [
-        link(1, 4, 2),
-        link(2, 4, 2),
-        link(3, 4, 2),
-        link(1, 2, 4),
-        link(2, 3, 4),
-        link(1, 3, 4),
-    ];
-    let needs = [
-        (1, Need::Required),
-        (2, Need::Required),
-        (3, Need::Required),
-    ];
-    Instance::build(alloc, 4, &links, &needs)
-}
+use test_instances::{link, triangle_with_centre};
 
 // Two terminals, 1 and 3, and between them a vertex that pays 3 where it is left out.
 fn path(alloc: Global) -> Result<Instance, AllocError> {
@@ -159,7 +136,8 @@ fn charged(
 fn charges_the_triangle(rt: HostRuntime) -> Result<(), Fail> {
     let alloc = rt.alloc();
     let cuts = vec![in alloc; cut(alloc, &[2], 2, 1)?, cut(alloc, &[2, 4], 2, 1)?]?;
-    let found = charged(alloc, &triangle(alloc)?, &packing(1, cuts), 1)?;
+    let instance = triangle_with_centre(alloc, 4)?;
+    let found = charged(alloc, &instance, &packing(1, cuts), 1)?;
     let (arcs, _) = found.ok_or("the packing doesn't fit")?;
     for (u, v, left) in [
         (1, 2, 2),
@@ -218,7 +196,7 @@ fn extended(
 fn extends_the_triangle(rt: HostRuntime) -> Result<(), Fail> {
     joined_is_full();
     let alloc = rt.alloc();
-    let instance = triangle(alloc)?;
+    let instance = triangle_with_centre(alloc, 4)?;
     for (target, full, weighs) in [(100, true, 6), (5, false, 6), (2, false, 3), (0, false, 1)] {
         let start = packing(1, vec![in alloc; cut(alloc, &[2], 2, 1)?]?);
         let found = extended(alloc, &instance, start, 1, target)?;

@@ -1,81 +1,8 @@
-ghost use Rattle.std.specs.Prelude.{◌≤◌};
-ghost use Rattle.st_model.specs.Network.{IsVertex, prize};
-
 use super::starting::{bit, bounds};
 use crate::OpenGate;
 use st_model::{Instance, Link, Need};
-use std::alloc::{AllocError, Global};
 use std::test::Fail;
-
-// Numbers that look random: a linear congruence modulo 2^64, its high bits.
-#[derive(Drop)]
-struct Draws {
-    state: u64,
-}
-
-impl Draws {
-    fn below_ten(&mut self) -> u64
-        ensures { result ≤ 9 }
-    {
-        self.state = self
-            .state
-            .wrapping_mul(6_364_136_223_846_793_005)
-            .wrapping_add(1_442_695_040_888_963_407);
-        (self.state >> 33) % 10
-    }
-
-    // A link of cost 0 to 9; one in five has equal ends, so it joins nothing.
-    fn link(&mut self, a: u32, b: u32) -> Link
-        requires a { IsVertex 6 a }
-        requires b { IsVertex 6 b }
-        ensures ends { IsVertex 6 result.a × IsVertex 6 result.b }
-        ensures cost { result.cost ≤ 9 }
-    {
-        let b = if self.below_ten() < 2 { a } else { b };
-        Link {
-            a,
-            b,
-            cost: self.below_ten(),
-        }
-    }
-
-    // Required in three of ten cases, else a prize of 0 to 9.
-    fn need(&mut self) -> Need
-        ensures { prize result ≤ 9 }
-    {
-        if self.below_ten() < 3 {
-            Need::Required
-        } else {
-            Need::Pays(self.below_ten())
-        }
-    }
-}
-
-// Six vertices with up to ten links.
-fn drawn(alloc: Global, seed: u64) -> Result<Instance, AllocError> {
-    let mut draws = Draws { state: seed };
-    let links = [
-        draws.link(1, 2),
-        draws.link(1, 3),
-        draws.link(1, 4),
-        draws.link(2, 3),
-        draws.link(2, 5),
-        draws.link(3, 4),
-        draws.link(3, 6),
-        draws.link(4, 5),
-        draws.link(4, 6),
-        draws.link(5, 6),
-    ];
-    let needs = [
-        (1, draws.need()),
-        (2, draws.need()),
-        (3, draws.need()),
-        (4, draws.need()),
-        (5, draws.need()),
-        (6, draws.need()),
-    ];
-    Instance::build(alloc, 6, &links, &needs)
-}
+use test_instances::Draws;
 
 // A cheapest link from the vertices that are reached to those that are missing.
 fn cheapest(instance: &Instance, reached: u32, missing: u32) -> Option<Link> {
@@ -145,7 +72,7 @@ fn least_over_sets(instance: &Instance) -> Option<u64> {
 #[test]
 fn agrees_with_all_subsets(rt: HostRuntime) -> Result<(), Fail> {
     for seed in 1..21u64 {
-        let instance = drawn(rt.alloc(), seed)?;
+        let instance = Draws { state: seed }.instance(rt.alloc())?;
         let want = least_over_sets(&instance);
         let got = bounds(rt.alloc(), &instance, u64::MAX, &OpenGate)?;
         assert_eq!(rt; got, want.map(|cost| (cost, cost)), "with seed {seed}");
