@@ -1,6 +1,6 @@
 -- What a search answers can be written.
 use Rattle.std.proofs.Common.{◌≡◌, ℕ, zero, suc, ◌+◌, ◌^◌, ◌<◌, ◌≤◌, Bool, true, false, cond, eqb, ◌||◌, List, [], ◌∷◌, Option, Some, None, length, take, take_all, refl, sym, ap, ◌∙◌, arith}
-use Rattle.std.specs.Prelude.{All, IsFalse, IfSome, MatchOption}
+use Rattle.std.specs.Prelude.{IsFalse, IfSome, MatchOption}
 use Rattle.std.specs.List.{AllByRecursion}
 use Rattle.std.proofs.lemmas.Bool.{both_ways, eqb-true}
 use Rattle.std.proofs.lemmas.List.Elements.{recursion_from_All, All-from_recursion, All-weaker}
