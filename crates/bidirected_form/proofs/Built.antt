@@ -260,10 +260,6 @@ pushed_all {X} P xs y d k long h last v within =
 pub rows_next : (P : ℕ → List Arc → Type 0) (es : List ℕ) (arcs row : List Arc) (k : ℕ) → IsLaidOut 0 es (length arcs) → length es ≡ k + 1 → ((v : ℕ) → v ≤ k → P v (row_of (rows_from 0 es arcs) v)) → P (k + 1) row → (v : ℕ) → v ≤ k + 1 → P v (row_of (rows_from 0 (es ++ length (arcs ++ row) ∷ []) (arcs ++ row)) v)
 rows_next P es arcs row k laid long h last = rw (rows_push 0 es arcs row laid) (pushed_all P (rows_from 0 es arcs) row [] k (length-rows_from 0 es arcs ∙ long) h last)
 
--- what vertex k + 1 is, by members of sets
-pub kind_is : (g : Graph) (B : Branch) (inside outside : List ℕ) (v : ℕ) → has inside v ≡ has B.inside v → has outside v ≡ has B.outside v → kind_by g (is_in g v && not (has outside v)) (has inside v) v ≡ kind_in g B v
-kind_is g B inside outside v e f = rw (e, f) refl
-
 -- all rows, also those past the end
 pub rows_all : (P : ℕ → List Arc → Type 0) (rows : List (List Arc)) (n k : ℕ) → length rows ≡ k + 1 → k ≡ n → ((v : ℕ) → v ≤ k → P v (row_of rows v)) → ((v : ℕ) → n < v → P v []) → (v : ℕ) → P v (row_of rows v)
 rows_all P rows n k long same h past v =

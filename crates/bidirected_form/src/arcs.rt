@@ -12,7 +12,7 @@ use crate::marks::{mark, unmark};
 use crate::rows::{Rows, find};
 use crate::{Arc, VertexKind};
 use graph_store::Store;
-use st_model::Branch;
+use st_model::Sides;
 use std::alloc::{AllocError, Global};
 use std::marker::Model;
 
@@ -45,7 +45,7 @@ impl Model for Arcs {
 impl Arcs {
     /// Both arcs of each link between vertices that are present in the store and not outside in
     /// the branch, at the link's cost. Linear but for the sorting of each vertex's neighbours.
-    pub fn of(alloc: Global, store: &Store, branch: &Branch, root: u32) -> Result<Arcs, AllocError>
+    pub fn of(alloc: Global, store: &Store, branch: &Sides, root: u32) -> Result<Arcs, AllocError>
         requires { IsVertex store.now.network.n root }
         ensures root { IfOk result (λ arcs. arcs.root ≡ root) }
         ensures count { IfOk result (λ arcs. arcs.n ≡ store.now.network.n) }
@@ -122,7 +122,8 @@ impl Arcs {
     /// Takes time linear in the set and its vertices' degrees, up to the sorting of what it gives.
     pub fn entering(&mut self, alloc: Global, set: &[u32]) -> Result<Vec<(u32, u32)>, AllocError>
         requires { IsVertexSet self.old.n set.now }
-        ensures arcs { IfOk result (λ arcs. (u v : ℕ) → Contains arcs.items (u, v) ↔ IsEntering self.old set.now (u, v)) }
+        ensures arcs { IfOk result (λ arcs. (u v : ℕ) →
+            Contains arcs.items (u, v) ↔ IsEntering self.old set.now (u, v)) }
         ensures ascending { IfOk result (λ arcs. AllPairs IsBefore arcs.items) }
         ensures same { self.new ≡ self.old }
     {

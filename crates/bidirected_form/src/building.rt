@@ -11,37 +11,31 @@ use crate::VertexKind;
 use crate::arc::Arc;
 use crate::rows::Rows;
 use graph_store::{Half, Store};
-use st_model::{Branch, Need, VertexSet};
+use st_model::{Need, Sides};
 use std::alloc::{AllocError, Global};
 
 // What vertex 0, 1, .. n is in a branch.
-pub fn kinds_of(
-    alloc: Global,
-    store: &Store,
-    branch: &Branch,
-) -> Result<Vec<VertexKind>, AllocError>
+pub fn kinds_of(alloc: Global, store: &Store, branch: &Sides) -> Result<Vec<VertexKind>, AllocError>
     ensures length { IfOk result (λ kinds. length kinds.items ≡ store.now.network.n + 1) }
-    ensures kinds { IfOk result (λ kinds. (v : ℕ) → slice_index_or kinds.items v VertexKind.Outside ≡ kind_in store.now branch.now v) }
+    ensures kinds { IfOk result (λ kinds. (v : ℕ) →
+        slice_index_or kinds.items v VertexKind.Outside ≡ kind_in store.now branch.now v) }
 {
-    let count = store.vertices() as usize + 1;
-    let inside = VertexSet::of(alloc, count, branch.inside.as_slice())?;
-    let outside = VertexSet::of(alloc, count, branch.outside.as_slice())?;
     let mut kinds = vec![in alloc; VertexKind::Outside]?;
     for before in 0..store.vertices() {
-        kinds.push(kind_at(store, &inside, &outside, before + 1))?;
+        kinds.push(kind_at(store, branch, before + 1))?;
     }
     Ok(kinds)
 }
 
 // What a vertex is in a branch.
-fn kind_at(store: &Store, inside: &VertexSet, outside: &VertexSet, vertex: u32) -> VertexKind
+fn kind_at(store: &Store, branch: &Sides, vertex: u32) -> VertexKind
     requires { IsVertex store.now.network.n vertex }
-    ensures { result ≡ kind_by store.now (is_in store.now vertex && not (has outside.now.members vertex)) (has inside.now.members vertex) vertex }
+    ensures { result ≡ kind_in store.now branch.now vertex }
 {
-    if !store.is_present(vertex) || outside.contains(vertex) {
+    if !store.is_present(vertex) || branch.is_outside(vertex) {
         return VertexKind::Outside;
     }
-    if inside.contains(vertex) {
+    if branch.is_inside(vertex) {
         return VertexKind::Must;
     }
     match store.need(vertex) {

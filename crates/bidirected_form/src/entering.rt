@@ -14,7 +14,8 @@ pub fn lower_entering(rows: &mut Rows, marks: &[bool], set: &[u32], by: u64)
     requires set { (n : ℕ) × IsVertexSet n set.now × (length rows.old ≡ n + 1) }
     requires enough { (v : ℕ) → IsTrue (has set.now v) → All (IsEnough marks.now by) (row_of rows.old v) }
     ensures length { length rows.new ≡ length rows.old }
-    ensures lowered { (v : ℕ) → row_of rows.new v ≡ (if has set.now v then map (lowered marks.now by) (row_of rows.old v) else row_of rows.old v) }
+    ensures lowered { (v : ℕ) → row_of rows.new v
+        ≡ (if has set.now v then map (lowered marks.now by) (row_of rows.old v) else row_of rows.old v) }
 {
     for vertex in set {
         rows.lower(*vertex, marks, by);
@@ -30,7 +31,9 @@ pub fn entering_arcs(
 ) -> Result<Vec<(u32, u32)>, AllocError>
     requires set { (n : ℕ) × IsVertexSet n set.now × (length rows.now ≡ n + 1) }
     requires ascending { (v : ℕ) → AllPairs (λ a b. a.tail < b.tail) (row_of rows.now v) }
-    ensures arcs { IfOk result (λ arcs. (u v : ℕ) → Contains arcs.items (u, v) ↔ (IsTrue (has set.now v) × IsFalse (slice_index_or marks.now u false) × IsSome (left_from (row_of rows.now v) u))) }
+    ensures arcs { IfOk result (λ arcs. (u v : ℕ) →
+        Contains arcs.items (u, v) ↔ (IsTrue (has set.now v) × IsFalse (slice_index_or marks.now u false) ×
+        IsSome (left_from (row_of rows.now v) u))) }
     ensures ascending { IfOk result (λ arcs. AllPairs IsBefore arcs.items) }
 {
     let mut found = Vec::new(alloc);

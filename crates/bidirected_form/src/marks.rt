@@ -5,7 +5,8 @@ ghost use Rattle.st_model.specs.Lists.{has};
 pub fn mark(marks: &mut Vec<bool>, set: &[u32])
     requires { All (λ v. v < length marks.old.items) set.now }
     ensures length { length marks.new.items ≡ length marks.old.items }
-    ensures marks { (v : ℕ) → slice_index_or marks.new.items v false ≡ (has set.now v || slice_index_or marks.old.items v false) }
+    ensures marks { (v : ℕ) → slice_index_or marks.new.items v false
+        ≡ (has set.now v || slice_index_or marks.old.items v false) }
 {
     for vertex in set {
         marks[*vertex as usize] = true;
@@ -16,7 +17,8 @@ pub fn mark(marks: &mut Vec<bool>, set: &[u32])
 pub fn unmark(marks: &mut Vec<bool>, set: &[u32])
     requires { All (λ v. v < length marks.old.items) set.now }
     ensures length { length marks.new.items ≡ length marks.old.items }
-    ensures marks { (v : ℕ) → slice_index_or marks.new.items v false ≡ (if has set.now v then false else slice_index_or marks.old.items v false) }
+    ensures marks { (v : ℕ) → slice_index_or marks.new.items v false
+        ≡ (if has set.now v then false else slice_index_or marks.old.items v false) }
 {
     for vertex in set {
         marks[*vertex as usize] = false;

@@ -94,7 +94,8 @@ fn lower_part(arcs: &mut Vec<Arc>, begin: usize, end: usize, marks: &[bool], by:
     requires rise { begin ≤ end }
     requires within { end ≤ length arcs.old.items }
     requires enough { All (IsEnough marks.now by) (slice_range arcs.old.items begin end) }
-    ensures { arcs.new.items ≡ take begin arcs.old.items ++ (map (lowered marks.now by) (slice_range arcs.old.items begin end) ++ drop end arcs.old.items) }
+    ensures { arcs.new.items ≡ take begin arcs.old.items ++ (map (lowered marks.now by)
+        (slice_range arcs.old.items begin end) ++ drop end arcs.old.items) }
 {
     lower_all(&mut arcs[begin..end], marks, by);
 }

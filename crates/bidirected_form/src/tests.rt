@@ -9,7 +9,7 @@ mod plain;
 
 use crate::{Arc, Arcs, VertexKind};
 use graph_store::Store;
-use st_model::{Branch, Listed};
+use st_model::{Branch, Listed, Sides};
 use std::alloc::{AllocError, Global};
 use std::test::Fail;
 use test_instances::triangle_with_centre;
@@ -25,11 +25,17 @@ fn triangle(alloc: Global, outside: &[u32]) -> Result<Arcs, AllocError>
 {
     let instance = triangle_with_centre(alloc, 4)?;
     let store = Store::of(alloc, &instance)?;
+    let sides = without(alloc, outside)?;
+    Arcs::of(alloc, &store, &sides, 1)
+}
+
+// The branch with these vertices outside.
+fn without(alloc: Global, outside: &[u32]) -> Result<Sides, AllocError> {
     let branch = Branch {
         inside: Listed::of(Vec::new(alloc)),
         outside: Listed::of(Vec::from_slice(alloc, outside)?),
     };
-    Arcs::of(alloc, &store, &branch, 1)
+    Sides::of(alloc, branch)
 }
 
 #[test]

@@ -10,7 +10,8 @@ use Rattle.log_format.specs.declared.kind.Kind.{Kind}
 use Rattle.log_format.specs.declared.log.Log as log_type
 use Rattle.log_format.specs.Accepts.{Rejects, AcceptedHolds}
 use Rattle.log_format.specs.Laws.{OneSpelling, RefusedExactly, RejectedExactly}
-use Rattle.log_format.specs.Text.{log_text, log_lines, ended}
+use Rattle.plain_text.specs.Lines.{ended}
+use Rattle.log_format.specs.Text.{log_text, log_lines}
 use Rattle.cert_checker.specs.declared.fault.CheckFault.{CheckFault}
 use Rattle.cert_checker.specs.declared.fault.CheckFault.TheVariants.{Stp, Log, NoMemory}
 use Rattle.cert_checker.specs.declared.fault.JudgeError.{JudgeError}

@@ -4,13 +4,14 @@ use Rattle.std.proofs.lemmas.List.{length-map}
 use Rattle.std.specs.List.{flat_map}
 use Rattle.st_model.specs.declared.branch.Branch.{Branch}
 use Rattle.st_model.specs.Network.{Network}
+use Rattle.st_model.specs.Branch.{all_trees}
 use Rattle.cut_packing.specs.declared.packing.Packing.{Packing}
 use Rattle.cut_packing.specs.Packing.{Fits, weight}
 use Rattle.log_format.specs.declared.kind.Kind.{Kind}
 use Rattle.log_format.specs.declared.kind.Kind.TheVariants.{TooLight}
 use Rattle.log_format.specs.declared.proof_line.ProofLine.{ProofLine}
 use Rattle.log_format.specs.declared.proof_line.ProofLine.TheVariants.{Split, Close}
-use Rattle.log_format.specs.Accepts.{all_trees, ProvesAll, IsFirstWrong}
+use Rattle.log_format.specs.Accepts.{ProvesAll, IsFirstWrong}
 use Rattle.log_format.specs.Preorder.{are_proofs, IsOneProof}
 use Rattle.log_format.specs.Text.{lines_of, cut_line}
 use Rattle.log_format.proofs.Preorders.{one_passes}
@@ -27,7 +28,7 @@ use Rattle.cert_checker.proofs.Paths.{opened, waiting-next_path}
 abbrev pub count_of : List ProofLine → ℕ
 count_of lines = length (flat_map lines_of lines)
 
--- a line, and those behind it
+-- a line, and those after it
 pub count_of-cons : (line : ProofLine) (lines : List ProofLine) → count_of (line ∷ lines) ≡ length (lines_of line) + count_of lines
 count_of-cons line lines = length-append (lines_of line) (flat_map lines_of lines)
 
@@ -49,7 +50,7 @@ at_start I x first lines one = record {
   room = refl;
 }
 
--- the splits of the path behind a half that is done with
+-- the splits of the path after a half that is done with
 splits-next_path : (I : Network) (path next : List Turn) → next_path path ≡ Some next → AreSplits I path → AreSplits I next
 splits-next_path I [] next e splits = absurd cc
 splits-next_path I (Inside v ∷ path) next e splits = let same : Outside v ∷ path ≡ next = cc in subst (AreSplits I) same splits
@@ -82,7 +83,7 @@ one_less I x first lines path next number (Close P) rest is_right e left =
       room = omega (arith, count_of-cons (Close P) rest, left.room);
     }
 
--- nothing is left behind the last close
+-- nothing is left after the last close
 pub none_left : (I : Network) (x first : ℕ) (lines : List ProofLine) (path : List Turn) (number : ℕ) (line : ProofLine) (rest : List ProofLine) → IsRightLine I x (branch_of path) line → path_after path line ≡ None
     → IsLeft I x first lines path number (line ∷ rest) → ProvesAll I x lines
 none_left I x first lines path number (Split v) rest is_right e left = absurd cc
@@ -107,7 +108,7 @@ first_wrong I x first lines path number (Close P) rest l k (inl bad) left = left
 first_wrong I x first lines path number (Close P) rest l k (inr (fits, inl light)) left = left.wrong l k (inr (fits, inl light))
 first_wrong I x first lines path number (Close P) rest l k (inr (fits, inr good)) left = absurd good.1
 
--- the line at a place, and those behind it
+-- the line at a place, and those after it
 at_place : (lines : List ProofLine) (i : ℕ) (line : ProofLine) → i < length lines → line ≡ get_or lines i line → drop i lines ≡ line ∷ drop (i + 1) lines
 at_place lines i line below is = rw (add-one) (drop-cons lines i line below ∙ ap (λ (first : ProofLine). first ∷ drop (suc i) lines) (sym is))
 

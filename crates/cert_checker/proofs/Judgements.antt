@@ -5,12 +5,13 @@ use Rattle.std.proofs.lemmas.Bool.{eqb-true}
 use Rattle.st_model.specs.declared.tree.Tree.{Tree}
 use Rattle.st_model.specs.Network.{Network}
 use Rattle.st_model.specs.Arborescence.{IsBound}
+use Rattle.st_model.specs.Branch.{all_trees}
 use Rattle.log_format.specs.declared.kind.Kind.{Kind}
 use Rattle.log_format.specs.declared.log.Log.{Log}
 use Rattle.log_format.specs.declared.log.Claim.{Claim}
 use Rattle.log_format.specs.declared.log.Claim.TheVariants as claim
 use Rattle.log_format.specs.declared.proof_line.ProofLine.{ProofLine}
-use Rattle.log_format.specs.Accepts.{all_trees, Accepts, Rejects, RejectsClaim, AcceptedHolds, Holds, IsFirstWrong, proof_line}
+use Rattle.log_format.specs.Accepts.{Accepts, Rejects, RejectsClaim, AcceptedHolds, Holds, IsFirstWrong, proof_line}
 use Rattle.log_format.specs.Laws.{RejectedExactly}
 use Rattle.cert_checker.specs.declared.fault.JudgeError.{JudgeError}
 use Rattle.cert_checker.specs.declared.fault.JudgeError.TheVariants.{Fault, NoMemory}

@@ -4,11 +4,10 @@ use Rattle.std.specs.List.{prefix_len}
 use Rattle.std.specs.List.Sorted.{IsNonDecreasing}
 use Rattle.st_model.specs.declared.branch.Branch.{Branch}
 use Rattle.st_model.specs.Network.{Network}
-use Rattle.st_model.specs.Branch.{with_inside, with_outside}
+use Rattle.st_model.specs.Branch.{with_inside, with_outside, all_trees}
 use Rattle.cut_packing.specs.ProofTree.{IsSplit}
 use Rattle.log_format.specs.declared.proof_line.ProofLine.{ProofLine}
 use Rattle.log_format.specs.declared.proof_line.ProofLine.TheVariants.{Split, Close}
-use Rattle.log_format.specs.Accepts.{all_trees}
 use Rattle.cert_checker.specs.declared.turn.Turn.{Turn}
 use Rattle.cert_checker.specs.declared.turn.Turn.TheVariants.{Inside, Outside}
 
@@ -67,7 +66,7 @@ abbrev pub turned_back : Branch → Turn → Branch
 turned_back B (Inside v) = record { inside = without B.inside v; outside = B.outside }
 turned_back B (Outside v) = record { inside = B.inside; outside = without B.outside v }
 
--- the path to the first branch that is open behind a right line, if one is
+-- the path to the first branch that is open after a right line, if one is
 abbrev pub path_after : List Turn → ProofLine → Option (List Turn)
 path_after path (Split v) = Some (Inside v ∷ path)
 path_after path (Close P) = next_path path

@@ -1,6 +1,7 @@
 ghost use Rattle.std.specs.Prelude.{◌≡◌, ◌↔◌, ◌∷◌, length, IsTrue, IfOk, OnOk, IfErr};
 ghost use Rattle.std.specs.List.Sorted.{IsNonDecreasing};
 ghost use Rattle.st_model.specs.Lists.{has};
+ghost use Rattle.cut_packing.specs.Packing.{Fits};
 ghost use Rattle.cut_packing.specs.ProofTree.{IsSplit, Closes};
 ghost use Rattle.log_format.specs.Text.{lines_of};
 ghost use Rattle.cert_checker.specs.Path.{IsInOrder, branch_of, next_path, path_after, AreSplits};
@@ -11,8 +12,8 @@ use crate::path::Path;
 use crate::turn::Turn;
 use cut_packing::{Packing, fits, weight};
 use log_format::{Kind, ProofLine};
-use st_model::{Branch, Instance, Need};
-use std::alloc::Global;
+use st_model::{Branch, Instance, Need, Sides};
+use std::alloc::{AllocError, Global};
 
 // How many lines of the text a line of a proof takes.
 pub fn line_count(line: &ProofLine) -> u64
@@ -104,11 +105,24 @@ fn judge_close(
     ensures wrong { IfErr result (λ e. IfFault e
         (IsWrongLine instance.now dual (branch_of path) number (ProofLine.Close packing.now))) }
 {
-    if !fits(alloc, instance, path.branch(), packing)? {
+    if !fits_branch(alloc, instance, path.branch(), packing)? {
         return Err(JudgeError::at(number, Kind::BadPacking));
     }
     if weight(instance, path.branch(), packing) < u128::from(dual) {
         return Err(JudgeError::at(number, Kind::TooLight));
     }
     Ok(path.close()?)
+}
+
+// Whether a packing fits a branch.
+fn fits_branch(
+    alloc: Global,
+    instance: &Instance,
+    branch: &Branch,
+    packing: &Packing,
+) -> Result<bool, AllocError>
+    ensures { IfOk result (λ yes. IsTrue yes ↔ Fits instance.now branch.now packing.now) }
+{
+    let sides = Sides::of(alloc, branch.copied(alloc)?)?;
+    fits(alloc, instance, &sides, packing)
 }

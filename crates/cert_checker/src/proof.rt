@@ -1,6 +1,7 @@
 ghost use Rattle.std.specs.Prelude.{◌+◌, ◌^◌, ◌<◌, length, [], ◌∷◌, OnOk, IfErr};
 ghost use Rattle.std.specs.List.{flat_map};
-ghost use Rattle.log_format.specs.Accepts.{all_trees, ProvesAll, IsFirstWrong};
+ghost use Rattle.st_model.specs.Branch.{all_trees};
+ghost use Rattle.log_format.specs.Accepts.{ProvesAll, IsFirstWrong};
 ghost use Rattle.log_format.specs.Preorder.{IsOneProof};
 ghost use Rattle.log_format.specs.Text.{lines_of};
 ghost use Rattle.cert_checker.specs.Judging.{IfFault};

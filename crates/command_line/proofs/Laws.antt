@@ -66,7 +66,7 @@ pub refused_words : (app : App) (words : List Text) (e : Error) → app ≡ prog
 refused_words app words e same kinds other =
     some_fault (fault_of program words) e (subst (λ a. HasKind (fault_of a words) e) same (kinds (subst (λ a. is_simple_and_free a ≡ true) (sym same) program_is_free))) other
 
--- what stands behind an error
+-- what stands after an error
 pub fault_is : (T : Type 0) (fault other : WordFault) → IsErrOf {T = T} (Err fault) other → fault ≡ other
 fault_is T fault other h = cc
 

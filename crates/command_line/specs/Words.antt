@@ -1,19 +1,20 @@
--- The words of the command line, behind the program's name, and the command that they mean.
+-- The words of the command line, after the program's name, and the command that they mean.
 use Rattle.std.specs.Prelude.{ℕ, Bool, true, false, ◌==◌, List, [], ◌∷◌, codes, Option, Some, None, if◌then◌else◌}
 use Rattle.std.specs.Str.{bytes_eq}
 use Rattle.clap.specs.Walk.{Row, Rule, Text, first_of, is_empty}
 use Rattle.clap.specs.Simple.{App, new_app, new_rule, on_top, subcommand_of, with_rule, with_subcommand}
 use Rattle.clap.specs.Faults.{fault_of}
 use Rattle.clap.specs.declared.builder.action.ArgAction.TheVariants.{SetTrue}
-use Rattle.decimals.specs.Numbers.{◌>>=◌, number}
+use Rattle.plain_text.specs.Numbers.{number}
+use Rattle.plain_text.specs.Steps.{◌>>=◌}
 
--- ---- what may stand behind the program's name, for clap
+-- ---- what may stand after the program's name, for clap
 
 -- a word that has to stand in its place
 abbrev pub place : Text → Rule
 place id = record (new_rule id) { required = true }
 
--- an option with a value behind it, at most once
+-- an option with a value after it, at most once
 abbrev pub option : Text → Rule
 option name = record (new_rule name) { long = Some name }
 
@@ -77,7 +78,7 @@ abbrev pub is_set : Option Text → Bool
 is_set None = false
 is_set (Some text) = bytes_eq text (codes "true")
 
--- what the words behind `solve` mean
+-- what the words after `solve` mean
 unfoldable pub solve_of : List Row → Option SolveWords
 solve_of rows = do
   file ← name_of (first_of (codes "FILE") rows)
@@ -86,7 +87,7 @@ solve_of rows = do
   log ← optional_name_of (first_of (codes "log") rows)
   Some (record { file = file; workers = workers; nodes = nodes; log_name = log; plain = is_set (first_of (codes "plain") rows) })
 
--- what the words behind `check` mean
+-- what the words after `check` mean
 unfoldable pub check_of : List Row → Option CheckWords
 check_of rows = do
   file ← name_of (first_of (codes "FILE") rows)

@@ -1,6 +1,6 @@
 //! The words of the command line.
 //!
-//! `read_words` gives the command that the words behind the program's name mean, and refuses them
+//! `read_words` gives the command that the words after the program's name mean, and refuses them
 //! exactly where they mean none: the crate `clap` takes them for the program of the definition
 //! `program`, names begin with no hyphen, and numbers are decimal digits within their limits.
 //! Whatever else clap would answer, as a help text, is a refusal.

@@ -6,7 +6,7 @@ ghost use Rattle.command_line.specs.Words.{solve_of, check_of, name_of, optional
 
 use crate::{CheckWords, SolveWords};
 use clap::ArgMatches;
-use decimals::number;
+use plain_text::number;
 
 const MAX_WORKERS: u64 = 64;
 
@@ -72,7 +72,7 @@ fn word<'a>(matches: &ArgMatches<'a>, id: &str) -> Option<&'a str>
     matches.get_str(id)
 }
 
-// What the words behind `solve` mean.
+// What the words after `solve` mean.
 #[tactic(auto, unfolding(crate::specs::Words::solve_of))]
 pub fn solve_words<'a>(matches: &ArgMatches<'a>) -> Option<SolveWords<'a>>
     ensures { option_map solve_words result ≡ solve_of (rows_of (found_of matches.now)) }
@@ -90,7 +90,7 @@ pub fn solve_words<'a>(matches: &ArgMatches<'a>) -> Option<SolveWords<'a>>
     })
 }
 
-// What the words behind `check` mean.
+// What the words after `check` mean.
 #[tactic(auto, unfolding(crate::specs::Words::check_of))]
 pub fn check_words<'a>(matches: &ArgMatches<'a>) -> Option<CheckWords<'a>>
     ensures { option_map check_words result ≡ check_of (rows_of (found_of matches.now)) }

@@ -32,7 +32,7 @@ impl From<AllocError> for WordFault {
     }
 }
 
-/// The command that the words behind the program's name mean.
+/// The command that the words after the program's name mean.
 pub fn read_words<'a>(alloc: Global, words: &'a [String]) -> Result<Cmd<'a>, WordFault>
     ensures found { IfOk result (λ cmd. command_of (map string_bytes words.now) ≡ Some (command cmd)) }
     ensures usage { IsErrOf result WordFault.Usage → command_of (map string_bytes words.now) ≡ None }

@@ -16,25 +16,6 @@ use Rattle.cut_packing.specs.Loads.{arcs_into, IsLoaded, AreLoaded}
 use Rattle.st_model.proofs.Costs.{total_more}
 use Rattle.cut_packing.proofs.Duality.{named_vertex}
 
--- a branch with the same vertices outside, as far as there are vertices
-module _ (I : Network) (B : Branch) (outside : List ℕ) (same : (v : ℕ) → v < I.n + 1 → has outside v ≡ has B.outside v) where
-  pub CutFits-same : (c : Cut) → CutFits I (record { inside = []; outside = outside }) c → CutFits I B c
-  CutFits-same c fits = record {
-    in_range = fits.in_range;
-    member = fits.member;
-    present = rw (← same c.q (omega (arith, (named_vertex I (record { inside = []; outside = outside }) c fits).1))) fits.present;
-  }
-
-  pub CutFits-back : (c : Cut) → CutFits I B c → CutFits I (record { inside = []; outside = outside }) c
-  CutFits-back c fits = record {
-    in_range = fits.in_range;
-    member = fits.member;
-    present = rw (same c.q (omega (arith, (named_vertex I B c fits).1))) fits.present;
-  }
-
-  pub cuts_fit_same : (cuts : List Cut) → All (CutFits I (record { inside = []; outside = outside })) cuts ↔ All (CutFits I B) cuts
-  cuts_fit_same cuts = (All-weaker _ _ CutFits-same cuts, All-weaker _ _ CutFits-back cuts)
-
 -- an arc from u has its load below its cost where each has
 bears_from : (I : Network) (B : Branch) (cuts : List Cut) (u v : ℕ) (price : ℕ) (arcs : List LoadedArc) → All (IsLoaded I B cuts v) arcs → All (λ arc. arc.load ≤ arc.cost) arcs → IsTrue (list_any (λ arc. arc.tail == u) arcs) → link I.links u v ≡ Some price → load cuts (u, v) ≤ price
 bears_from I B cuts u v price [] loaded bears there cost = absurd (false≢true there)

@@ -218,7 +218,7 @@ load_bound cuts i c arc below is small before =
     step false h = omega arith
 
 -- the links of an instance, one after another
-module _ (I : Network) (B : Branch) (instance : IsInstance I) (outside : List ℕ) (same : (v : ℕ) → v < I.n + 1 → has outside v ≡ has B.outside v) (i : ℕ) (d : Link) (below : i < length I.links) where
+module _ (I : Network) (B : Branch) (instance : IsInstance I) (i : ℕ) (d : Link) (below : i < length I.links) where
   own : Link
   own = get_or I.links i d
 
@@ -226,18 +226,15 @@ module _ (I : Network) (B : Branch) (instance : IsInstance I) (outside : List �
   unfolding own
   ends = instance.ends i d below
 
-  presence : (not (has outside own.a) && not (has outside own.b)) ≡ (is_present B own.a && is_present B own.b)
-  presence = rw (same own.a (omega (arith, ends.ordered, ends.high)), same own.b (omega (arith, ends.high))) refl
-
   -- a link with an end outside
-  pub link_skipped : (arcs : List (List LoadedArc)) → IsFalse (not (has outside (get_or I.links i d).a) && not (has outside (get_or I.links i d).b)) → AreLoaded I B (take i I.links) [] arcs → AreLoaded I B (take (i + 1) I.links) [] arcs
+  pub link_skipped : (arcs : List (List LoadedArc)) → IsFalse (is_present B (get_or I.links i d).a && is_present B (get_or I.links i d).b) → AreLoaded I B (take i I.links) [] arcs → AreLoaded I B (take (i + 1) I.links) [] arcs
   unfolding own
-  link_skipped arcs gone h = rw (take_more I.links i d below) (AreLoaded-skip I B (take i I.links) [] arcs (get_or I.links i d) (sym presence ∙ gone) h)
+  link_skipped arcs gone h = rw (take_more I.links i d below) (AreLoaded-skip I B (take i I.links) [] arcs (get_or I.links i d) gone h)
 
   -- a link between present vertices
-  pub link_added : (arcs : List (List LoadedArc)) → IsTrue (not (has outside (get_or I.links i d).a) && not (has outside (get_or I.links i d).b)) → AreLoaded I B (take i I.links) [] arcs → AreLoaded I B (take (i + 1) I.links) [] (with_arc (with_arc arcs (get_or I.links i d).b (free_arc (get_or I.links i d).a (get_or I.links i d).cost)) (get_or I.links i d).a (free_arc (get_or I.links i d).b (get_or I.links i d).cost))
+  pub link_added : (arcs : List (List LoadedArc)) → IsTrue (is_present B (get_or I.links i d).a && is_present B (get_or I.links i d).b) → AreLoaded I B (take i I.links) [] arcs → AreLoaded I B (take (i + 1) I.links) [] (with_arc (with_arc arcs (get_or I.links i d).b (free_arc (get_or I.links i d).a (get_or I.links i d).cost)) (get_or I.links i d).a (free_arc (get_or I.links i d).b (get_or I.links i d).cost))
   unfolding own
-  link_added arcs here h = rw (take_more I.links i d below) (AreLoaded-link I B (take i I.links) arcs (get_or I.links i d) (sym presence ∙ here) ends (link_at I.links i d instance.one_each below) h)
+  link_added arcs here h = rw (take_more I.links i d below) (AreLoaded-link I B (take i I.links) arcs (get_or I.links i d) here ends (link_at I.links i d instance.one_each below) h)
 
 -- the members of a set, one after another
 module _ (members : List ℕ) (apart : AllApart members) (y : ℕ) (before now : List (List LoadedArc)) (i : ℕ) (below : i < length members) (is : (v : ℕ) → arcs_into now v ≡ (if has (take i members) v then map (laid members y) (arcs_into before v) else arcs_into before v)) where

@@ -4,7 +4,7 @@ use Rattle.std.specs.List.{list_any}
 use Rattle.st_model.specs.declared.branch.Branch.{Branch}
 use Rattle.st_model.specs.Lists.{has}
 use Rattle.st_model.specs.Network.{Network}
-use Rattle.vertex_lists.specs.Led.{heads_at}
+use Rattle.st_model.specs.Led.{heads_at}
 use Rattle.cut_packing.specs.declared.arcs.LoadedArc.{LoadedArc}
 use Rattle.cut_packing.specs.declared.packing.Packing.{Packing}
 use Rattle.cut_packing.specs.Full.{IsUsedUp}

@@ -1,8 +1,7 @@
 ghost use Rattle.std.specs.Prelude.{◌≡◌, ◌+◌, ◌<◌, ◌≤◌, ◌↔◌, ◌^◌, IsTrue, [], length, map, All, slice_set};
 ghost use Rattle.cut_packing.specs.Loads.{arcs_into, laid};
 
-use st_model::VertexSet;
-use vertex_lists::Lists;
+use st_model::{VertexLists, VertexSet};
 
 /// An arc into some vertex: its tail, the cost of its link, and the value of the cuts it enters.
 #[derive(Clone, Copy, Debug)]
@@ -13,10 +12,10 @@ pub struct LoadedArc {
 }
 
 /// The arcs into each vertex below a count.
-pub type Arcs = Lists<LoadedArc>;
+pub type LoadedArcs = VertexLists<LoadedArc>;
 
 /// Whether each arc bears at most its link's cost.
-pub fn can_bear(arcs: &Arcs) -> bool
+pub fn can_bear(arcs: &LoadedArcs) -> bool
     ensures { IsTrue result ↔ All (All (λ arc. arc.load ≤ arc.cost)) arcs.now }
 {
     lists_can_bear(arcs.lists())
@@ -37,7 +36,7 @@ fn list_can_bear(arcs: &[LoadedArc]) -> bool
 }
 
 /// Lays a value on the arcs into a vertex from outside a set.
-pub fn lay_into(arcs: &mut Arcs, head: u32, set: &VertexSet, value: u64)
+pub fn lay_into(arcs: &mut LoadedArcs, head: u32, set: &VertexSet, value: u64)
     requires head { head < length arcs.old }
     requires room { All (λ arc. arc.load + value < 2 ^ 128) (arcs_into arcs.old head) }
     ensures { arcs.new ≡ slice_set arcs.old head

@@ -1,6 +1,5 @@
-ghost use Rattle.std.specs.Prelude.{◌≡◌, ℕ, ◌+◌, ◌≤◌, ◌<◌, ◌↔◌, [], All, IsTrue, IfOk};
+ghost use Rattle.std.specs.Prelude.{◌≡◌, ℕ, ◌+◌, ◌≤◌, ◌<◌, ◌↔◌, All, IsTrue, IfOk};
 ghost use Rattle.std.specs.List.{list_all};
-ghost use Rattle.st_model.specs.Branch.{is_certain};
 ghost use Rattle.st_model.specs.Lists.{has};
 ghost use Rattle.st_model.specs.Network.{IsVertex};
 ghost use Rattle.cut_packing.specs.Packing.{IsRoot, RootFits, CutFits, ArcsFit, PrizesFit, Fits};
@@ -9,7 +8,7 @@ use crate::arcs::can_bear;
 use crate::loads::loads;
 use crate::named::named_values;
 use crate::{Cut, Packing};
-use st_model::{Branch, Instance, Need, VertexSet};
+use st_model::{Instance, Sides};
 use std::alloc::{AllocError, Global};
 
 /// Whether a packing fits a branch: its root, each of its cuts, the arcs and the prizes. Takes time
@@ -17,7 +16,7 @@ use std::alloc::{AllocError, Global};
 pub fn fits(
     alloc: Global,
     instance: &Instance,
-    branch: &Branch,
+    branch: &Sides,
     packing: &Packing,
 ) -> Result<bool, AllocError>
     ensures { IfOk result (λ yes. IsTrue yes ↔ Fits instance.now branch.now packing.now) }
@@ -25,7 +24,7 @@ pub fn fits(
     if !root_fits(instance, branch, packing) {
         return Ok(false);
     }
-    if !cuts_fit(alloc, instance, branch, packing)? {
+    if !cuts_fit(instance, branch, packing.cuts.as_slice()) {
         return Ok(false);
     }
     if !arcs_fit(alloc, instance, branch, packing)? {
@@ -35,7 +34,7 @@ pub fn fits(
 }
 
 // Whether the root fits.
-fn root_fits(instance: &Instance, branch: &Branch, packing: &Packing) -> bool
+fn root_fits(instance: &Instance, branch: &Sides, packing: &Packing) -> bool
     ensures { IsTrue result ↔ RootFits instance.now branch.now packing.now }
 {
     match packing.root {
@@ -45,27 +44,16 @@ fn root_fits(instance: &Instance, branch: &Branch, packing: &Packing) -> bool
 }
 
 // Whether a vertex can be the root of some cuts.
-fn is_root(instance: &Instance, branch: &Branch, cuts: &[Cut], root: u32) -> bool
+fn is_root(instance: &Instance, branch: &Sides, cuts: &[Cut], root: u32) -> bool
     ensures { IsTrue result ↔ IsRoot instance.now branch.now cuts.now root }
 {
     if root < 1 || instance.vertices() < root {
         return false;
     }
-    if !is_certain(instance, branch, root) {
+    if !branch.is_certain(instance, root) {
         return false;
     }
     cuts.iter().all(|cut| !holds(cut.set.as_slice(), root))
-}
-
-// Whether every tree of the branch reaches a vertex.
-fn is_certain(instance: &Instance, branch: &Branch, vertex: u32) -> bool
-    requires { IsVertex instance.now.n vertex }
-    ensures { result ≡ is_certain instance.now branch.now vertex }
-{
-    match instance.need(vertex) {
-        Need::Required => true,
-        Need::Pays(_) => holds(branch.inside.as_slice(), vertex),
-    }
 }
 
 // Whether a list has a vertex.
@@ -76,32 +64,15 @@ fn holds(vertices: &[u32], vertex: u32) -> bool
 }
 
 // Whether each cut fits.
-fn cuts_fit(
-    alloc: Global,
-    instance: &Instance,
-    branch: &Branch,
-    packing: &Packing,
-) -> Result<bool, AllocError>
-    ensures { IfOk result
-        (λ yes. IsTrue yes ↔ All (CutFits instance.now branch.now) packing.now.cuts) }
+fn cuts_fit(instance: &Instance, branch: &Sides, cuts: &[Cut]) -> bool
+    ensures { IsTrue result ↔ All (CutFits instance.now branch.now) cuts.now }
 {
-    let count = instance.vertices() as usize + 1;
-    let outside = VertexSet::of(alloc, count, branch.outside.as_slice())?;
-    Ok(cuts_fit_apart(instance, &outside, packing.cuts.as_slice()))
+    cuts.iter().all(|cut| cut_fits(instance, branch, cut))
 }
 
-// Whether each cut fits a branch with these vertices outside.
-fn cuts_fit_apart(instance: &Instance, outside: &VertexSet, cuts: &[Cut]) -> bool
-    ensures { IsTrue result ↔ All
-        (CutFits instance.now (record { inside = []; outside = outside.now.members })) cuts.now }
-{
-    cuts.iter().all(|cut| cut_fits(instance, outside, cut))
-}
-
-// Whether a cut fits a branch with these vertices outside.
-fn cut_fits(instance: &Instance, outside: &VertexSet, cut: &Cut) -> bool
-    ensures { IsTrue result ↔
-        CutFits instance.now (record { inside = []; outside = outside.now.members }) cut.now }
+// Whether a cut fits.
+fn cut_fits(instance: &Instance, branch: &Sides, cut: &Cut) -> bool
+    ensures { IsTrue result ↔ CutFits instance.now branch.now cut.now }
 {
     if !are_vertices(instance.vertices(), cut.set.as_slice()) {
         return false;
@@ -109,7 +80,7 @@ fn cut_fits(instance: &Instance, outside: &VertexSet, cut: &Cut) -> bool
     if !holds(cut.set.as_slice(), cut.q) {
         return false;
     }
-    !outside.contains(cut.q)
+    !branch.is_outside(cut.q)
 }
 
 // Whether all are vertices of an instance of n.
@@ -123,7 +94,7 @@ fn are_vertices(n: u32, vertices: &[u32]) -> bool
 fn arcs_fit(
     alloc: Global,
     instance: &Instance,
-    branch: &Branch,
+    branch: &Sides,
     packing: &Packing,
 ) -> Result<bool, AllocError>
     ensures { IfOk result
@@ -137,7 +108,7 @@ fn arcs_fit(
 fn prizes_fit(
     alloc: Global,
     instance: &Instance,
-    branch: &Branch,
+    branch: &Sides,
     packing: &Packing,
 ) -> Result<bool, AllocError>
     ensures { IfOk result
@@ -145,14 +116,12 @@ fn prizes_fit(
 {
     let vertices = instance.vertices();
     let count = vertices as usize + 1;
-    let inside = VertexSet::of(alloc, count, branch.inside.as_slice())?;
     let values = named_values(alloc, count, packing.cuts.as_slice())?;
     for before in 0..vertices {
         let vertex = before + 1;
-        if let Need::Pays(prize) = instance.need(vertex) {
-            if !inside.contains(vertex) && values[vertex as usize] > u128::from(prize) {
-                return Ok(false);
-            }
+        let prize = u128::from(instance.prize(vertex));
+        if !branch.is_certain(instance, vertex) && values[vertex as usize] > prize {
+            return Ok(false);
         }
     }
     Ok(true)

@@ -1,14 +1,14 @@
-ghost use Rattle.std.specs.Prelude.{◌≡◌, ℕ, ◌↔◌, not, nat_lt, ◌&&◌, ◌||◌, IsTrue, IfOk};
+ghost use Rattle.std.specs.Prelude.{◌≡◌, ℕ, ◌↔◌, nat_lt, ◌&&◌, ◌||◌, IsTrue, IfOk};
 ghost use Rattle.st_model.specs.Lists.{has};
-ghost use Rattle.st_model.specs.Network.{IsVertex, is_needed, prize};
+ghost use Rattle.st_model.specs.Branch.{is_certain, is_undecided};
+ghost use Rattle.st_model.specs.Network.{IsVertex, pays};
 ghost use Rattle.cut_packing.specs.Full.{is_open, IsReached, IsFullFrom, IsFull};
 
 use crate::Packing;
 use crate::named::named_values;
 use crate::used_up::used_up;
-use st_model::{Branch, Instance, Need, VertexSet};
+use st_model::{Instance, Sides, VertexSet, walk};
 use std::alloc::{AllocError, Global};
-use vertex_lists::walk;
 
 /// Whether a packing is full in a branch: from its root, arcs whose whole cost the cuts take lead
 /// to every vertex that is required or inside, and to every undecided one that the cuts that name
@@ -16,7 +16,7 @@ use vertex_lists::walk;
 pub fn is_full(
     alloc: Global,
     instance: &Instance,
-    branch: &Branch,
+    branch: &Sides,
     packing: &Packing,
 ) -> Result<bool, AllocError>
     ensures { IfOk result (λ yes. IsTrue yes ↔ IsFull instance.now branch.now packing.now) }
@@ -31,7 +31,7 @@ pub fn is_full(
 fn is_full_from(
     alloc: Global,
     instance: &Instance,
-    branch: &Branch,
+    branch: &Sides,
     packing: &Packing,
     root: u32,
 ) -> Result<bool, AllocError>
@@ -46,7 +46,7 @@ fn is_full_from(
 fn reached(
     alloc: Global,
     instance: &Instance,
-    branch: &Branch,
+    branch: &Sides,
     packing: &Packing,
     root: u32,
 ) -> Result<VertexSet, AllocError>
@@ -65,7 +65,7 @@ fn reached(
 fn has_all(
     alloc: Global,
     instance: &Instance,
-    branch: &Branch,
+    branch: &Sides,
     packing: &Packing,
     reached: &VertexSet,
 ) -> Result<bool, AllocError>
@@ -75,31 +75,26 @@ fn has_all(
 {
     let vertices = instance.vertices();
     let count = vertices as usize + 1;
-    let inside = VertexSet::of(alloc, count, branch.inside.as_slice())?;
-    let outside = VertexSet::of(alloc, count, branch.outside.as_slice())?;
     let values = named_values(alloc, count, packing.cuts.as_slice())?;
     for before in 0..vertices {
         let vertex = before + 1;
-        let is_open = is_open(
-            instance.need(vertex),
-            inside.contains(vertex),
-            outside.contains(vertex),
-            values[vertex as usize],
-        );
-        if is_open && !reached.contains(vertex) {
+        let value = values[vertex as usize];
+        if is_open(instance, branch, vertex, value) && !reached.contains(vertex) {
             return Ok(false);
         }
     }
     Ok(true)
 }
 
-// Whether a vertex of this need has to be reached, or could still be paid for.
-fn is_open(need: Need, is_inside: bool, is_outside: bool, value: u128) -> bool
-    ensures { result ≡ (is_needed need || is_inside
-        || (not is_outside && nat_lt value (prize need))) }
+// Whether a vertex has to be reached, or could still be paid for where the cuts that name it have
+// this value.
+fn is_open(instance: &Instance, branch: &Sides, vertex: u32, value: u128) -> bool
+    requires { IsVertex instance.now.n vertex }
+    ensures { result ≡ (is_certain instance.now branch.now vertex
+        || (is_undecided branch.now vertex && nat_lt value (pays instance.now vertex))) }
 {
-    match need {
-        Need::Required => true,
-        Need::Pays(prize) => is_inside || !is_outside && value < u128::from(prize),
+    if branch.is_certain(instance, vertex) {
+        return true;
     }
+    !branch.is_outside(vertex) && value < u128::from(instance.prize(vertex))
 }

@@ -1,20 +1,21 @@
-ghost use Rattle.std.specs.Prelude.{◌≡◌, ℕ, ◌+◌, ◌<◌, ◌^◌, ◌&&◌, not, [], length, map, replicate, All, IfOk, if◌then◌else◌};
+ghost use Rattle.std.specs.Prelude.{◌≡◌, ℕ, ◌+◌, ◌<◌, ◌^◌, ◌&&◌, [], length, map, replicate, All, IfOk, if◌then◌else◌};
+ghost use Rattle.st_model.specs.Branch.{is_present};
 ghost use Rattle.st_model.specs.Lists.{has};
 ghost use Rattle.cut_packing.specs.Loads.{arcs_into, laid, AreLoaded};
 ghost use Rattle.st_model.specs.VertexSet.{AllApart};
 
 use crate::Cut;
-use crate::arcs::{Arcs, LoadedArc, lay_into};
-use st_model::{Branch, Instance, Link, VertexSet};
+use crate::arcs::{LoadedArc, LoadedArcs, lay_into};
+use st_model::{Instance, Link, Sides, VertexSet};
 use std::alloc::{AllocError, Global};
 
 /// The arcs between present vertices, with what the cuts lay on them.
 pub fn loads(
     alloc: Global,
     instance: &Instance,
-    branch: &Branch,
+    branch: &Sides,
     cuts: &[Cut],
-) -> Result<Arcs, AllocError>
+) -> Result<LoadedArcs, AllocError>
     ensures { IfOk result
         (λ arcs. AreLoaded instance.now branch.now instance.now.links cuts.now arcs) }
 {
@@ -28,15 +29,14 @@ pub fn loads(
 }
 
 // The arcs between present vertices, with nothing on them.
-fn free_arcs(alloc: Global, instance: &Instance, branch: &Branch) -> Result<Arcs, AllocError>
+fn free_arcs(alloc: Global, instance: &Instance, branch: &Sides) -> Result<LoadedArcs, AllocError>
     ensures { IfOk result
         (λ arcs. AreLoaded instance.now branch.now instance.now.links [] arcs) }
 {
     let count = instance.vertices() as usize + 1;
-    let outside = VertexSet::of(alloc, count, branch.outside.as_slice())?;
-    let mut arcs = Arcs::new(alloc, count)?;
+    let mut arcs = LoadedArcs::new(alloc, count)?;
     for link in instance.links() {
-        if is_present(&outside, link) {
+        if is_present(branch, link) {
             arcs.add(link.b, free(link.a, link.cost))?;
             arcs.add(link.a, free(link.b, link.cost))?;
         }
@@ -45,11 +45,10 @@ fn free_arcs(alloc: Global, instance: &Instance, branch: &Branch) -> Result<Arcs
 }
 
 // Whether neither end of a link is outside.
-fn is_present(outside: &VertexSet, link: &Link) -> bool
-    ensures { result ≡ (not (has outside.now.members link.now.a)
-        && not (has outside.now.members link.now.b)) }
+fn is_present(branch: &Sides, link: &Link) -> bool
+    ensures { result ≡ (is_present branch.now link.now.a && is_present branch.now link.now.b) }
 {
-    !outside.contains(link.a) && !outside.contains(link.b)
+    !branch.is_outside(link.a) && !branch.is_outside(link.b)
 }
 
 // An arc from a vertex, with nothing on it.
@@ -64,7 +63,7 @@ fn free(tail: u32, cost: u64) -> LoadedArc
 }
 
 // Lays a value on all arcs that enter a set.
-fn lay(arcs: &mut Arcs, set: &VertexSet, value: u64)
+fn lay(arcs: &mut LoadedArcs, set: &VertexSet, value: u64)
     requires count { set.now.count ≡ length arcs.old }
     requires room { (v : ℕ) → All (λ arc. arc.load + value < 2 ^ 128) (arcs_into arcs.old v) }
     ensures count { length arcs.new ≡ length arcs.old }

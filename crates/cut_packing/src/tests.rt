@@ -1,10 +1,11 @@
 ghost use Rattle.std.specs.Prelude.{◌≡◌, ◌<◌, IfOk};
+ghost use Rattle.st_model.specs.Branch.{all_trees, with_outside};
 
 mod judge;
 
 use crate::{Cut, Packing, SetTable, fits, is_full, proof_tree_bounds, weak_duality, weight};
 use judge::{plain_fits, plain_full};
-use st_model::{Branch, Instance, Listed, Need};
+use st_model::{Branch, Instance, Listed, Need, Sides};
 use std::alloc::{AllocError, Global};
 use std::test::Fail;
 use test_instances::{Draws, links_of_triangle};
@@ -30,14 +31,18 @@ fn cut(alloc: Global, set: &[u32], q: u32, y: u64) -> Result<Cut, AllocError> {
     })
 }
 
-fn branch(alloc: Global, inside: &[u32], outside: &[u32]) -> Result<Branch, AllocError>
-    ensures inside { IfOk result (λ b. b.inside ≡ inside.now) }
-    ensures outside { IfOk result (λ b. b.outside ≡ outside.now) }
+// The branch of all trees.
+fn everything(alloc: Global) -> Result<Sides, AllocError>
+    ensures { IfOk result (λ sides. sides ≡ all_trees) }
 {
-    Ok(Branch {
-        inside: Listed::of(Vec::from_slice(alloc, inside)?),
-        outside: Listed::of(Vec::from_slice(alloc, outside)?),
-    })
+    Sides::of(alloc, Branch::all(alloc))
+}
+
+// The branch of the trees that avoid a vertex.
+fn avoiding(alloc: Global, vertex: u32) -> Result<Sides, AllocError>
+    ensures { IfOk result (λ sides. sides ≡ with_outside all_trees vertex) }
+{
+    Sides::of(alloc, Branch::all(alloc).with_outside(alloc, vertex)?)
 }
 
 // The packing of the triangle's proof, its first cut with a value of its own.
@@ -59,11 +64,11 @@ fn the_triangle_is_packed(rt: HostRuntime) -> Result<(), Fail> {
     proof_tree_bounds();
     let alloc = rt.alloc();
     let instance = triangle(alloc, 0)?;
-    let everything = branch(alloc, &[], &[])?;
+    let everything = everything(alloc)?;
     let packed = packing(alloc, 2)?;
     assert!(rt; fits(alloc, &instance, &everything, &packed)?);
     assert!(rt; is_full(alloc, &instance, &everything, &packed)?);
-    assert_eq!(rt; weight(&instance, &everything, &packed), 6);
+    assert_eq!(rt; weight(&instance, everything.branch(), &packed), 6);
     let over = packing(alloc, 3)?;
     assert!(rt; !fits(alloc, &instance, &everything, &over)?);
     let under = packing(alloc, 1)?;
@@ -84,7 +89,7 @@ fn alone(alloc: Global, root: Option<u32>, only: Cut) -> Result<Packing, AllocEr
 fn each_condition_is_needed(rt: HostRuntime) -> Result<(), Fail> {
     let alloc = rt.alloc();
     let instance = triangle(alloc, 1)?;
-    let everything = branch(alloc, &[], &[])?;
+    let everything = everything(alloc)?;
     let table = [
         (4, [2, 2], 2, 2),
         (5, [2, 2], 2, 2),
@@ -109,10 +114,10 @@ fn each_condition_is_needed(rt: HostRuntime) -> Result<(), Fail> {
 fn a_repeated_vertex_counts_once(rt: HostRuntime) -> Result<(), Fail> {
     let alloc = rt.alloc();
     let instance = triangle(alloc, 1)?;
-    let everything = branch(alloc, &[], &[])?;
+    let everything = everything(alloc)?;
     let repeated = alone(alloc, Some(1), cut(alloc, &[2, 4, 2], 2, 2)?)?;
     assert!(rt; fits(alloc, &instance, &everything, &repeated)?);
-    assert_eq!(rt; weight(&instance, &everything, &repeated), 2);
+    assert_eq!(rt; weight(&instance, everything.branch(), &repeated), 2);
     Ok(())
 }
 
@@ -120,7 +125,7 @@ fn a_repeated_vertex_counts_once(rt: HostRuntime) -> Result<(), Fail> {
 fn outside_vertices_are_left_alone(rt: HostRuntime) -> Result<(), Fail> {
     let alloc = rt.alloc();
     let instance = triangle(alloc, 1)?;
-    let no_centre = branch(alloc, &[], &[4])?;
+    let no_centre = avoiding(alloc, 4)?;
     let around = alone(alloc, Some(1), cut(alloc, &[2, 4], 2, 4)?)?;
     assert!(rt; fits(alloc, &instance, &no_centre, &around)?);
     let avoided = alone(alloc, Some(1), cut(alloc, &[4, 2], 4, 0)?)?;
@@ -138,12 +143,12 @@ fn apart(alloc: Global) -> Result<Instance, AllocError>
 // What no cuts weigh where the vertex that pays is outside.
 fn outside_weight(alloc: Global) -> Result<u128, AllocError> {
     let instance = apart(alloc)?;
-    let avoided = branch(alloc, &[], &[2])?;
+    let avoided = avoiding(alloc, 2)?;
     let nothing = Packing {
         root: None,
         cuts: Listed::of(Vec::new(alloc)),
     };
-    Ok(weight(&instance, &avoided, &nothing))
+    Ok(weight(&instance, avoided.branch(), &nothing))
 }
 
 #[test]
@@ -201,18 +206,13 @@ fn random_packing(alloc: Global, draws: &mut Draws) -> Result<Packing, AllocErro
 }
 
 fn random_branch(alloc: Global, draws: &mut Draws) -> Result<Branch, AllocError> {
-    let mut inside = Vec::new(alloc);
-    let mut outside = Vec::new(alloc);
+    let all = Branch::all(alloc);
     match draws.below(4) {
-        0 => inside.push(4)?,
-        1 => outside.push(4)?,
-        2 => outside.push(3)?,
-        _ => (),
+        0 => all.with_inside(alloc, 4),
+        1 => all.with_outside(alloc, 4),
+        2 => all.with_outside(alloc, 3),
+        _ => Ok(all),
     }
-    Ok(Branch {
-        inside: Listed::of(inside),
-        outside: Listed::of(outside),
-    })
 }
 
 // Whether a random packing fits and is full: by the calls, and by the plain program.
@@ -222,14 +222,14 @@ fn judged(
     draws: &mut Draws,
 ) -> Result<([bool; 2], [bool; 2]), AllocError> {
     let packing = random_packing(alloc, draws)?;
-    let branch = random_branch(alloc, draws)?;
+    let sides = Sides::of(alloc, random_branch(alloc, draws)?)?;
     let called = [
-        fits(alloc, instance, &branch, &packing)?,
-        is_full(alloc, instance, &branch, &packing)?,
+        fits(alloc, instance, &sides, &packing)?,
+        is_full(alloc, instance, &sides, &packing)?,
     ];
     let plain = [
-        plain_fits(instance, &branch, &packing),
-        plain_full(instance, &branch, &packing),
+        plain_fits(instance, sides.branch(), &packing),
+        plain_full(instance, sides.branch(), &packing),
     ];
     Ok((called, plain))
 }

@@ -1,23 +1,22 @@
 ghost use Rattle.std.specs.Prelude.{◌≡◌, ℕ, ◌<◌, ◌^◌, ◌==◌, ◌&&◌, ◌||◌, length, All, IfOk, OnOk};
 ghost use Rattle.st_model.specs.Lists.{has};
-ghost use Rattle.vertex_lists.specs.Led.{heads_at};
+ghost use Rattle.st_model.specs.Led.{heads_at};
 ghost use Rattle.cut_packing.specs.Loads.{arcs_into};
 ghost use Rattle.cut_packing.specs.UsedUp.{is_used, AreUsedUp};
 
 use crate::Packing;
-use crate::arcs::{Arcs, LoadedArc};
+use crate::arcs::{LoadedArc, LoadedArcs};
 use crate::loads::loads;
-use st_model::{Branch, Instance};
+use st_model::{Instance, Sides, VertexLists};
 use std::alloc::{AllocError, Global};
-use vertex_lists::Lists;
 
 /// The heads of the arcs whose whole cost the cuts take, listed at their tails.
 pub fn used_up(
     alloc: Global,
     instance: &Instance,
-    branch: &Branch,
+    branch: &Sides,
     packing: &Packing,
-) -> Result<Lists<u32>, AllocError>
+) -> Result<VertexLists<u32>, AllocError>
     ensures { IfOk result (λ heads. AreUsedUp instance.now branch.now packing.now heads) }
 {
     let vertices = instance.vertices();
@@ -26,14 +25,14 @@ pub fn used_up(
 }
 
 // The heads of the arcs that bear just what their links cost, listed at their tails.
-fn heads_of(alloc: Global, arcs: &Arcs, count: u32) -> Result<Lists<u32>, AllocError>
+fn heads_of(alloc: Global, arcs: &LoadedArcs, count: u32) -> Result<VertexLists<u32>, AllocError>
     requires count { length arcs.now ≡ count }
     requires tails { (v : ℕ) → All (λ arc. arc.tail < count) (arcs_into arcs.now v) }
     ensures count { IfOk result (λ heads. length heads ≡ count) }
     ensures listed { IfOk result (λ heads. (u v : ℕ) →
         has (heads_at heads u) v ≡ is_used (arcs_into arcs.now v) u) }
 {
-    let mut heads = Lists::new(alloc, count as usize)?;
+    let mut heads = VertexLists::new(alloc, count as usize)?;
     for head in 0..count {
         list_head(&mut heads, arcs.at(head), head)?;
     }
@@ -41,7 +40,7 @@ fn heads_of(alloc: Global, arcs: &Arcs, count: u32) -> Result<Lists<u32>, AllocE
 }
 
 // Lists a head at the tails of those arcs into it that bear just what their links cost.
-fn list_head(heads: &mut Lists<u32>, arcs: &[LoadedArc], head: u32) -> Result<(), AllocError>
+fn list_head(heads: &mut VertexLists<u32>, arcs: &[LoadedArc], head: u32) -> Result<(), AllocError>
     requires { All (λ arc. arc.tail < length heads.old) arcs.now }
     ensures count { length heads.new ≡ length heads.old }
     ensures listed { OnOk result ((u v : ℕ) → has (heads_at heads.new u) v

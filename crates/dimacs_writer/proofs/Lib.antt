@@ -1,4 +1,3 @@
 pub mod Joined
-pub mod Cut
 pub mod Tells
 pub mod OneText

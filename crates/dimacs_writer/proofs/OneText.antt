@@ -25,7 +25,7 @@ first x xs = (zero, omega arith, refl)
 later : {K : Type 0} (x : K) (xs : List K) (z : K) → Contains xs z → Contains (x ∷ xs) z
 later x xs z there = (suc there.0, omega (arith, there.1), there.2)
 
--- what stands behind the first is above it
+-- what stands after the first is above it
 above : {K : Type 0} (R : K → K → Ordering) (x : K) (xs : List K) (z : K) → IsStrictlySortedBy R (x ∷ xs) → Contains xs z → R x z ≡ Less
 above R x xs z up there = All-contains (λ y. R x y ≡ Less) xs z (All-from_recursion (λ y. R x y ≡ Less) xs (sorted_head R x xs up)) there
 
@@ -38,7 +38,7 @@ sorted_same R o [] [] up vp to from = refl
 sorted_same R o [] (y ∷ ys) up vp to from = absurd (omega (arith, (from y (first y ys)).1))
 sorted_same R o (x ∷ xs) [] up vp to from = absurd (omega (arith, (to x (first x xs)).1))
 sorted_same {K} R o (x ∷ xs) (y ∷ ys) up vp to from =
-    let rest = sorted_same R o xs ys (sorted_tail R x xs up) (sorted_tail R y ys vp) (λ z there. behind x y xs ys z up heads there (to z (later x xs z there))) (λ z there. behind y x ys xs z vp (sym heads) there (from z (later y ys z there))) in
+    let rest = sorted_same R o xs ys (sorted_tail R x xs up) (sorted_tail R y ys vp) (λ z there. after x y xs ys z up heads there (to z (later x xs z there))) (λ z there. after y x ys xs z vp (sym heads) there (from z (later y ys z there))) in
     cc (heads, rest)
   where
     heads : x ≡ y
@@ -50,8 +50,8 @@ sorted_same {K} R o (x ∷ xs) (y ∷ ys) up vp to from =
       ]
     ]
 
-    behind : (a b : K) (more others : List K) (z : K) → IsStrictlySortedBy R (a ∷ more) → a ≡ b → Contains more z → Contains (b ∷ others) z → Contains others z
-    behind a b more others z up same there found = elim (split b others z found) [
+    after : (a b : K) (more others : List K) (z : K) → IsStrictlySortedBy R (a ∷ more) → a ≡ b → Contains more z → Contains (b ∷ others) z → Contains others z
+    after a b more others z up same there found = elim (split b others z found) [
       | inl is ↦ let up_z = above R a more z up there in
           let self : a ≡ z = same ∙ is in
           let less : R z z ≡ Less = ap (λ (k : K). R k z) (sym self) ∙ up_z in

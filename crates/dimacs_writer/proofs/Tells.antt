@@ -12,8 +12,9 @@ use Rattle.st_model.specs.Regrown.{unordered}
 use Rattle.st_model.proofs.Members.{has-one, has-from_Contains}
 use Rattle.st_model.proofs.Reaching.{reached_in}
 use Rattle.dimacs_writer.specs.Laws.{Solution, IsSmallTree, TextTellsSolution, TextTellsTree, text_of}
-use Rattle.dimacs_writer.specs.Solution.{AreEdges, AreVertices, IsSolutionText, ended, name_byte, number_line, vertex_line, edge_line, header, comment_lines, solutions_lines, run_lines, solution_text_of}
-use Rattle.dimacs_writer.proofs.Cut.{lacks, lacks-append, lacks-decimal, cut_same, are_whole, lines_same}
+use Rattle.plain_text.specs.Lines.{ended}
+use Rattle.dimacs_writer.specs.Solution.{AreEdges, AreVertices, IsSolutionText, name_byte, number_line, vertex_line, edge_line, header, comment_lines, solutions_lines, run_lines, solution_text_of}
+use Rattle.plain_text.proofs.Lacking.{lacks, lacks-append, lacks-decimal, cut_same, are_whole, lines_same}
 
 abbrev IsSmall : ℕ → Type 0
 IsSmall n = n < 2 ^ 64
@@ -53,9 +54,9 @@ vertices_same [] (w ∷ ws) m n rest others h k e = absurd (differ 69 86 (omega 
 vertices_same (v ∷ vs) [] m n rest others h k e = absurd (differ 69 86 (omega arith) cc)
 vertices_same (v ∷ vs) (w ∷ ws) m n rest others h k e =
     let spelled : decimal v ≡ decimal w = cc in
-    let behind : map vertex_line vs ++ number_line (codes "Edges") m ∷ rest ≡ map vertex_line ws ++ number_line (codes "Edges") n ∷ others = cc in
+    let after : map vertex_line vs ++ number_line (codes "Edges") m ∷ rest ≡ map vertex_line ws ++ number_line (codes "Edges") n ∷ others = cc in
     let first = decimal_injective v w h.0 k.0 spelled in
-    let later = vertices_same vs ws m n rest others h.1 k.1 behind in
+    let later = vertices_same vs ws m n rest others h.1 k.1 after in
     (cc (first, later.0), later.1)
 
 both_ends : (d f : ℕ × ℕ) → d.0 ≡ f.0 → d.1 ≡ f.1 → d ≡ f
@@ -68,11 +69,11 @@ edges_same [] (f ∷ fs) rest others h k e = absurd (differ 32 78 (omega arith) 
 edges_same (d ∷ es) [] rest others h k e = absurd (differ 32 78 (omega arith) cc)
 edges_same (d ∷ es) (f ∷ fs) rest others h k e =
     let spelled : decimal d.0 ++ 32 ∷ decimal d.1 ≡ decimal f.0 ++ 32 ∷ decimal f.1 = cc in
-    let behind : map edge_line es ++ codes "END" ∷ rest ≡ map edge_line fs ++ codes "END" ∷ others = cc in
+    let after : map edge_line es ++ codes "END" ∷ rest ≡ map edge_line fs ++ codes "END" ∷ others = cc in
     let parts = cut_same 32 (decimal d.0) (decimal f.0) (decimal d.1) (decimal f.1) (lacks-decimal 32 d.0 (omega arith)) (lacks-decimal 32 f.0 (omega arith)) spelled in
     let low = decimal_injective d.0 f.0 h.0.0 k.0.0 parts.0 in
     let high = decimal_injective d.1 f.1 h.0.1 k.0.1 parts.1 in
-    let later = edges_same es fs rest others h.1 k.1 behind in
+    let later = edges_same es fs rest others h.1 k.1 after in
     let first = both_ends d f low high in
     cc (first, later)
 
@@ -115,16 +116,16 @@ same_tree s t vs ws es fs e =
     (tree.0, edges_same s.edges t.edges _ _ (recursion_from_All HasSmallEnds s.edges es) (recursion_from_All HasSmallEnds t.edges fs) tree.1)
 
 -- what stands from the n-th byte of the k-th line on
-abbrev behind : ℕ → ℕ → List (List ℕ) → List ℕ
-behind n k lines = drop n (get_or lines k [])
+abbrev after : ℕ → ℕ → List (List ℕ) → List ℕ
+after n k lines = drop n (get_or lines k [])
 
 pub tells : TextTellsSolution
 tells s t h k e =
     let lines = same_lines s t e in
-    let name : map name_byte s.name ++ 34 ∷ [] ≡ map name_byte t.name ++ 34 ∷ [] = ap (behind 6 2) lines in
-    let primal : decimal s.primal ≡ decimal t.primal = ap (behind 11 7) lines in
-    let workers : decimal s.workers ≡ decimal t.workers = ap (behind 8 10) lines in
-    let dual : decimal s.dual ≡ decimal t.dual = ap (behind 5 12) lines in
+    let name : map name_byte s.name ++ 34 ∷ [] ≡ map name_byte t.name ++ 34 ∷ [] = ap (after 6 2) lines in
+    let primal : decimal s.primal ≡ decimal t.primal = ap (after 11 7) lines in
+    let workers : decimal s.workers ≡ decimal t.workers = ap (after 8 10) lines in
+    let dual : decimal s.dual ≡ decimal t.dual = ap (after 5 12) lines in
     let tree = same_tree s t h.vertices k.vertices h.edges k.edges e in
     record {
       name = append_cancel_right _ _ (34 ∷ []) name;

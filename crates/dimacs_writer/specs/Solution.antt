@@ -9,10 +9,7 @@ use Rattle.st_model.specs.declared.tree.Tree.{Tree}
 use Rattle.st_model.specs.Arborescence.{reached}
 use Rattle.st_model.specs.Lists.{has}
 use Rattle.st_model.specs.Regrown.{unordered}
-
--- a line with its end
-abbrev pub ended : List ℕ → List ℕ
-ended line = line ++ 10 ∷ []
+use Rattle.plain_text.specs.Lines.{ended}
 
 -- a keyword and a number
 abbrev pub number_line : List ℕ → ℕ → List ℕ
@@ -30,7 +27,7 @@ name_byte b = if (b == 34) || nat_lt b 32 then 95 else b
 abbrev pub remark : ℕ → ℕ → List ℕ
 remark dual primal = if dual == primal then codes "optimal" else codes "budget"
 
--- what stands behind the name in its section
+-- what stands after the name in its section
 abbrev pub remark_lines : ℕ → ℕ → List (List ℕ)
 remark_lines dual primal = quoted_line (codes "Program") (codes "steiner") ∷ quoted_line (codes "Remark") (remark dual primal) ∷ codes "END" ∷ []
 

@@ -1,14 +1,15 @@
--- What is written behind a text. Helpers' clauses cite this, and no public one.
+-- What is written after a text. Helpers' clauses cite this, and no public one.
 use Rattle.std.specs.Prelude.{◌≡◌, ℕ, List, [], ◌∷◌, ◌++◌, codes}
 use Rattle.std.specs.List.{flat_map}
 use Rattle.st_model.specs.declared.tree.Tree.{Tree}
-use Rattle.dimacs_writer.specs.Solution.{AreEdges, AreVertices, ended, remark_lines, run_lines, solutions_lines, tree_lines}
+use Rattle.plain_text.specs.Lines.{ended}
+use Rattle.dimacs_writer.specs.Solution.{AreEdges, AreVertices, remark_lines, run_lines, solutions_lines, tree_lines}
 
 -- these lines were written, each with its end
 pub record IsWritten (before after : List ℕ) (lines : List (List ℕ)) : Type 0 where
   pub bytes : after ≡ before ++ flat_map ended lines
 
--- all that stands behind the name
+-- all that stands after the name
 pub record AreSections (workers : ℕ) (t : Tree) (dual primal : ℕ) (text : List ℕ) : Type 0 where
   pub vertices : List ℕ
   pub edges : List (ℕ × ℕ)

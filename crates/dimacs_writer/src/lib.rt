@@ -43,7 +43,7 @@ pub fn solution_text(
     Ok(out)
 }
 
-// All that stands behind the name.
+// All that stands after the name.
 fn sections_of(
     alloc: Global,
     workers: u32,

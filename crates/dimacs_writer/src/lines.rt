@@ -13,7 +13,7 @@ pub fn first_lines(alloc: Global) -> Result<Vec<u8>, AllocError>
     Vec::from_slice(alloc, lines.as_bytes())
 }
 
-/// Puts the line of the name behind the text.
+/// Puts the line of the name after the text.
 pub fn put_name(out: &mut Vec<u8>, name: &str) -> Result<(), AllocError>
     ensures { OnOk result (IsWritten out.old.items out.new.items (quoted_line (codes "Name") (map Solution.name_byte name.now) ∷ [])) }
 {
@@ -43,21 +43,21 @@ fn name_byte(byte: u8) -> u8
     }
 }
 
-/// Puts a line behind the text.
+/// Puts a line after the text.
 pub fn put_line(text: &mut String, line: &str) -> Result<(), AllocError>
     ensures { OnOk result (IsWritten (string_bytes text.old) (string_bytes text.new) (line.now ∷ [])) }
 {
     writeln!(text, "{line}")
 }
 
-/// Puts a keyword and a number behind the text.
+/// Puts a keyword and a number after the text.
 pub fn put_number(text: &mut String, keyword: &str, number: u64) -> Result<(), AllocError>
     ensures { OnOk result (IsWritten (string_bytes text.old) (string_bytes text.new) (number_line keyword.now number ∷ [])) }
 {
     writeln!(text, "{keyword} {number}")
 }
 
-/// Puts a line for each vertex behind the text.
+/// Puts a line for each vertex after the text.
 pub fn put_vertices(text: &mut String, vertices: &[u32]) -> Result<(), AllocError>
     ensures { OnOk result (IsWritten (string_bytes text.old) (string_bytes text.new) (map vertex_line vertices.now)) }
 {
@@ -67,7 +67,7 @@ pub fn put_vertices(text: &mut String, vertices: &[u32]) -> Result<(), AllocErro
     Ok(())
 }
 
-/// Puts a line for each edge behind the text.
+/// Puts a line for each edge after the text.
 pub fn put_edges(text: &mut String, edges: &[(u32, u32)]) -> Result<(), AllocError>
     ensures { OnOk result (IsWritten (string_bytes text.old) (string_bytes text.new) (map edge_line edges.now)) }
 {

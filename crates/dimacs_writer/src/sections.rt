@@ -6,7 +6,7 @@ ghost use Rattle.dimacs_writer.specs.Writing.{IsWritten};
 use crate::lines::{put_edges, put_line, put_number, put_vertices};
 use std::alloc::AllocError;
 
-/// Puts what follows the name in its section behind the text.
+/// Puts what follows the name in its section after the text.
 pub fn put_remark(text: &mut String, dual: u64, primal: u64) -> Result<(), AllocError>
     ensures { OnOk result (IsWritten (string_bytes text.old) (string_bytes text.new) (remark_lines dual primal)) }
 {
@@ -26,7 +26,7 @@ fn remark_line(dual: u64, primal: u64) -> &'static str
     }
 }
 
-/// Puts the section of the primal behind the text.
+/// Puts the section of the primal after the text.
 pub fn put_solutions(text: &mut String, primal: u64) -> Result<(), AllocError>
     ensures { OnOk result (IsWritten (string_bytes text.old) (string_bytes text.new) (solutions_lines primal)) }
 {
@@ -36,7 +36,7 @@ pub fn put_solutions(text: &mut String, primal: u64) -> Result<(), AllocError>
     Ok(())
 }
 
-/// Puts the section of the run behind the text.
+/// Puts the section of the run after the text.
 pub fn put_run(text: &mut String, workers: u32, dual: u64, primal: u64) -> Result<(), AllocError>
     ensures { OnOk result (IsWritten (string_bytes text.old) (string_bytes text.new) (run_lines workers dual primal)) }
 {
@@ -49,7 +49,7 @@ pub fn put_run(text: &mut String, workers: u32, dual: u64, primal: u64) -> Resul
     Ok(())
 }
 
-/// Puts the section of the tree and the last line behind the text.
+/// Puts the section of the tree and the last line after the text.
 pub fn put_tree(text: &mut String, vertices: &[u32], edges: &[(u32, u32)]) -> Result<(), AllocError>
     ensures { OnOk result (IsWritten (string_bytes text.old) (string_bytes text.new) (tree_lines vertices.now edges.now ++ codes "EOF" ∷ [])) }
 {

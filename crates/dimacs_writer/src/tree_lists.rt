@@ -34,7 +34,7 @@ fn put_in_order<T: Ord + Drop>(items: &mut Vec<T>)
     items.dedup();
 }
 
-// The heads of the arcs, and the start behind them.
+// The heads of the arcs, and the start after them.
 fn heads_and_start(alloc: Global, tree: &Tree) -> Result<Vec<u32>, AllocError>
     ensures { IfOk result (λ list. list.items ≡ map (λ arc. arc.1) tree.now.arcs ++ tree.now.start ∷ []) }
 {

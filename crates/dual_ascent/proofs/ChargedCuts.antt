@@ -1,4 +1,4 @@
--- What is left where cuts take something, one behind another.
+-- What is left where cuts take something, one after another.
 use Rattle.std.proofs.Common.{◌≡◌, ◌≢◌, ℕ, ◌+◌, ◌-◌, ◌<◌, ◌≤◌, List, [], ◌++◌, length, get_or, take, drop, Option, Some, None, inl, inr, refl, sym, ap, ◌∙◌, arith, take-append-drop}
 use Rattle.std.specs.Prelude.{◌==◌, ◌&&◌, not, if◌then◌else◌}
 use Rattle.std.specs.Option.{option_map}
@@ -13,9 +13,9 @@ use Rattle.cut_packing.specs.declared.cut.Cut.{Cut}
 use Rattle.cut_packing.specs.Packing.{load, named}
 use Rattle.st_model.proofs.Costs.{total_more}
 use Rattle.dual_ascent.specs.Left.{AreEndsOf, AreBorne, AreLowered, AreSpent}
-use Rattle.dual_ascent.specs.Raises.{IsOpen}
+use Rattle.dual_ascent.specs.Raises.{IsRaisable}
 
--- what cuts lay on an arc, one list behind another
+-- what cuts lay on an arc, one list after another
 pub load-append : (xs ys : List Cut) (arc : ℕ × ℕ) → load (xs ++ ys) arc ≡ load xs arc + load ys arc
 load-append xs ys arc = total-append (λ c. if has c.set arc.1 && not (has c.set arc.0) then c.y else 0) xs ys
 
@@ -34,14 +34,14 @@ AreLowered-none D = record { root = refl; count = refl; kinds = refl; neighbours
 pub AreSpent-none : (E : Ends) → AreSpent E E []
 AreSpent-none E = record { count = refl; ends = refl; left = λ v. omega arith }
 
--- what is left of an arc after cuts and others behind them
+-- what is left of an arc after cuts and others after them
 pub lowered_twice : (xs ys : List Cut) (arc : ℕ × ℕ) (o : Option ℕ) → option_map (λ r. r - load ys arc) (option_map (λ r. r - load xs arc) o) ≡ option_map (λ r. r - load (xs ++ ys) arc) o
 lowered_twice xs ys arc None = refl
 lowered_twice xs ys arc (Some r) =
     let same : r - load xs arc - load ys arc ≡ r - load (xs ++ ys) arc = omega (arith, load-append xs ys arc) in
     ap Some same
 
--- cuts behind others take what both take
+-- cuts after others take what both take
 pub AreLowered-append : (D D' D'' : Digraph) (xs ys : List Cut) → AreLowered D D' xs → AreLowered D' D'' ys → AreLowered D D'' (xs ++ ys)
 AreLowered-append D D' D'' xs ys first next = record {
   root = next.root ∙ first.root;
@@ -67,10 +67,10 @@ before_taking (Some s) less r e = (s, refl, let rest : s - less ≡ r = cc in re
 pub kinds_kept : (D D' : Digraph) (cuts : List Cut) → AreLowered D D' cuts → (v : ℕ) → kind_of D' v ≡ kind_of D v
 kinds_kept D D' cuts lowered v = rw lowered.kinds refl
 
--- what is open over what they leave is open behind them
-pub open_behind : (D D' : Digraph) (E E' : Ends) (cuts : List Cut) → AreLowered D D' cuts → AreSpent E E' cuts → (v : ℕ) → IsOpen D' E' [] v → IsOpen D E cuts v
-open_behind D D' E E' cuts lowered spent v (inl must) = inl (sym (kinds_kept D D' cuts lowered v) ∙ must)
-open_behind D D' E E' cuts lowered spent v (inr left) = inr (omega (arith, left, spent.left v))
+-- what is raisable over what they leave is raisable after them
+pub raisable_after : (D D' : Digraph) (E E' : Ends) (cuts : List Cut) → AreLowered D D' cuts → AreSpent E E' cuts → (v : ℕ) → IsRaisable D' E' [] v → IsRaisable D E cuts v
+raisable_after D D' E E' cuts lowered spent v (inl must) = inl (sym (kinds_kept D D' cuts lowered v) ∙ must)
+raisable_after D D' E E' cuts lowered spent v (inr left) = inr (omega (arith, left, spent.left v))
 
 -- what has something left of its prize needn't be reached
 pub left_free : (D : Digraph) (E : Ends) (v : ℕ) → AreEndsOf D E → 0 < left_of E v → kind_of D v ≢ Must

@@ -18,7 +18,8 @@ use Rattle.cut_packing.specs.declared.packing.Packing.{Packing}
 use Rattle.cut_packing.specs.Packing.{load, named, CutFits, Fits, weight}
 use Rattle.cut_packing.proofs.Duality.{named_vertex}
 use Rattle.dual_ascent.specs.declared.ascent.Ascent.TheVariants.{Full, Reached}
-use Rattle.dual_ascent.specs.Left.{IsWhole, AreBorne, AreEndsOf, AreLeft, raised}
+use Rattle.graph_store.specs.Whole.{IsWhole}
+use Rattle.dual_ascent.specs.Left.{AreBorne, AreEndsOf, AreLeft, raised}
 use Rattle.dual_ascent.specs.Ascent.{IsAscended, ReachesAll}
 use Rattle.dual_ascent.specs.Extension.{IsStart, IsRootFor, IsExtended, IsExtension}
 use Rattle.dual_ascent.specs.Laws.{joined, IsRaised}

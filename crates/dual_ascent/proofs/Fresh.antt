@@ -13,7 +13,7 @@ use Rattle.bidirected_form.specs.Entering.{enters, CanBear}
 use Rattle.prize_transform.specs.Twins.{Ends, left_of}
 use Rattle.cut_packing.specs.declared.cut.Cut.{Cut}
 use Rattle.dual_ascent.specs.Left.{AreEndsOf}
-use Rattle.dual_ascent.specs.Raises.{Reaches, IsOpen, UsesUpAnArc, ReachesTarget, SpendsThePrize, IsLeast, IsRaise, there}
+use Rattle.dual_ascent.specs.Raises.{Reaches, IsRaisable, UsesUpAnArc, ReachesTarget, SpendsThePrize, IsLeast, IsRaise, there}
 use Rattle.dual_ascent.specs.Turns.{HasAnArcLeft, IsGrown, IsLimit}
 use Rattle.dual_ascent.proofs.ChargedCuts.{left_free}
 
@@ -25,7 +25,7 @@ must_or_not (May p) = inr (λ e. cc)
 -- the parts of a raise
 pub record AreParts (D : Digraph) (E : Ends) (room q : ℕ) (members : List ℕ) (limit : ℕ) (c : Cut) : Type 0 where
   pub in_range : All (IsVertex D.n) members
-  pub still_open : IsOpen D E [] q
+  pub raisable : IsRaisable D E [] q
   pub some : 0 < room
   pub grown : IsGrown D q members
   pub apart : IsFalse (has members D.root)
@@ -46,7 +46,7 @@ module _ (D : Digraph) (E : Ends) (room q : ℕ) (members : List ℕ) (limit : �
 
   -- something is left of the prize of a q that may be left out
   prize_left : kind_of D q ≢ Must → 0 < left_of E q
-  prize_left may = elim h.still_open [ inl must ↦ absurd (may must) | inr left ↦ left ]
+  prize_left may = elim h.raisable [ inl must ↦ absurd (may must) | inr left ↦ left ]
 
   limit_some : 0 < limit
   limit_some = elim kind [ inl must ↦ omega (arith, h.limited.must must, h.some) | inr may ↦ omega (arith, h.limited.may may, h.some, prize_left may) ]
@@ -97,7 +97,7 @@ module _ (D : Digraph) (E : Ends) (room q : ℕ) (members : List ℕ) (limit : �
   pub raise_made : IsRaise D E room [] c × (c.q ≡ q)
   raise_made = (
     record {
-      still_open = subst (IsOpen D E []) (sym h.names) h.still_open;
+      raisable = subst (IsRaisable D E []) (sym h.names) h.raisable;
       set = record { ascending = h.ascending; in_range = in_range };
       exact = exact_here;
       apart = h.same D.root ∙ h.apart;

@@ -1,4 +1,4 @@
--- A packing with raises behind its cuts.
+-- A packing with raises after its cuts.
 use Rattle.std.proofs.Common.{◌≡◌, ◌≢◌, ℕ, ◌+◌, ◌-◌, ◌<◌, ◌≤◌, Bool, true, false, List, [], Option, Some, None, ◌⊎◌, inl, inr, refl, sym, ap, ◌∙◌, subst, arith}
 use Rattle.std.specs.Prelude.{IsTrue, IsFalse, IfSome, All}
 use Rattle.std.specs.Option.{option_map}
@@ -19,7 +19,7 @@ use Rattle.cut_packing.specs.declared.packing.Packing.{Packing}
 use Rattle.cut_packing.specs.Packing.{load, named, IsRoot, CutFits, PrizesFit, Fits, weight}
 use Rattle.cut_packing.specs.Full.{IsUsedUp, IsReached, IsFull, here as at_root, there as along}
 use Rattle.dual_ascent.specs.Left.{raised}
-use Rattle.dual_ascent.specs.Raises.{IsUsedUp as HasNothingLeft, Reaches, here, there, IsOpen, IsRaise}
+use Rattle.dual_ascent.specs.Raises.{IsUsedUp as HasNothingLeft, Reaches, here, there, IsRaisable, IsRaise}
 use Rattle.dual_ascent.specs.Ascent.{ReachesAll}
 use Rattle.dual_ascent.specs.Laws.{joined, IsRaised}
 use Rattle.dual_ascent.proofs.ChargedCuts.{before_taking, load-append, named-append}
@@ -37,7 +37,7 @@ module _ (g : Graph) (B : Branch) (P : Packing) (D : Digraph) (E : Ends) (target
   arc_left u v price cost = h.left.remaining u v ∙ ap (option_map (λ c. c - load P.cuts (u, v))) cost
 
   -- what has to be reached, or something is left of, isn't outside
-  open_at : (before : List Cut) (q : ℕ) → IsOpen D E before q → IsTrue (is_open g B q)
+  open_at : (before : List Cut) (q : ℕ) → IsRaisable D E before q → IsTrue (is_open g B q)
   open_at before q (inl must) = open_must g B q (sym (h.left.kinds q) ∙ must)
   open_at before q (inr some) =
       let kind = ap prize_for (h.left.kinds q) in
@@ -47,7 +47,7 @@ module _ (g : Graph) (B : Branch) (P : Packing) (D : Digraph) (E : Ends) (target
   cut_fits before c raise = record {
     in_range = subst (λ (n : ℕ). All (IsVertex n) c.set) h.left.count raise.set.in_range;
     member = (raise.exact c.q).1 here;
-    present = open_present g B c.q (open_at before c.q raise.still_open);
+    present = open_present g B c.q (open_at before c.q raise.raisable);
   }
 
   -- the prizes of what may be left out
@@ -82,13 +82,13 @@ module _ (g : Graph) (B : Branch) (P : Packing) (D : Digraph) (E : Ends) (target
     h.same,
     record {
       certain = λ v vertex certain. reach v (inl (h.left.kinds v ∙ must_certain g B v (open_vertex g B v h.whole vertex (certain_present g.network B v h.branch h.required certain)) certain));
-      undecided = λ v vertex undecided room. reach v (still_open v (open_vertex g B v h.whole vertex (undecided_present B v undecided)) room);
+      undecided = λ v vertex undecided room. reach v (raisable v (open_vertex g B v h.whole vertex (undecided_present B v undecided)) room);
     },
   )
     where
       -- an undecided vertex that could still be paid for has to be reached, or the raises leave something of its prize
-      still_open : (v : ℕ) → IsTrue (is_open g B v) → named (joined P A).cuts v < pays g.network v → IsOpen D E A.cuts v
-      still_open v is_here room =
+      raisable : (v : ℕ) → IsTrue (is_open g B v) → named (joined P A).cuts v < pays g.network v → IsRaisable D E A.cuts v
+      raisable v is_here room =
           elim (cases_Bool (is_certain g.network B v)) [
             | inl certain ↦ inl (h.left.kinds v ∙ must_certain g B v is_here certain)
             | inr free ↦
@@ -96,7 +96,7 @@ module _ (g : Graph) (B : Branch) (P : Packing) (D : Digraph) (E : Ends) (target
                 inr (omega (arith, prize, h.left.prizes v, room, named-append P.cuts A.cuts v))
           ]
 
-      reach : (v : ℕ) → IsOpen D E A.cuts v → IsReached g.network B (joined P A) D.root v
+      reach : (v : ℕ) → IsRaisable D E A.cuts v → IsReached g.network B (joined P A) D.root v
       reach v is_open_at = walked D.root v D.root (all v is_open_at) at_root
 
   pub together_fit : IsGraph g → IsVertex g.network.n D.root → Fits g.network B (joined P A) × (weight g.network B (joined P A) ≡ weight g.network B P + raised A.cuts)

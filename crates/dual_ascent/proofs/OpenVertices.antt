@@ -15,7 +15,7 @@ use Rattle.bidirected_form.specs.declared.kind.VertexKind.TheVariants.{Must, May
 use Rattle.bidirected_form.specs.Bidirected.{is_open, kind_by, kind_in, arc_cost}
 use Rattle.prize_transform.specs.Twins.{prize_for}
 use Rattle.cut_packing.proofs.Loaded.{linked_vertex}
-use Rattle.dual_ascent.specs.Left.{IsWhole}
+use Rattle.graph_store.specs.Whole.{IsWhole}
 
 -- what every tree of the branch reaches isn't outside
 pub certain_present : (I : Network) (B : Branch) (v : ℕ) → IsBranch I B → LeavesRequired I B → IsTrue (is_certain I B v) → IsTrue (is_present B v)

@@ -18,13 +18,13 @@ use Rattle.cut_packing.specs.Packing.{load}
 use Rattle.dual_ascent.specs.declared.growing.Growth.{Growth}
 use Rattle.dual_ascent.specs.declared.waiting.Waiting.{Waiting}
 use Rattle.dual_ascent.specs.Left.{AreEndsOf, AreLowered, AreSpent}
-use Rattle.dual_ascent.specs.Raises.{IsUsedUp, Reaches, IsOpen, IsRaise, here}
+use Rattle.dual_ascent.specs.Raises.{IsUsedUp, Reaches, IsRaisable, IsRaise, here}
 use Rattle.dual_ascent.specs.Turns.{AreSeeds, IsGrowth, IsWaiting, Entry, waits, AreWaiting}
-use Rattle.dual_ascent.proofs.ChargedCuts.{open_behind}
+use Rattle.dual_ascent.proofs.ChargedCuts.{raisable_after}
 use Rattle.dual_ascent.proofs.Reaching.{reaches_over}
 
--- an open vertex is in range
-pub open_in_range : (D : Digraph) (E : Ends) (v : ℕ) → IsDigraph D → AreEndsOf D E → IsOpen D E [] v → IsVertex D.n v
+-- a raisable vertex is in range
+pub open_in_range : (D : Digraph) (E : Ends) (v : ℕ) → IsDigraph D → AreEndsOf D E → IsRaisable D E [] v → IsVertex D.n v
 open_in_range D E v h ends open_at = elim (cases_lt v 1) [
   | inl low ↦ let zero_is : 0 ≡ v = omega (arith, low) in absurd (closed v (sym (ap (kind_of D) zero_is) ∙ h.nobody) open_at)
   | inr some ↦ elim (cases_lt D.n v) [
@@ -33,14 +33,14 @@ open_in_range D E v h ends open_at = elim (cases_lt v 1) [
   ]
 ]
   where
-    closed : (w : ℕ) → kind_of D w ≡ Outside → IsOpen D E [] w → ⊥
+    closed : (w : ℕ) → kind_of D w ≡ Outside → IsRaisable D E [] w → ⊥
     closed w out (inl must) = let clash : Outside ≡ Must = sym out ∙ must in cc
     closed w out (inr left) = omega (arith, left, ends.within w, ap prize_for out)
 
--- the entries of the open vertices up to k
+-- the entries of the raisable vertices up to k
 pub record AreListed (D : Digraph) (E : Ends) (k : ℕ) (queue : List Entry) : Type 0 where
   pub each : All (λ e. IsWaiting D [] e.0) queue
-  pub listed : (v : ℕ) → v ≤ k → IsOpen D E [] v → IsTrue (waits queue v)
+  pub listed : (v : ℕ) → v ≤ k → IsRaisable D E [] v → IsTrue (waits queue v)
 
 pub listed_none : (D : Digraph) (E : Ends) → IsDigraph D → AreEndsOf D E → AreListed D E 0 []
 listed_none D E h ends = record {
@@ -48,7 +48,7 @@ listed_none D E h ends = record {
   listed = λ v low open_at. absurd (omega (arith, low, (open_in_range D E v h ends open_at).0));
 }
 
--- one vertex more is open
+-- one vertex more is raisable
 pub listed_more : (D : Digraph) (E : Ends) (k : ℕ) (queue queue' : List Entry) (e : Entry) → IsVertex D.n (k + 1) → e.0.vertex ≡ k + 1 → e.0.last ≡ None → IsPermutation (e ∷ queue) queue' → AreListed D E k queue → AreListed D E (k + 1) queue'
 listed_more D E k queue queue' e range vertex last moved h = record {
   each = All-permutation (λ (x : Entry). IsWaiting D [] x.0) (e ∷ queue) queue' moved (All-cons (λ (x : Entry). IsWaiting D [] x.0) e queue new h.each);
@@ -58,18 +58,18 @@ listed_more D E k queue queue' e range vertex last moved h = record {
     new : IsWaiting D [] e.0
     new = record { in_range = subst (IsVertex D.n) (sym vertex) range; seeds = rw last tt }
 
-    waits_now : (v : ℕ) → v ≤ k + 1 → IsOpen D E [] v → IsTrue (waits (e ∷ queue) v)
+    waits_now : (v : ℕ) → v ≤ k + 1 → IsRaisable D E [] v → IsTrue (waits (e ∷ queue) v)
     waits_now v low open_at = elim (cases_lt k v) [
       | inl last_one ↦ or_left (e.0.vertex == v) _ (eq-eqb e.0.vertex v (omega (arith, vertex, low, last_one)))
       | inr earlier ↦ or_right (e.0.vertex == v) _ (h.listed v earlier open_at)
     ]
 
 -- one vertex more isn't
-pub listed_past : (D : Digraph) (E : Ends) (k : ℕ) (queue : List Entry) → (IsOpen D E [] (k + 1) → ⊥) → AreListed D E k queue → AreListed D E (k + 1) queue
+pub listed_past : (D : Digraph) (E : Ends) (k : ℕ) (queue : List Entry) → (IsRaisable D E [] (k + 1) → ⊥) → AreListed D E k queue → AreListed D E (k + 1) queue
 listed_past D E k queue closed h = record {
   each = h.each;
   listed = λ v low open_at. elim (cases_lt k v) [
-    | inl last_one ↦ let same : v ≡ k + 1 = omega (arith, low, last_one) in absurd (closed (subst (IsOpen D E []) same open_at))
+    | inl last_one ↦ let same : v ≡ k + 1 = omega (arith, low, last_one) in absurd (closed (subst (IsRaisable D E []) same open_at))
     | inr earlier ↦ h.listed v earlier open_at
   ];
 }
@@ -81,16 +81,16 @@ all_listed D E k queue digraph ends all h = record {
 }
 
 -- the first one has its turn and is passed over
-pub waiting_past : (D : Digraph) (E : Ends) (cuts : List Cut) (rest : List Entry) (e : Entry) → (IsOpen D E [] e.0.vertex → Reaches D [] e.0.vertex D.root) → AreWaiting D E cuts (e ∷ rest) → AreWaiting D E cuts rest
+pub waiting_past : (D : Digraph) (E : Ends) (cuts : List Cut) (rest : List Entry) (e : Entry) → (IsRaisable D E [] e.0.vertex → Reaches D [] e.0.vertex D.root) → AreWaiting D E cuts (e ∷ rest) → AreWaiting D E cuts rest
 waiting_past D E cuts rest e done h = record {
   each = All-tail (λ (x : Entry). IsWaiting D cuts x.0) e rest h.each;
   others = λ v open_at. elim (h.others v open_at) [ inl waiting ↦ still v open_at waiting | inr reached ↦ inr reached ];
 }
   where
-    still : (v : ℕ) → IsOpen D E [] v → IsTrue (waits (e ∷ rest) v) → IsTrue (waits rest v) ⊎ Reaches D [] v D.root
+    still : (v : ℕ) → IsRaisable D E [] v → IsTrue (waits (e ∷ rest) v) → IsTrue (waits rest v) ⊎ Reaches D [] v D.root
     still v open_at waiting =
         elim (or_cases (e.0.vertex == v) (waits rest v) waiting) [
-          | inl same ↦ let is = eqb-true e.0.vertex v same in inr (subst (λ (w : ℕ). Reaches D [] w D.root) is (done (subst (IsOpen D E []) (sym is) open_at)))
+          | inl same ↦ let is = eqb-true e.0.vertex v same in inr (subst (λ (w : ℕ). Reaches D [] w D.root) is (done (subst (IsRaisable D E []) (sym is) open_at)))
           | inr there ↦ inl there
         ]
 
@@ -108,17 +108,17 @@ growth_still D D' cuts g lowered h = record {
   reached = All-weaker (λ v. Reaches D [] v D.root) (λ v. Reaches D' [] v D'.root) (λ v reached. subst (Reaches D' [] v) (sym lowered.root) (reaches_over D D' [] [] (used_still D D' cuts lowered) v D.root reached)) g.reached.members h.reached;
 }
 
--- they open nothing
-open_before : (D : Digraph) (E : Ends) (cuts : List Cut) (v : ℕ) → IsOpen D E cuts v → IsOpen D E [] v
-open_before D E cuts v (inl must) = inl must
-open_before D E cuts v (inr left) = inr (omega (arith, left))
+-- they make nothing raisable
+raisable_before : (D : Digraph) (E : Ends) (cuts : List Cut) (v : ℕ) → IsRaisable D E cuts v → IsRaisable D E [] v
+raisable_before D E cuts v (inl must) = inl must
+raisable_before D E cuts v (inr left) = inr (omega (arith, left))
 
 -- the first one has its turn, is raised, and waits again
 pub waiting_again : (D D' : Digraph) (E E' : Ends) (room : ℕ) (cuts : List Cut) (rest queue' : List Entry) (e e' : Entry) (c : Cut) → IsRaise D E room [] c → c.q ≡ e.0.vertex → AreLowered D D' (c ∷ []) → AreSpent E E' (c ∷ [])
     → IsPermutation (e' ∷ rest) queue' → e'.0.vertex ≡ e.0.vertex → e'.0.last ≡ Some (length cuts) → AreWaiting D E cuts (e ∷ rest) → AreWaiting D' E' (cuts ++ c ∷ []) queue'
 waiting_again D D' E E' room cuts rest queue' e e' c raise q lowered spent pushed vertex last h = record {
   each = All-permutation (λ (x : Entry). IsWaiting D' (cuts ++ c ∷ []) x.0) (e' ∷ rest) queue' pushed (All-cons (λ (x : Entry). IsWaiting D' (cuts ++ c ∷ []) x.0) e' rest new (All-weaker (λ (x : Entry). IsWaiting D cuts x.0) (λ (x : Entry). IsWaiting D' (cuts ++ c ∷ []) x.0) (λ x. still x.0) rest rest_before));
-  others = λ v open_at. elim (h.others v (open_before D E (c ∷ []) v (open_behind D D' E E' (c ∷ []) lowered spent v open_at))) [ inl waiting ↦ inl (same_wait v ∙ waiting) | inr reached ↦ inr (subst (Reaches D' [] v) (sym lowered.root) (more v D.root reached)) ];
+  others = λ v open_at. elim (h.others v (raisable_before D E (c ∷ []) v (raisable_after D D' E E' (c ∷ []) lowered spent v open_at))) [ inl waiting ↦ inl (same_wait v ∙ waiting) | inr reached ↦ inr (subst (Reaches D' [] v) (sym lowered.root) (more v D.root reached)) ];
 }
   where
     more : (w v : ℕ) → Reaches D [] w v → Reaches D' [] w v
@@ -152,6 +152,6 @@ waiting_again D D' E E' room cuts rest queue' e e' c raise q lowered spent pushe
     same_wait : (v : ℕ) → waits queue' v ≡ waits (e ∷ rest) v
     same_wait v = sym (list_any-IsPermutation (λ (x : Entry). x.0.vertex == v) (e' ∷ rest) queue' pushed) ∙ ap (λ (w : ℕ). (w == v) || waits rest v) vertex
 
--- where none waits, all that are open are reached
-pub none_waiting : (D : Digraph) (E : Ends) (cuts : List Cut) → AreWaiting D E cuts [] → (v : ℕ) → IsOpen D E [] v → Reaches D [] v D.root
+-- where none waits, all that are raisable are reached
+pub none_waiting : (D : Digraph) (E : Ends) (cuts : List Cut) → AreWaiting D E cuts [] → (v : ℕ) → IsRaisable D E [] v → Reaches D [] v D.root
 none_waiting D E cuts h v open_at = elim (h.others v open_at) [ inl waiting ↦ absurd (false≢true waiting) | inr reached ↦ reached ]

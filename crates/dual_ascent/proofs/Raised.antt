@@ -58,7 +58,7 @@ split_push {X} (a ∷ xs) x (b ∷ before) y after e =
       | inr earlier ↦ inr (earlier.0, let lists : xs ≡ before ++ y ∷ earlier.0 = earlier.1 in cc)
     ]
 
--- raises and one more behind them
+-- raises and one more after them
 pub raises_push : (D : Digraph) (E : Ends) (target : ℕ) (cuts : List Cut) (c : Cut) → AreRaises D E target cuts → IsRaise D E target cuts c → AreRaises D E target (cuts ++ c ∷ [])
 raises_push D E target cuts c h new before d after e =
     elim (split_push cuts c before d after e) [

@@ -10,8 +10,8 @@ use Rattle.st_model.specs.Network.{IsVertex}
 use Rattle.st_model.specs.VertexSet.{Extends}
 use Rattle.st_model.proofs.Extending.{Extends-insert}
 use Rattle.st_model.proofs.Marked.{at_member, has-push, place_of}
-use Rattle.vertex_lists.specs.Led.{IsLed, AreLed, start, along}
-use Rattle.vertex_lists.proofs.Walked.{IsWalked, IsWalked-step, AreLed-done}
+use Rattle.st_model.specs.Led.{IsLed, AreLed, start, along}
+use Rattle.st_model.proofs.Walked.{IsWalked, IsWalked-step, AreLed-done}
 use Rattle.bidirected_form.specs.declared.arc.Arc.{Arc}
 use Rattle.bidirected_form.specs.Digraph.{Digraph, IsDigraph, arcs_into, left_from, remaining}
 use Rattle.bidirected_form.proofs.Lookups.{Rise, Rise-rest, left_from-found}

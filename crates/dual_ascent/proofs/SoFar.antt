@@ -14,8 +14,8 @@ use Rattle.cut_packing.specs.declared.packing.Packing.{Packing}
 use Rattle.dual_ascent.specs.declared.ascent.Ascent.TheVariants.{Full, Reached}
 use Rattle.dual_ascent.specs.Ascent.{IsAscent, IsAscended, ReachesAll}
 use Rattle.dual_ascent.specs.Left.{AreEndsOf, AreLowered, AreSpent, raised}
-use Rattle.dual_ascent.specs.Raises.{IsUsedUp, Reaches, IsOpen, UsesUpAnArc, ReachesTarget, SpendsThePrize, IsLeast, IsRaise, AreRaises}
-use Rattle.dual_ascent.proofs.ChargedCuts.{AreLowered-none, AreLowered-append, AreSpent-none, AreSpent-append, before_taking, kinds_kept, open_behind}
+use Rattle.dual_ascent.specs.Raises.{IsUsedUp, Reaches, IsRaisable, UsesUpAnArc, ReachesTarget, SpendsThePrize, IsLeast, IsRaise, AreRaises}
+use Rattle.dual_ascent.proofs.ChargedCuts.{AreLowered-none, AreLowered-append, AreSpent-none, AreSpent-append, before_taking, kinds_kept, raisable_after}
 use Rattle.dual_ascent.proofs.Raised.{nil_apart, raises_load, raises_push}
 use Rattle.dual_ascent.proofs.Reaching.{reaches_over}
 
@@ -38,7 +38,7 @@ none_so_far D E target = record {
 }
 
 module _ (D D' : Digraph) (E E' : Ends) (target room : ℕ) (cuts : List Cut) (h : AreSoFar D D' E E' target room cuts) where
-  -- what remains of an arc, before the cuts and behind them
+  -- what remains of an arc, before the cuts and after them
   left_is : (u v r : ℕ) → remaining D u v ≡ Some r → remaining D' u v ≡ Some (r - load cuts (u, v))
   left_is u v r is = h.arcs.remaining u v ∙ ap (option_map (λ r. r - load cuts (u, v))) is
 
@@ -57,14 +57,14 @@ module _ (D D' : Digraph) (E E' : Ends) (target room : ℕ) (cuts : List Cut) (h
   kinds_same : (v : ℕ) → kind_of D' v ≡ kind_of D v
   kinds_same = kinds_kept D D' cuts h.arcs
 
-  -- a vertex that is open behind the cuts is open over what they leave
-  pub open_now : (v : ℕ) → IsOpen D E cuts v → IsOpen D' E' [] v
+  -- a vertex that is raisable after the cuts is raisable over what they leave
+  pub open_now : (v : ℕ) → IsRaisable D E cuts v → IsRaisable D' E' [] v
   open_now v (inl must) = inl (kinds_same v ∙ must)
   open_now v (inr left) = inr (omega (arith, left, h.ends.left v))
 
-  -- a raise over what the cuts leave is a raise behind them
-  least_behind : (c : Cut) → 0 < c.y → IsLeast D' E' room [] c → IsLeast D E target cuts c
-  least_behind c positive l = record {
+  -- a raise over what the cuts leave is a raise after them
+  least_after : (c : Cut) → 0 < c.y → IsLeast D' E' room [] c → IsLeast D E target cuts c
+  least_after c positive l = record {
     arcs = λ u v r entering is. omega (arith, l.arcs u v (r - load cuts (u, v)) entering (left_is u v r is), positive);
     room = omega (arith, l.room, h.sum);
     prize = λ may. omega (arith, positive, l.prize (λ must. may (sym (kinds_same c.q) ∙ must)), h.ends.left c.q);
@@ -76,14 +76,14 @@ module _ (D D' : Digraph) (E E' : Ends) (target room : ℕ) (cuts : List Cut) (h
       by_case (inr (inl all)) = inr (inl (omega (arith, all, h.sum)))
       by_case (inr (inr spent)) = inr (inr (λ must. spent.0 (kinds_same c.q ∙ must), omega (arith, positive, spent.1, h.ends.left c.q)))
 
-  pub raise_behind : (c : Cut) → IsRaise D' E' room [] c → IsRaise D E target cuts c
-  raise_behind c r = record {
-    still_open = open_behind D D' E E' cuts h.arcs h.ends c.q r.still_open;
+  pub raise_after : (c : Cut) → IsRaise D' E' room [] c → IsRaise D E target cuts c
+  raise_after c r = record {
+    raisable = raisable_after D D' E E' cuts h.arcs h.ends c.q r.raisable;
     set = subst (λ (n : ℕ). IsVertexSet n c.set) h.arcs.count r.set;
     exact = λ v. (λ held. reaches_over D' D [] cuts used_before c.q v ((r.exact v).0 held), λ reaching. (r.exact v).1 (reaches_over D D' cuts [] used_now c.q v reaching));
     apart = subst (λ (root : ℕ). IsFalse (has c.set root)) h.arcs.root r.apart;
     positive = r.positive;
-    least = least_behind c r.positive r.least;
+    least = least_after c r.positive r.least;
   }
 
   -- the ends are still those of the vertices that may be left out
@@ -107,8 +107,8 @@ module _ (D D' : Digraph) (E E' : Ends) (target room : ℕ) (cuts : List Cut) (h
   pub ends_reached : (P : Packing) → P ≡ record { root = Some D'.root; cuts = cuts } → target < 2 ^ 64 → room ≤ 0 → IsAscent D D' E E' target (Reached P)
   ends_reached P is small none = (ascended P is small, omega (arith, h.sum, none, ap (λ (p : Packing). raised p.cuts) is))
 
-  -- it isn't, and over what is left the root reaches each vertex that is open
-  pub ends_full : (P : Packing) → P ≡ record { root = Some D'.root; cuts = cuts } → target < 2 ^ 64 → 0 < room → ((v : ℕ) → IsOpen D' E' [] v → Reaches D' [] v D'.root) → IsAscent D D' E E' target (Full P)
+  -- it isn't, and over what is left the root reaches each vertex that is raisable
+  pub ends_full : (P : Packing) → P ≡ record { root = Some D'.root; cuts = cuts } → target < 2 ^ 64 → 0 < room → ((v : ℕ) → IsRaisable D' E' [] v → Reaches D' [] v D'.root) → IsAscent D D' E E' target (Full P)
   ends_full P is small some all = (ascended P is small, omega (arith, h.sum, some, ap (λ (p : Packing). raised p.cuts) is), subst (λ (p : Packing). ReachesAll D E p.cuts) (sym is) all_before)
     where
       all_before : ReachesAll D E cuts
@@ -117,7 +117,7 @@ module _ (D D' : Digraph) (E E' : Ends) (target room : ℕ) (cuts : List Cut) (h
   -- so the cuts with that one more are raises too, if arcs and prizes fall by it
   pub one_more : (D'' : Digraph) (E'' : Ends) (c : Cut) → IsRaise D' E' room [] c → AreLowered D' D'' (c ∷ []) → AreSpent E' E'' (c ∷ []) → AreSoFar D D'' E E'' target (room - c.y) (cuts ++ c ∷ [])
   one_more D'' E'' c r lowered spent = record {
-    raises = raises_push D E target cuts c h.raises (raise_behind c r);
+    raises = raises_push D E target cuts c h.raises (raise_after c r);
     arcs = AreLowered-append D D' D'' cuts (c ∷ []) h.arcs lowered;
     ends = AreSpent-append E E' E'' cuts (c ∷ []) h.ends spent;
     sum = omega (arith, more, h.sum, r.least.room);

@@ -7,11 +7,11 @@ use Rattle.cut_packing.specs.declared.packing.Packing.{Packing}
 use Rattle.dual_ascent.specs.declared.ascent.Ascent.{Ascent}
 use Rattle.dual_ascent.specs.declared.ascent.Ascent.TheVariants.{Full, Reached}
 use Rattle.dual_ascent.specs.Left.{AreLowered, AreSpent, raised}
-use Rattle.dual_ascent.specs.Raises.{AreRaises, IsOpen, Reaches}
+use Rattle.dual_ascent.specs.Raises.{AreRaises, IsRaisable, Reaches}
 
 -- from the root each vertex is reached that has to be, or of whose prize something is left
 abbrev pub ReachesAll : Digraph → Ends → List Cut → Type 0
-ReachesAll D E cuts = (v : ℕ) → IsOpen D E cuts v → Reaches D cuts v D.root
+ReachesAll D E cuts = (v : ℕ) → IsRaisable D E cuts v → Reaches D cuts v D.root
 
 -- raises for the root, by which alone the arcs and prizes are lower than before
 pub record IsAscended (D D' : Digraph) (E E' : Ends) (target : ℕ) (P : Packing) : Type 0 where

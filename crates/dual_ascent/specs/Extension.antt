@@ -1,5 +1,5 @@
 -- What an ascent makes of a packing.
-use Rattle.std.specs.Prelude.{◌≡◌, ℕ, ◌+◌, ◌^◌, ◌≤◌, ◌<◌, ◌⊎◌, IsTrue, [], length, All, Some}
+use Rattle.std.specs.Prelude.{◌≡◌, ℕ, Bool, true, false, ◌+◌, ◌^◌, ◌≤◌, ◌<◌, ◌⊎◌, IsTrue, [], length, All, Some}
 use Rattle.st_model.specs.declared.branch.Branch.{Branch}
 use Rattle.st_model.specs.Network.{Network, IsVertex}
 use Rattle.st_model.specs.Branch.{IsVertexSet, IsBranch, LeavesRequired, is_certain}
@@ -40,3 +40,8 @@ IsExtension I B P root target (Reached new) = IsExtended I B P new root × (weig
 abbrev pub packing_of : Ascent → Packing
 packing_of (Full P) = P
 packing_of (Reached P) = P
+
+-- whether the cuts reach the target
+abbrev pub has_reached : Ascent → Bool
+has_reached (Full P) = false
+has_reached (Reached P) = true

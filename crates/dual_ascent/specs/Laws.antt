@@ -9,11 +9,12 @@ use Rattle.prize_transform.specs.Twins.{Ends}
 use Rattle.cut_packing.specs.declared.packing.Packing.{Packing}
 use Rattle.cut_packing.specs.Packing.{Fits, weight}
 use Rattle.cut_packing.specs.Full.{IsFull}
-use Rattle.dual_ascent.specs.Left.{IsWhole, AreLeft, AreEndsOf, raised}
+use Rattle.graph_store.specs.Whole.{IsWhole}
+use Rattle.dual_ascent.specs.Left.{AreLeft, AreEndsOf, raised}
 use Rattle.dual_ascent.specs.Raises.{AreRaises}
 use Rattle.dual_ascent.specs.Ascent.{ReachesAll}
 
--- the packing with the cuts of another behind its own, and the other's root
+-- the packing with the cuts of another after its own, and the other's root
 abbrev pub joined : Packing → Packing → Packing
 joined P A = record { root = A.root; cuts = P.cuts ++ A.cuts }
 

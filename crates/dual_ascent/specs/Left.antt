@@ -5,7 +5,7 @@ use Rattle.st_model.specs.declared.branch.Branch.{Branch}
 use Rattle.st_model.specs.Lists.{has, total}
 use Rattle.st_model.specs.Network.{IsVertex}
 use Rattle.st_model.specs.Branch.{IsVertexSet}
-use Rattle.graph_store.specs.Graph.{Graph, is_in}
+use Rattle.graph_store.specs.Graph.{Graph}
 use Rattle.bidirected_form.specs.declared.kind.VertexKind.TheVariants.{Must}
 use Rattle.bidirected_form.specs.Bidirected.{kind_in, arc_cost}
 use Rattle.bidirected_form.specs.Digraph.{Digraph, kind_of, neighbours, remaining}
@@ -38,10 +38,6 @@ pub record AreBorne (D : Digraph) (E : Ends) (cuts : List Cut) : Type 0 where
   pub sets : All (λ c. IsVertexSet D.n c.set × IsFalse (has c.set D.root)) cuts
   pub arcs : (u v r : ℕ) → remaining D u v ≡ Some r → load cuts (u, v) ≤ r
   pub prizes : (v : ℕ) → kind_of D v ≢ Must → named cuts v ≤ left_of E v
-
--- no vertex is gone
-abbrev pub IsWhole : Graph → Type 0
-IsWhole g = (v : ℕ) → IsVertex g.network.n v → IsTrue (is_in g v)
 
 -- the arcs and prizes are what the cuts leave of those of a branch
 pub record AreLeft (g : Graph) (B : Branch) (cuts : List Cut) (D : Digraph) (E : Ends) : Type 0 where

@@ -20,8 +20,8 @@ pub data Reaches (D : Digraph) (cuts : List Cut) (q : ℕ) : ℕ → Type 0 wher
   there : {u v : ℕ} → IsUsedUp D cuts u v → Reaches D cuts q v → Reaches D cuts q u
 
 -- q has to be reached, or the cuts leave something of its prize
-abbrev pub IsOpen : Digraph → Ends → List Cut → ℕ → Type 0
-IsOpen D E cuts q = (kind_of D q ≡ Must) ⊎ (named cuts q < left_of E q)
+abbrev pub IsRaisable : Digraph → Ends → List Cut → ℕ → Type 0
+IsRaisable D E cuts q = (kind_of D q ≡ Must) ⊎ (named cuts q < left_of E q)
 
 -- some arc that enters the cut's set has nothing left
 pub record UsesUpAnArc (D : Digraph) (before : List Cut) (c : Cut) : Type 0 where
@@ -46,15 +46,15 @@ pub record IsLeast (D : Digraph) (E : Ends) (target : ℕ) (before : List Cut) (
   pub prize : kind_of D c.q ≢ Must → named before c.q + c.y ≤ left_of E c.q
   pub attained : UsesUpAnArc D before c ⊎ ReachesTarget target before c ⊎ SpendsThePrize D E before c
 
--- one more cut behind those before: round all that reaches a vertex q which the root doesn't reach
+-- one more cut after those before: round all that reaches a vertex q which the root doesn't reach
 pub record IsRaise (D : Digraph) (E : Ends) (target : ℕ) (before : List Cut) (c : Cut) : Type 0 where
-  pub still_open : IsOpen D E before c.q
+  pub raisable : IsRaisable D E before c.q
   pub set : IsVertexSet D.n c.set
   pub exact : (v : ℕ) → IsTrue (has c.set v) ↔ Reaches D before c.q v
   pub apart : IsFalse (has c.set D.root)
   pub positive : 0 < c.y
   pub least : IsLeast D E target before c
 
--- each cut is a raise behind those before it
+-- each cut is a raise after those before it
 abbrev pub AreRaises : Digraph → Ends → ℕ → List Cut → Type 0
 AreRaises D E target cuts = (before : List Cut) (c : Cut) (after : List Cut) → cuts ≡ before ++ c ∷ after → IsRaise D E target before c

@@ -16,7 +16,7 @@ use Rattle.cut_packing.specs.declared.cut.Cut.{Cut}
 use Rattle.dual_ascent.specs.declared.growing.Growth.{Growth}
 use Rattle.dual_ascent.specs.declared.turning.Turn.{Turn}
 use Rattle.dual_ascent.specs.declared.waiting.Waiting.{Waiting}
-use Rattle.dual_ascent.specs.Raises.{IsOpen, Reaches}
+use Rattle.dual_ascent.specs.Raises.{IsRaisable, Reaches}
 
 -- the tails of the arcs with nothing left
 abbrev pub free_tails : List Arc → List ℕ
@@ -58,10 +58,10 @@ Entry = Reverse Waiting
 abbrev pub waits : List Entry → ℕ → Bool
 waits queue v = list_any (λ e. e.0.vertex == v) queue
 
--- each open vertex waits, or is reached from the root
+-- each raisable vertex waits, or is reached from the root
 pub record AreWaiting (D : Digraph) (E : Ends) (cuts : List Cut) (queue : List Entry) : Type 0 where
   pub each : All (λ e. IsWaiting D cuts e.0) queue
-  pub others : (v : ℕ) → IsOpen D E [] v → IsTrue (waits queue v) ⊎ Reaches D [] v D.root
+  pub others : (v : ℕ) → IsRaisable D E [] v → IsTrue (waits queue v) ⊎ Reaches D [] v D.root
 
 -- whoever waits in the one queue waits in the other
 abbrev pub KeepsWaiting : Digraph → List Cut → List Entry → List Entry → Type 0

@@ -7,7 +7,7 @@ use crate::charging::charge_cut;
 use crate::growing::Growth;
 use crate::raising::raise_for;
 use crate::turning::next_fresh;
-use crate::waiting::{Waiting, all_open};
+use crate::waiting::{Waiting, all_raisable};
 use bidirected_form::Arcs;
 use cut_packing::{Cut, Packing};
 use prize_transform::Twins;
@@ -31,7 +31,7 @@ pub fn ascend(
     ensures { IfOk result (IsAscent arcs.old arcs.new twins.old twins.new target) }
 {
     let mut cuts = Vec::new(alloc);
-    let mut queue = all_open(alloc, arcs, twins, order)?;
+    let mut queue = all_raisable(alloc, arcs, twins, order)?;
     let mut growth = Growth::start(alloc, arcs)?;
     let mut room = target;
     while room > 0 {

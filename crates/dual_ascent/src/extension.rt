@@ -6,20 +6,21 @@ ghost use Rattle.bidirected_form.specs.Digraph.{remaining};
 ghost use Rattle.cut_packing.specs.Packing.{load};
 ghost use Rattle.dual_ascent.specs.Extension.{IsStart, IsRootFor, IsExtension, packing_of};
 ghost use Rattle.dual_ascent.specs.Laws.{joined};
-ghost use Rattle.dual_ascent.specs.Left.{IsWhole, AreLeft, AreEndsOf};
+ghost use Rattle.graph_store.specs.Whole.{IsWhole};
+ghost use Rattle.dual_ascent.specs.Left.{AreLeft, AreEndsOf};
 
 use crate::{Ascent, ascend, charge_cuts};
 use bidirected_form::Arcs;
 use cut_packing::Packing;
 use graph_store::Store;
 use prize_transform::Twins;
-use st_model::{Branch, Listed};
+use st_model::{Listed, Sides};
 use std::alloc::{AllocError, Global};
 
 /// What an ascent makes of a packing.
 #[derive(Drop)]
 pub struct Extension {
-    /// The packing's cuts and those of the ascent behind them.
+    /// The packing's cuts and then those of the ascent.
     pub ascent: Ascent,
     /// The branch's arcs with what all these cuts leave of them.
     pub arcs: Arcs,
@@ -30,7 +31,7 @@ pub struct Extension {
 pub fn extend(
     alloc: Global,
     store: &Store,
-    branch: &Branch,
+    branch: &Sides,
     packing: Packing,
     root: u32,
     order: &[u32],
@@ -41,7 +42,9 @@ pub fn extend(
     requires root { IsRootFor store.now.network branch.now packing root }
     ensures extended { IfOk result (λ e. IsExtension store.now.network branch.now packing root target e.ascent) }
     ensures count { IfOk result (λ e. e.arcs.n ≡ store.now.network.n) }
-    ensures left { IfOk result (λ e. (u v : ℕ) → remaining e.arcs u v ≡ option_map (λ cost. cost - load (packing_of e.ascent).cuts (u, v)) (arc_cost store.now branch.now u v)) }
+    ensures left { IfOk result (λ e. (u v : ℕ) → remaining e.arcs u v
+        ≡ option_map (λ cost. cost - load (packing_of e.ascent).cuts (u, v))
+        (arc_cost store.now branch.now u v)) }
 {
     let (mut arcs, mut twins) = left_by(alloc, store, branch, &packing, root)?;
     match ascend(alloc, &mut arcs, &mut twins, order, target)? {
@@ -60,7 +63,7 @@ pub fn extend(
 fn left_by(
     alloc: Global,
     store: &Store,
-    branch: &Branch,
+    branch: &Sides,
     packing: &Packing,
     root: u32,
 ) -> Result<(Arcs, Twins), AllocError>
@@ -79,7 +82,7 @@ fn left_by(
     Ok((arcs, twins))
 }
 
-// The cuts of a packing with those of another behind them, and the other's root.
+// The cuts of a packing and then those of another, and the other's root.
 fn join(packing: Packing, found: Packing) -> Result<Packing, AllocError>
     ensures joined { IfOk result (λ both. both ≡ joined packing found) }
     ensures few { IfOk result (λ both. length both.cuts < 2 ^ 64) }

@@ -45,7 +45,8 @@ impl Growth {
         ensures growth { OnOk result (IsGrowth arcs.now self.new) }
         ensures reached { IfOk result (λ met. MatchBool met
             (Reaches arcs.now [] waiting.now.vertex arcs.now.root)
-            (IsGrown arcs.now waiting.now.vertex self.new.set.members × IsFalse (has self.new.set.members arcs.now.root))) }
+            (IsGrown arcs.now waiting.now.vertex self.new.set.members
+            × IsFalse (has self.new.set.members arcs.now.root))) }
     {
         let met = gather(arcs, cuts, &mut self.set, &self.reached, waiting)?;
         if met {

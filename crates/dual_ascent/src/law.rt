@@ -1,6 +1,6 @@
 ghost use Rattle.dual_ascent.specs.Laws.{JoinedFits, JoinedIsFull};
 
-/// The cuts of an ascent behind those of a packing that was charged before fit the branch.
+/// The cuts of an ascent after those of a packing that was charged before fit the branch.
 pub fn joined_fits()
     ensures { JoinedFits }
 {}

@@ -2,12 +2,12 @@ ghost use Rattle.std.specs.Prelude.{◌≡◌, ℕ, ◌+◌, ◌<◌, ◌≤◌,
 ghost use Rattle.std.specs.List.Sorted.{IsStrictlyIncreasing};
 ghost use Rattle.st_model.specs.Lists.{has};
 ghost use Rattle.st_model.specs.Network.{IsVertex};
-ghost use Rattle.dual_ascent.specs.Raises.{IsOpen, IsRaise, Reaches};
+ghost use Rattle.dual_ascent.specs.Raises.{IsRaisable, IsRaise, Reaches};
 ghost use Rattle.dual_ascent.specs.Turns.{IsLimit, IsLooked};
 
 use crate::border::border_of;
 use crate::turning::Turn;
-use crate::waiting::{is_certain, is_open};
+use crate::waiting::{is_certain, is_raisable};
 use bidirected_form::Arcs;
 use cut_packing::Cut;
 use prize_transform::Twins;
@@ -23,7 +23,7 @@ pub struct Raise {
 }
 
 // A cut round the set in hand, which is all that reaches the vertex whose turn it is, for at most
-// so much; none where the vertex isn't open or the root reaches it.
+// so much; none where the vertex isn't raisable or the root reaches it.
 pub fn raise_for(
     alloc: Global,
     arcs: &Arcs,
@@ -37,11 +37,12 @@ pub fn raise_for(
     requires looked { IsLooked arcs.now set.now.members turn.now.waiting.vertex turn.now.is_reached }
     requires room { 0 < room }
     ensures { IfOk result (λ found. MatchOption found
-        (IsOpen arcs.now twins.now [] turn.now.waiting.vertex → Reaches arcs.now [] turn.now.waiting.vertex arcs.now.root)
+        (IsRaisable arcs.now twins.now [] turn.now.waiting.vertex
+        → Reaches arcs.now [] turn.now.waiting.vertex arcs.now.root)
         (λ raise. IsRaise arcs.now twins.now room [] raise.cut × (raise.cut.q ≡ turn.now.waiting.vertex))) }
 {
     let q = turn.waiting.vertex;
-    if turn.is_reached || !is_open(arcs, twins, q) {
+    if turn.is_reached || !is_raisable(arcs, twins, q) {
         return Ok(None);
     }
     let border = border_of(arcs, set, limit(arcs, twins, q, room));

@@ -3,7 +3,7 @@ ghost use Rattle.std.specs.BinaryHeap.{heap_items, heap_len};
 ghost use Rattle.st_model.specs.Network.{IsVertex};
 ghost use Rattle.bidirected_form.specs.Digraph.{kind_of};
 ghost use Rattle.dual_ascent.specs.Left.{AreEndsOf};
-ghost use Rattle.dual_ascent.specs.Raises.{IsOpen};
+ghost use Rattle.dual_ascent.specs.Raises.{IsRaisable};
 ghost use Rattle.dual_ascent.specs.Turns.{AreWaiting};
 
 use bidirected_form::{Arcs, VertexKind};
@@ -15,7 +15,7 @@ use std::collections::BinaryHeap;
 // A vertex that waits to be raised. The least comes first.
 #[derive(Clone, Copy, PartialEq, Eq, PartialOrd, Ord)]
 pub struct Waiting {
-    // Its place in the order that was asked for; one behind all places, if it has none.
+    // Its place in the order that was asked for; a place after all, if it has none.
     pub place: usize,
     // How many arcs entered its set when that was last looked at.
     pub entering: usize,
@@ -38,15 +38,15 @@ pub fn is_certain(arcs: &Arcs, vertex: u32) -> bool
 }
 
 // Whether a vertex has to be reached, or something of its prize is left.
-pub fn is_open(arcs: &Arcs, twins: &Twins, vertex: u32) -> bool
+pub fn is_raisable(arcs: &Arcs, twins: &Twins, vertex: u32) -> bool
     requires { IsVertex arcs.now.n vertex }
-    ensures { IsTrue result ↔ IsOpen arcs.now twins.now [] vertex }
+    ensures { IsTrue result ↔ IsRaisable arcs.now twins.now [] vertex }
 {
     is_certain(arcs, vertex) || twins.left(vertex) > 0
 }
 
-// All that are open.
-pub fn all_open(
+// All that are raisable.
+pub fn all_raisable(
     alloc: Global,
     arcs: &Arcs,
     twins: &Twins,
@@ -59,7 +59,7 @@ pub fn all_open(
     let mut queue = BinaryHeap::new(alloc);
     for before in 0..arcs.vertices() {
         let vertex = before + 1;
-        if is_open(arcs, twins, vertex) {
+        if is_raisable(arcs, twins, vertex) {
             queue.push(Reverse(Waiting {
                 place: places[vertex as usize],
                 entering: arcs.neighbours(vertex).len(),
@@ -71,7 +71,7 @@ pub fn all_open(
     Ok(queue)
 }
 
-// By vertex, its first place in the order, or one behind all places.
+// By vertex, its first place in the order, or a place after all.
 fn places_of(alloc: Global, vertices: u32, order: &[u32]) -> Result<Vec<usize>, AllocError>
     requires { vertices < 2 ^ 32 - 1 }
     ensures { IfOk result (λ places. length places.items ≡ vertices + 1) }
@@ -87,7 +87,8 @@ fn places_of(alloc: Global, vertices: u32, order: &[u32]) -> Result<Vec<usize>, 
 
 // The vertex whose turn it is.
 pub fn next(queue: &mut Queue) -> Option<Waiting>
-    ensures moved { IfSome result (λ w. IsPermutation (heap_items queue.old) (record { 0 = w } ∷ heap_items queue.new)) }
+    ensures moved { IfSome result
+        (λ w. IsPermutation (heap_items queue.old) (record { 0 = w } ∷ heap_items queue.new)) }
     ensures len { OnSome result (heap_len queue.new + 1 ≡ heap_len queue.old) }
     ensures empty { IfNone result (heap_items queue.old ≡ []) }
 {

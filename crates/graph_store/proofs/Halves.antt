@@ -114,7 +114,7 @@ module _ (old new : List Half) (place : ℕ) (taken : IsTaken old new place) whe
                 let not_last : k ≡ length old - 1 → ⊥ = λ e. (let both : ◌≡◌ {A = Option Half} (Some (record { to = w; cost = cost })) (Some moved) = sym f.1 ∙ ap (slice_get old) e ∙ last in let halves : moved ≡ (record { to = w; cost = cost }) = cc in other (sym (ap (λ (h : Half). h.to) halves))) in
                 kept k _ f.0 (omega arith) f.1
 
--- a half behind the others, and the place of its link
+-- a half after the others, and the place of its link
 pub AreHalves-push : (old new : List Half) (P Q : ℕ → Option (ℕ × ℕ)) (to cost : ℕ) → ((k : ℕ) → slice_get new k ≡ cond (eqb k (length old)) (Some (record { to = to; cost = cost })) (slice_get old k)) → AreHalves old P → P to ≡ None
     → ((w : ℕ) → Q w ≡ cond (eqb w to) (Some (length old, cost)) (P w)) → AreHalves new Q
 AreHalves-push old new P Q to cost pushed halves none turns = record { placed = placed; found = found }

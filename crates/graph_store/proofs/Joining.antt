@@ -1,19 +1,15 @@
 -- A link put in with its halves, and a link that costs less, step by step.
-use Rattle.std.proofs.Common.{◌≡◌, ℕ, ◌+◌, ◌-◌, ◌<◌, Bool, true, false, cond, eqb, List, [], ◌∷◌, ◌++◌, length, take, slice_get, Some, None, option_map, Result, Ok, Err, OnOk, OnErr, is_err, is_some, refl, sym, ap, ◌∙◌, arith}
+use Rattle.std.proofs.Common.{◌≡◌, ℕ, ◌-◌, ◌<◌, Bool, true, false, cond, eqb, List, [], ◌∷◌, ◌++◌, length, take, slice_get, Some, None, option_map, Result, Ok, Err, OnOk, OnErr, is_err, refl, ap, ◌∙◌, arith}
 use Rattle.std.proofs.lemmas.Bool.Decides.{nat_tests}
-use Rattle.std.specs.Prelude.{All}
-use Rattle.std.specs.Map.{keys_of, lookup, set_value}
-use Rattle.st_model.specs.Lists.{total}
-use Rattle.st_model.specs.Network.{link}
+use Rattle.std.specs.Map.{lookup, set_value}
 use Rattle.graph_store.specs.declared.half.Half.{Half}
 use Rattle.graph_store.specs.declared.joints.Joint.{Joint}
 use Rattle.graph_store.specs.Changes.{are_ends}
-use Rattle.graph_store.specs.Joined.{Entry, is_pair, joint_of, place_of, place_in, links_of, AreHalves, IsOrdered, with_cost}
-use Rattle.graph_store.proofs.Pairs.{ends_ordered}
+use Rattle.graph_store.specs.Joined.{Entry, is_pair, joint_of, place_of, place_in, AreHalves, with_cost}
 use Rattle.graph_store.proofs.ListLemmas.{slice_get-push, take-push}
 use Rattle.graph_store.proofs.Halves.{AreHalves-same, AreHalves-push, AreHalves-cost}
-use Rattle.graph_store.proofs.JointLemmas.{joint_of-set_value, place_of-set_cost}
-use Rattle.graph_store.proofs.Links.{IsTold, link-joint, joint_of-turned, place_of-pushed, place_of-pushed_high, place_of-pushed_others}
+use Rattle.graph_store.proofs.JointLemmas.{place_of-set_cost}
+use Rattle.graph_store.proofs.LinkLemmas.{IsTold, joint_of-turned, place_of-pushed, place_of-pushed_high, place_of-pushed_others}
 
 -- what holds on Ok, where there is no error
 pub on_ok : {X E : Type 0} (r : Result X E) (P : Type 0) → is_err r ≡ false → OnOk r P → P
@@ -94,22 +90,3 @@ module _ (es new : List Entry) (low high : ℕ) (before : low < high) (H : ℕ �
           let low' : v ≡ low → ⊥ = λ e. grind (arith, nat_tests) in
           let high' : v ≡ high → ⊥ = λ e. grind (arith, nat_tests) in
           AreHalves-same (H v) (H2 v) (place_of es v) (place_of new v) (others2 v high' ∙ others1 v low') (λ w. places v w ∙ (let other : are_ends low high v w ≡ false = grind (arith, nat_tests) in ap (λ b. cond b (option_map (λ (p : ℕ × ℕ). (p.0, cost)) (place_of es v w)) (place_of es v w)) other)) (halves v)
-
--- the links once one of them costs something else
-pub link-put : (es new : List Entry) (low high : ℕ) (was joint : Joint) → low < high → lookup (is_pair low high) es ≡ Some was → new ≡ set_value (is_pair low high) es joint → All IsOrdered (keys_of es) → All IsOrdered (keys_of new) → (x y : ℕ) → link (links_of new) x y ≡ cond (are_ends low high x y) (Some joint.cost) (link (links_of es) x y)
-link-put es new low high was joint before at is ordered ordered_new x y =
-    link-joint new x y ordered_new ∙ ap (option_map (λ (j : Joint). j.cost)) (ap (λ (es : List Entry). joint_of es x y) is ∙ joint_of-set_value low high es joint x y (ap is_some at) ∙ ap (λ b. cond b (Some joint) (joint_of es x y)) (sym (ends_ordered low high x y before)))
-    ∙ rw (link-joint es x y ordered) (split (are_ends low high x y))
-  where
-    split : (t : Bool) → option_map (λ joint. joint.cost) (cond t (Some joint) (joint_of es x y)) ≡ cond t (Some joint.cost) (option_map (λ (joint : Joint). joint.cost) (joint_of es x y))
-    split true = refl
-    split false = refl
-
--- and what they cost together
-pub total-set_value : (t : ℕ × ℕ → Bool) (es : List Entry) (was joint : Joint) → lookup t es ≡ Some was → total (λ l. l.cost) (links_of (set_value t es joint)) + was.cost ≡ total (λ l. l.cost) (links_of es) + joint.cost
-total-set_value t [] was joint at = cc
-total-set_value t (e ∷ es) was joint at = by_case (t e.0) refl at (total-set_value t es was joint)
-  where
-    by_case : (b : Bool) → t e.0 ≡ b → cond b (Some e.1) (lookup t es) ≡ Some was → (lookup t es ≡ Some was → total (λ l. l.cost) (links_of (set_value t es joint)) + was.cost ≡ total (λ l. l.cost) (links_of es) + joint.cost) → total (λ l. l.cost) (links_of (cond b ((e.0, joint) ∷ es) (e ∷ set_value t es joint))) + was.cost ≡ e.1.cost + total (λ l. l.cost) (links_of es) + joint.cost
-    by_case true is at rest = let value : e.1 ≡ was = cc in let cost = ap (λ (j : Joint). j.cost) value in omega arith
-    by_case false is at rest = let more = rest at in omega arith

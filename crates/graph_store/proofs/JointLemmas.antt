@@ -126,7 +126,7 @@ places_written from to low high place es new was joint b low_is high_is differen
     let is' : joint ≡ (record { cost = was.cost; low = cond (nat_lt from to) place was.low; high = cond (nat_lt from to) was.high place }) = is ∙ (λ j. record { cost = was.cost; low = cond (sym test j) place was.low; high = cond (sym test j) was.high place }) in
     ap (λ (es : List Entry). place_of es x y) written' ∙ place_of-set_place from to place es was joint x y different at' is'
 
--- a new ordered pair behind the others
+-- a new ordered pair after the others
 pub ArePairs-push : (es new : List Entry) (low high : ℕ) (joint : Joint) → new ≡ es ++ ((low, high), joint) ∷ [] → low < high → All IsOrdered (keys_of es) → All IsOrdered (keys_of new)
 ArePairs-push es new low high joint is h ordered =
     subst (λ (x : List Entry). All IsOrdered (keys_of x)) (sym is) (subst (All IsOrdered) (sym (map-append (λ (e : Entry). e.0) es (((low, high), joint) ∷ []))) (All-push IsOrdered (keys_of es) (low, high) ordered h))

@@ -2,7 +2,7 @@ pub mod Pairs
 pub mod JointLemmas
 pub mod ListLemmas
 pub mod Halves
-pub mod Links
+pub mod LinkLemmas
 pub mod Unlinking
 pub mod Joining
 pub mod Keeping

@@ -1,11 +1,10 @@
 -- A store made of an instance, and an instance made of a store.
-use Rattle.std.proofs.Common.{◌≡◌, ℕ, zero, suc, ◌+◌, ◌-◌, ◌^◌, ◌<◌, ◌≤◌, min, max, Bool, true, false, eqb, List, [], ◌∷◌, ◌++◌, map, length, get_or, take, replicate, Option, Some, None, option_map, unwrap_or, refl, sym, ap, subst, ◌∙◌, arith, filter}
+use Rattle.std.proofs.Common.{◌≡◌, ℕ, zero, suc, ◌+◌, ◌-◌, ◌^◌, ◌<◌, ◌≤◌, min, max, true, false, eqb, List, [], ◌∷◌, ◌++◌, map, length, get_or, take, None, unwrap_or, refl, sym, ap, subst, ◌∙◌, arith, filter}
 use Rattle.std.proofs.lemmas.Bool.Decides.{nat_tests}
-use Rattle.std.proofs.lemmas.List.{ext_get_or, length-map, length-take, length-replicate, get_or-replicate, get_or-take, take_more, take_all, get_or_default}
+use Rattle.std.proofs.lemmas.List.{ext_get_or, length-map, length-take, get_or-take, take_more, take_all, get_or_default}
 use Rattle.std.proofs.lemmas.List.Elements.{recursion_from_All, All-from_recursion}
-use Rattle.std.specs.Prelude.{All, AllPairs, IsFalse, IsTrue}
+use Rattle.std.specs.Prelude.{All, AllPairs, IsFalse}
 use Rattle.std.specs.List.{AllByRecursion}
-use Rattle.std.specs.Map.{keys_of}
 use Rattle.st_model.specs.declared.link.Link.{Link}
 use Rattle.st_model.specs.declared.need.Need.{Need}
 use Rattle.st_model.specs.declared.need.Need.TheVariants.{Required, Pays}
@@ -14,10 +13,7 @@ use Rattle.st_model.specs.Network.{Network, IsInstance, IsVertex, IsLinkBetween,
 use Rattle.st_model.specs.Stated.{both, merged, network_of, stated_need}
 use Rattle.st_model.proofs.Merging.{first_link, other_pair, merged_next}
 use Rattle.st_model.proofs.Sums.{length-up_to, get_or-up_to, total-append}
-use Rattle.graph_store.specs.declared.joints.Joint.{Joint}
-use Rattle.graph_store.specs.Graph.{IsGraph, is_in}
-use Rattle.graph_store.specs.Joined.{Entry, joint_of, links_of, graph_of, IsOrdered, numbered_from}
-use Rattle.graph_store.proofs.Links.{link-joint}
+use Rattle.graph_store.specs.Joined.{numbered_from}
 
 -- where no link joins two vertices, there is none
 no_link : (ls : List Link) (u w : ℕ) → AllByRecursion (λ m. joins m u w ≡ false) ls → link ls u w ≡ None
@@ -25,8 +21,8 @@ no_link [] u w h = refl
 no_link (l ∷ ls) u w h = rw h.0 (no_link ls u w h.1)
 
 -- a link is of another pair than those before it
-pub absent : (ls : List Link) (es : List Entry) (i : ℕ) (d : Link) → AllPairs (λ l m. IsFalse (joins m l.a l.b)) ls → i < length ls → links_of es ≡ take i ls → All IsOrdered (keys_of es) → joint_of es (get_or ls i d).a (get_or ls i d).b ≡ None
-absent ls es i d apart within links ordered = none (joint_of es l.a l.b) (sym (link-joint es l.a l.b ordered) ∙ ap (λ x. link x l.a l.b) links ∙ no_link (take i ls) l.a l.b (recursion_from_All (λ m. joins m l.a l.b ≡ false) (take i ls) each))
+pub absent : (ls links : List Link) (i : ℕ) (d : Link) → AllPairs (λ l m. IsFalse (joins m l.a l.b)) ls → i < length ls → links ≡ take i ls → link links (get_or ls i d).a (get_or ls i d).b ≡ None
+absent ls links i d apart within are = ap (λ x. link x l.a l.b) are ∙ no_link (take i ls) l.a l.b (recursion_from_All (λ m. joins m l.a l.b ≡ false) (take i ls) each)
   where
     l : Link
     l = get_or ls i d
@@ -39,28 +35,6 @@ absent ls es i d apart within links ordered = none (joint_of es l.a l.b) (sym (l
         let before : k < i = (let len = length-take i ls in omega arith) in
         let here : joins (get_or ls i d) (get_or ls k e).a (get_or ls k e).b ≡ false = subst (λ (x : Link). joins x (get_or ls k e).a (get_or ls k e).b ≡ false) (get_or_default ls i e d within) (apart k i e before within) in
         rw (get_or-take i ls k e before) (turned (get_or ls i d) (get_or ls k e) here)
-
-    none : (o : Option Joint) → option_map (λ joint. joint.cost) o ≡ None → o ≡ None
-    none None h = refl
-    none (Some joint) h = absurd (let clash : ⊥ = cc in clash)
-
--- all vertices of a new store are present
-pub all_present : (I : Network) (es : List Entry) (present : List Bool) → IsInstance I → present ≡ replicate I.n true → links_of es ≡ I.links → IsGraph (graph_of I.n I.needs present es)
-all_present I es present instance is links = record {
-  instance = subst (λ ls. IsInstance (record { n = I.n; links = ls; needs = I.needs })) (sym links) instance;
-  here = ap length is ∙ length-replicate I.n true;
-  ends = subst (All (λ l. IsTrue (is_in (graph_of I.n I.needs present es) l.a) × IsTrue (is_in (graph_of I.n I.needs present es) l.b))) (sym links) (λ k d within.
-      let between : IsLinkBetween I.n (get_or I.links k d) = instance.ends k d within in
-      let low = between.low in
-      let ordered = between.ordered in
-      let high = between.high in
-      (here (get_or I.links k d).a low (omega arith), here (get_or I.links k d).b (omega arith) high));
-}
-  where
-    here : (v : ℕ) → 1 ≤ v → v ≤ I.n → is_in (graph_of I.n I.needs present es) v ≡ true
-    here v some within =
-        let no_zero : eqb v 0 ≡ false = grind (arith, nat_tests) in
-        rw no_zero (ap (λ xs. get_or xs (v - 1) false) is ∙ get_or-replicate I.n (v - 1) true false (omega arith))
 
 -- needs with their vertices, taken one by one
 pub numbered_from-push : (v : ℕ) (needs : List Need) (need : Need) → numbered_from v (needs ++ need ∷ []) ≡ numbered_from v needs ++ (v + length needs, need) ∷ []
@@ -127,15 +101,7 @@ same_network I links stated instance links_are stated_are =
     let ns = ap (λ s. map (stated_need s) (up_to I.n)) stated_are ∙ same_needs I.n I.needs instance.needs in
     λ j. record { n = I.n; links = ls j; needs = ns j }
 
--- what build asks of the links and the needs
-pub stated_ends : (n : ℕ) (ls : List Link) → All (IsLinkBetween n) ls → All (λ l. IsVertex n l.a × IsVertex n l.b) ls
-stated_ends n ls ends k d within =
-    let between : IsLinkBetween n (get_or ls k d) = ends k d within in
-    let low = between.low in
-    let ordered = between.ordered in
-    let high = between.high in
-    ((low, omega arith), (omega arith, high))
-
+-- what build asks of the needs
 pub stated_vertices : (n : ℕ) (needs : List Need) → length needs ≡ n → All (λ stated. IsVertex n stated.0) (numbered_from 1 needs)
 stated_vertices n needs long = All-from_recursion (λ stated. IsVertex n stated.0) (numbered_from 1 needs) (from 1 needs (omega arith) (omega arith))
   where

@@ -1,22 +1,20 @@
--- What a link that is put does to the graph.
-use Rattle.std.proofs.Common.{◌≡◌, ℕ, ◌+◌, ◌-◌, ◌^◌, ◌<◌, ◌≤◌, min, max, Bool, true, false, cond, eqb, List, [], ◌∷◌, ◌++◌, zero, suc, length, get_or, Option, Some, None, option_map, unwrap_or, IsSome, IfSome, IfNone, is_some, Result, Ok, Err, OnOk, OnErr, IsPermutation, refl, sym, ap, subst, ◌∙◌, arith, ◌⊎◌, inl, inr}
+-- What a link that is put or taken out does to the graph.
+use Rattle.std.proofs.Common.{◌≡◌, ℕ, ◌+◌, ◌-◌, ◌^◌, ◌<◌, ◌≤◌, min, max, Bool, true, false, cond, eqb, List, [], ◌∷◌, ◌++◌, zero, suc, length, get_or, Option, Some, None, unwrap_or, IsSome, IfSome, Result, Ok, Err, OnOk, OnErr, IsPermutation, refl, sym, ap, subst, ◌∙◌, arith}
 use Rattle.std.proofs.lemmas.Bool.Decides.{nat_tests}
-use Rattle.std.proofs.lemmas.List.Sorted.{length_permutation}
+use Rattle.std.proofs.lemmas.List.Elements.{All-tail, All-from_recursion, recursion_from_All}
+use Rattle.std.proofs.lemmas.List.Sorted.{length_permutation, All-permutation}
+use Rattle.std.specs.List.{AllByRecursion}
+use Rattle.std.specs.Map.{keys_of, lookup, set_value}
 use Rattle.std.specs.Prelude.{All, IsTrue}
-use Rattle.std.specs.Map.{keys_of}
 use Rattle.st_model.specs.declared.link.Link.{Link}
 use Rattle.st_model.specs.declared.need.Need.{Need}
-use Rattle.st_model.specs.Network.{IsVertex, IsLinkBetween, joins, link, amount}
 use Rattle.st_model.specs.Lists.{total}
-use Rattle.st_model.proofs.Sums.{total-append}
+use Rattle.st_model.specs.Network.{IsVertex, IsLinkBetween, joins, link, amount}
+use Rattle.st_model.specs.Steps.{ordered, cheaper, put_link}
 use Rattle.st_model.proofs.RegrowAlike.{total-IsPermutation}
-use Rattle.st_model.proofs.Distinct.{link-comm}
 use Rattle.graph_store.specs.declared.joints.Joint.{Joint}
-use Rattle.graph_store.specs.Changes.{are_ends}
 use Rattle.graph_store.specs.Graph.{Graph, IsGraph, is_in}
-use Rattle.graph_store.specs.Joined.{Entry, joint_of, links_of, graph_of, ArePairs, IsOrdered}
-use Rattle.graph_store.proofs.Keeping.{pushed}
-use Rattle.graph_store.proofs.Links.{link-joint, joint_of-ends}
+use Rattle.graph_store.specs.Joined.{Entry, Linked, TakesOut, AreOnce, IsOrdered, is_pair, link_of, links_of, graph_of}
 
 -- a vertex that is present is in range
 pub in_range : (g : Graph) (v : ℕ) → IsGraph g → IsTrue (is_in g v) → IsVertex g.network.n v
@@ -39,129 +37,168 @@ in_range g v graph here = by_zero (eqb v 0) refl here
             within (x ∷ xs) zero h = omega arith
             within (x ∷ xs) (suc k) h = let rest = within xs k h in omega arith
 
--- the same two ends
-pub same_ends : (a b low high u w : ℕ) → low ≡ min a b → high ≡ max a b → are_ends low high u w ≡ are_ends a b u w
-same_ends a b low high u w low_is high_is = grind (arith, nat_tests)
+-- the order of the ends doesn't matter
+pub put_link-ends : (ls : List Link) (a b low high cost : ℕ) → low ≡ min a b → high ≡ max a b → put_link ls (record { a = low; b = high; cost = cost }) ≡ put_link ls (record { a = a; b = b; cost = cost })
+put_link-ends [] a b low high cost low_is high_is =
+    let first : min low high ≡ min a b = omega arith in
+    let last : max low high ≡ max a b = omega arith in
+    λ j. record { a = first j; b = last j; cost = cost } ∷ []
+put_link-ends (m ∷ ms) a b low high cost low_is high_is =
+    let same : joins m low high ≡ joins m a b = grind (arith, nat_tests) in
+    rw (same, put_link-ends ms a b low high cost low_is high_is) refl
 
--- a link between the same two ends
-pub link-ends : (ls : List Link) (a b u w : ℕ) → are_ends a b u w ≡ true → link ls u w ≡ link ls a b
-link-ends ls a b u w h = elim (cases h) [
-  | inl e ↦ ap (λ (p : ℕ × ℕ). link ls p.0 p.1) (λ j. (e.0 j, e.1 j))
-  | inr e ↦ ap (λ (p : ℕ × ℕ). link ls p.0 p.1) (λ j. (e.0 j, e.1 j)) ∙ link-comm ls b a
-]
+-- a new link stands last
+pub put_link-new : (ls : List Link) (l : Link) → link ls l.a l.b ≡ None → put_link ls l ≡ ls ++ ordered l l.cost ∷ []
+put_link-new [] l none = refl
+put_link-new (m ∷ ms) l none = by_case (joins m l.a l.b) refl none (put_link-new ms l)
   where
-    cases : are_ends a b u w ≡ true → ((u ≡ a) × (w ≡ b)) ⊎ ((u ≡ b) × (w ≡ a))
-    cases h = grind (arith, nat_tests)
+    by_case : (b : Bool) → joins m l.a l.b ≡ b → cond b (Some m.cost) (link ms l.a l.b) ≡ None → (link ms l.a l.b ≡ None → put_link ms l ≡ ms ++ ordered l l.cost ∷ []) → cond b (cheaper m l ∷ ms) (m ∷ put_link ms l) ≡ m ∷ (ms ++ ordered l l.cost ∷ [])
+    by_case true is none rest = absurd (let clash : ⊥ = cc in clash)
+    by_case false is none rest = ap (λ x. m ∷ x) (rest none)
 
--- a link behind the others
-link-push : (ls : List Link) (l : Link) (u w : ℕ) → (joins l u w ≡ true → link ls u w ≡ None) → link (ls ++ l ∷ []) u w ≡ cond (joins l u w) (Some l.cost) (link ls u w)
-link-push [] l u w fresh = refl
-link-push (x ∷ ls) l u w fresh = by_case (joins x u w) refl fresh (link-push ls l u w)
+-- where a link costs no more, all stays
+pub put_link-kept : (ls : List Link) (l : Link) (was : ℕ) → link ls l.a l.b ≡ Some was → was ≤ l.cost → put_link ls l ≡ ls
+put_link-kept [] l was some less = absurd (let clash : ⊥ = cc in clash)
+put_link-kept (m ∷ ms) l was some less = by_case (joins m l.a l.b) refl some (put_link-kept ms l was)
   where
-    by_case : (b : Bool) → joins x u w ≡ b → (joins l u w ≡ true → cond b (Some x.cost) (link ls u w) ≡ None) → ((joins l u w ≡ true → link ls u w ≡ None) → link (ls ++ l ∷ []) u w ≡ cond (joins l u w) (Some l.cost) (link ls u w)) → cond b (Some x.cost) (link (ls ++ l ∷ []) u w) ≡ cond (joins l u w) (Some l.cost) (cond b (Some x.cost) (link ls u w))
-    by_case true is fresh rest = by_new (joins l u w) refl
+    by_case : (b : Bool) → joins m l.a l.b ≡ b → cond b (Some m.cost) (link ms l.a l.b) ≡ Some was → (link ms l.a l.b ≡ Some was → was ≤ l.cost → put_link ms l ≡ ms) → cond b (cheaper m l ∷ ms) (m ∷ put_link ms l) ≡ m ∷ ms
+    by_case true is some rest = let value : m.cost ≡ was = cc in let cost : min m.cost l.cost ≡ m.cost = omega arith in λ j. record { a = m.a; b = m.b; cost = cost j } ∷ ms
+    by_case false is some rest = ap (λ x. m ∷ x) (rest some less)
+
+-- where it costs more, its entry has the new cost
+pub put_link-entry : (es : List Entry) (low high : ℕ) (was joint : Joint) → low < high → All IsOrdered (keys_of es) → lookup (is_pair low high) es ≡ Some was → joint.cost < was.cost → links_of (set_value (is_pair low high) es joint) ≡ put_link (links_of es) (record { a = low; b = high; cost = joint.cost })
+put_link-entry es low high was joint before all at less = by_recursion es (recursion_from_All IsOrdered (keys_of es) all) at
+  where
+    by_recursion : (es : List Entry) → AllByRecursion IsOrdered (keys_of es) → lookup (is_pair low high) es ≡ Some was → links_of (set_value (is_pair low high) es joint) ≡ put_link (links_of es) (record { a = low; b = high; cost = joint.cost })
+    by_recursion [] h at = absurd (let clash : ⊥ = cc in clash)
+    by_recursion (e ∷ es) h at =
+        let first : e.0.0 < e.0.1 = h.0 in
+        let same : joins (link_of e) low high ≡ is_pair low high e.0 = grind (arith, nat_tests) in
+        rw same (by_case (is_pair low high e.0) at (by_recursion es h.1))
       where
-        by_new : (b : Bool) → joins l u w ≡ b → Some x.cost ≡ cond b (Some l.cost) (Some x.cost)
-        by_new true new = let clash : ◌≡◌ {A = Option ℕ} (Some x.cost) None = fresh new in absurd (let no : ⊥ = cc in no)
-        by_new false new = refl
-    by_case false is fresh rest = rest fresh
+        by_case : (b : Bool) → cond b (Some e.1) (lookup (is_pair low high) es) ≡ Some was → (lookup (is_pair low high) es ≡ Some was → links_of (set_value (is_pair low high) es joint) ≡ put_link (links_of es) (record { a = low; b = high; cost = joint.cost }))
+            → links_of (cond b ((e.0, joint) ∷ es) (e ∷ set_value (is_pair low high) es joint)) ≡ cond b (cheaper (link_of e) (record { a = low; b = high; cost = joint.cost }) ∷ links_of es) (link_of e ∷ put_link (links_of es) (record { a = low; b = high; cost = joint.cost }))
+        by_case true at rest = let value : e.1 ≡ was = cc in let known = ap (λ (j : Joint). j.cost) value in let cost : joint.cost ≡ min e.1.cost joint.cost = omega arith in λ j. record { a = e.0.0; b = e.0.1; cost = cost j } ∷ links_of es
+        by_case false at rest = ap (λ x. link_of e ∷ x) (rest at)
 
--- what is put where there was no link
-pub links_pushed : (es : List Entry) (new : List Link) (a b low high cost : ℕ) → low ≡ min a b → high ≡ max a b → All IsOrdered (keys_of es) → joint_of es low high ≡ None → new ≡ links_of es ++ record { a = low; b = high; cost = cost } ∷ []
-    → (u w : ℕ) → link new u w ≡ cond (are_ends a b u w) (Some (min cost (unwrap_or (link (links_of es) a b) cost))) (link (links_of es) u w)
-links_pushed es new a b low high cost low_is high_is ordered absent is u w =
-    ap (λ ls. link ls u w) is ∙ link-push (links_of es) (record { a = low; b = high; cost = cost }) u w fresh ∙ (λ j. cond (same j) (Some (costs j)) (link (links_of es) u w))
+-- all links cost at most the new cost more
+pub total-put_link : (ls : List Link) (l : Link) → total (λ m. m.cost) (put_link ls l) ≤ total (λ m. m.cost) ls + l.cost
+total-put_link [] l = omega arith
+total-put_link (m ∷ ms) l = by_case (joins m l.a l.b) (total-put_link ms l)
   where
-    none : link (links_of es) a b ≡ None
-    none = link-joint es a b ordered ∙ ap (option_map (λ (joint : Joint). joint.cost)) (sym (joint_of-ends es a b low high low_is high_is) ∙ absent)
+    by_case : (b : Bool) → total (λ m. m.cost) (put_link ms l) ≤ total (λ m. m.cost) ms + l.cost → total (λ m. m.cost) (cond b (cheaper m l ∷ ms) (m ∷ put_link ms l)) ≤ m.cost + total (λ m. m.cost) ms + l.cost
+    by_case true rest = omega arith
+    by_case false rest = omega arith
 
-    same : joins (record { a = low; b = high; cost = cost }) u w ≡ are_ends a b u w
-    same = grind (arith, nat_tests)
-
-    fresh : joins (record { a = low; b = high; cost = cost }) u w ≡ true → link (links_of es) u w ≡ None
-    fresh h = link-ends (links_of es) a b u w (sym same ∙ h) ∙ none
-
-    costs : cost ≡ min cost (unwrap_or (link (links_of es) a b) cost)
-    costs = rw none (omega arith)
-
--- what is put where there was a link that costs more
-pub links_cheaper : (es new : List Entry) (a b low high cost : ℕ) (joint : Joint) → low ≡ min a b → high ≡ max a b → All IsOrdered (keys_of es) → joint_of es low high ≡ Some joint → cost < joint.cost → ((u w : ℕ) → link (links_of new) u w ≡ cond (are_ends low high u w) (Some cost) (link (links_of es) u w))
-    → (u w : ℕ) → link (links_of new) u w ≡ cond (are_ends a b u w) (Some (min cost (unwrap_or (link (links_of es) a b) cost))) (link (links_of es) u w)
-links_cheaper es new a b low high cost joint low_is high_is ordered at less put u w = put u w ∙ (λ j. cond (same_ends a b low high u w low_is high_is j) (Some (costs j)) (link (links_of es) u w))
+-- what holds of links by their ends holds of them once one is put
+All-put_link : (Q : Link → Type 0) → ((m l : Link) → Q m → Q (cheaper m l)) → (ls : List Link) (l : Link) → Q (ordered l l.cost) → AllByRecursion Q ls → AllByRecursion Q (put_link ls l)
+All-put_link Q turn [] l new h = (new, tt)
+All-put_link Q turn (m ∷ ms) l new h = by_case (joins m l.a l.b) (All-put_link Q turn ms l new h.1)
   where
-    some : link (links_of es) a b ≡ Some joint.cost
-    some = link-joint es a b ordered ∙ ap (option_map (λ (joint : Joint). joint.cost)) (sym (joint_of-ends es a b low high low_is high_is) ∙ at)
+    by_case : (b : Bool) → AllByRecursion Q (put_link ms l) → AllByRecursion Q (cond b (cheaper m l ∷ ms) (m ∷ put_link ms l))
+    by_case true rest = (turn m l h.0, h.1)
+    by_case false rest = (h.0, rest)
 
-    costs : cost ≡ min cost (unwrap_or (link (links_of es) a b) cost)
-    costs = rw some (omega arith)
+-- both ends are present
+abbrev AreHere : Graph → Link → Type 0
+AreHere g l = IsTrue (is_in g l.a) × IsTrue (is_in g l.b)
 
--- what is put where there was a link that costs no more
-pub links_kept : (es : List Entry) (a b low high cost : ℕ) (joint : Joint) → low ≡ min a b → high ≡ max a b → All IsOrdered (keys_of es) → joint_of es low high ≡ Some joint → joint.cost ≤ cost
-    → (u w : ℕ) → link (links_of es) u w ≡ cond (are_ends a b u w) (Some (min cost (unwrap_or (link (links_of es) a b) cost))) (link (links_of es) u w)
-links_kept es a b low high cost joint low_is high_is ordered at less u w = by_case (are_ends a b u w) refl
+-- the graph once a link is put
+pub graph_put : (x : Linked) (needs : List Need) (present : List Bool) (a b cost : ℕ) → (a ≡ b → ⊥) → AreOnce (put_link x.links (record { a = a; b = b; cost = cost })) → IsTrue (is_in (graph_of x needs present) a) → IsTrue (is_in (graph_of x needs present) b)
+    → amount (graph_of (record { n = x.n; links = put_link x.links (record { a = a; b = b; cost = cost }) }) needs present).network < 2 ^ 63 → IsGraph (graph_of x needs present) → IsGraph (graph_of (record { n = x.n; links = put_link x.links (record { a = a; b = b; cost = cost }) }) needs present)
+graph_put x needs present a b cost different once a_in b_in fits graph = record {
+  instance = record {
+    some_vertex = graph.instance.some_vertex;
+    few_vertices = graph.instance.few_vertices;
+    ends = All-from_recursion (IsLinkBetween x.n) _ (All-put_link (IsLinkBetween x.n) (λ m l h. record { low = h.low; ordered = h.ordered; high = h.high }) x.links (record { a = a; b = b; cost = cost }) between (recursion_from_All (IsLinkBetween x.n) x.links graph.instance.ends));
+    one_each = once;
+    needs = graph.instance.needs;
+    amount = fits;
+  };
+  here = graph.here;
+  ends = All-from_recursion (AreHere (graph_of x needs present)) _ (All-put_link (AreHere (graph_of x needs present)) (λ m l h. h) x.links (record { a = a; b = b; cost = cost }) (either (eqb (min a b) a) refl) (recursion_from_All (AreHere (graph_of x needs present)) x.links graph.ends));
+}
   where
-    some : link (links_of es) a b ≡ Some joint.cost
-    some = link-joint es a b ordered ∙ ap (option_map (λ (joint : Joint). joint.cost)) (sym (joint_of-ends es a b low high low_is high_is) ∙ at)
+    between : IsLinkBetween x.n (ordered (record { a = a; b = b; cost = cost }) cost)
+    between =
+        let a_range = in_range (graph_of x needs present) a graph a_in in
+        let b_range = in_range (graph_of x needs present) b graph b_in in
+        record { low = omega (arith, a_range.0, b_range.0); ordered = omega arith; high = omega (arith, a_range.1, b_range.1) }
 
-    costs : joint.cost ≡ min cost (unwrap_or (link (links_of es) a b) cost)
-    costs = rw some (omega arith)
+    either : (t : Bool) → eqb (min a b) a ≡ t → IsTrue (is_in (graph_of x needs present) (min a b)) × IsTrue (is_in (graph_of x needs present) (max a b))
+    either true same = let low : a ≡ min a b = grind (arith, nat_tests) in let high : b ≡ max a b = omega arith in (subst (λ v. IsTrue (is_in (graph_of x needs present) v)) low a_in, subst (λ v. IsTrue (is_in (graph_of x needs present) v)) high b_in)
+    either false other = let apart : min a b ≡ a → ⊥ = λ e. grind (arith, nat_tests) in let low : b ≡ min a b = omega arith in let high : a ≡ max a b = omega arith in (subst (λ v. IsTrue (is_in (graph_of x needs present) v)) low b_in, subst (λ v. IsTrue (is_in (graph_of x needs present) v)) high a_in)
 
-    by_case : (t : Bool) → are_ends a b u w ≡ t → link (links_of es) u w ≡ cond t (Some (min cost (unwrap_or (link (links_of es) a b) cost))) (link (links_of es) u w)
-    by_case true is = link-ends (links_of es) a b u w is ∙ some ∙ ap Some costs
-    by_case false is = refl
+-- the links once one is put, by the lower and the higher end
+pub links_put : (x y : Linked) (a b low high cost : ℕ) → low ≡ min a b → high ≡ max a b → y ≡ (record { n = x.n; links = put_link x.links (record { a = low; b = high; cost = cost }) }) → y ≡ (record { n = x.n; links = put_link x.links (record { a = a; b = b; cost = cost }) })
+links_put x y a b low high cost low_is high_is is = is ∙ (λ j. record { n = x.n; links = put_link-ends x.links a b low high cost low_is high_is j })
+
+-- the same where there was none
+pub links_attached : (x y : Linked) (a b low high cost : ℕ) → low ≡ min a b → high ≡ max a b → low < high → link x.links low high ≡ None → y ≡ (record { n = x.n; links = x.links ++ record { a = low; b = high; cost = cost } ∷ [] }) → y ≡ (record { n = x.n; links = put_link x.links (record { a = a; b = b; cost = cost }) })
+links_attached x y a b low high cost low_is high_is before none is =
+    let first : low ≡ min low high = omega arith in
+    let last : high ≡ max low high = omega arith in
+    let new : x.links ++ record { a = low; b = high; cost = cost } ∷ [] ≡ put_link x.links (record { a = low; b = high; cost = cost }) = (λ j. x.links ++ record { a = first j; b = last j; cost = cost } ∷ []) ∙ sym (put_link-new x.links (record { a = low; b = high; cost = cost }) none) in
+    links_put x y a b low high cost low_is high_is (is ∙ (λ j. record { n = x.n; links = new j }))
+
+pub AreOnce-same : (x y : Linked) → x ≡ y → AreOnce x.links → AreOnce y.links
+AreOnce-same x y is once = subst (λ (z : Linked). AreOnce z.links) is once
+
+-- what was attached after nothing was found
+pub attached_after : {E : Type 0} (x0 x y : Linked) (a b low high cost : ℕ) (r : Result (Unit {0}) E) → low ≡ min a b → high ≡ max a b → low < high → (x ≡ x0) × (link x0.links low high ≡ None) → OnOk r (y ≡ (record { n = x.n; links = x.links ++ record { a = low; b = high; cost = cost } ∷ [] })) → OnErr r (y ≡ x)
+    → OnOk r (y ≡ (record { n = x0.n; links = put_link x0.links (record { a = a; b = b; cost = cost }) })) × OnErr r (y ≡ x0)
+attached_after x0 x y a b low high cost (Ok u) low_is high_is before found ok err =
+    (links_attached x0 y a b low high cost low_is high_is before found.1 (ok ∙ (λ j. record { n = (found.0 j).n; links = (found.0 j).links ++ record { a = low; b = high; cost = cost } ∷ [] })), tt)
+attached_after x0 x y a b low high cost (Err e) low_is high_is before found ok err = (tt, err ∙ found.0)
 
 -- the graph once a link was put where there was none, or where there was no memory
-pub graph_pushed : {E : Type 0} (n : ℕ) (needs : List Need) (present : List Bool) (es new : List Entry) (a b low high cost : ℕ) (r : Result (Unit {0}) E) → low ≡ min a b → high ≡ max a b → (a ≡ b → ⊥) → OnOk r (links_of new ≡ links_of es ++ record { a = low; b = high; cost = cost } ∷ []) → OnErr r (new ≡ es) → ArePairs new
-    → IsTrue (is_in (graph_of n needs present es) a) → IsTrue (is_in (graph_of n needs present es) b) → amount (graph_of n needs present es).network + cost < 2 ^ 63 → IsGraph (graph_of n needs present es) → IsGraph (graph_of n needs present new)
-graph_pushed n needs present es new a b low high cost (Err e) low_is high_is different ok err pairs a_in b_in fits graph = subst (λ x. IsGraph (graph_of n needs present x)) (sym err) graph
-graph_pushed n needs present es new a b low high cost (Ok x) low_is high_is different ok err pairs a_in b_in fits graph =
-    let a_range = in_range (graph_of n needs present es) a graph a_in in
-    let b_range = in_range (graph_of n needs present es) b graph b_in in
-    let between : IsLinkBetween n (record { a = low; b = high; cost = cost }) = record { low = omega (arith, a_range.0, b_range.0); ordered = omega arith; high = omega (arith, a_range.1, b_range.1) } in
-    pushed n needs present es new (record { a = low; b = high; cost = cost }) ok pairs between (low_in (eqb low a) refl) (high_in (eqb low a) refl) fits graph
+pub graph_attached : {E : Type 0} (x y : Linked) (needs : List Need) (present : List Bool) (a b cost : ℕ) (r : Result (Unit {0}) E) → (a ≡ b → ⊥) → OnOk r (y ≡ (record { n = x.n; links = put_link x.links (record { a = a; b = b; cost = cost }) })) → OnErr r (y ≡ x) → AreOnce y.links
+    → IsTrue (is_in (graph_of x needs present) a) → IsTrue (is_in (graph_of x needs present) b) → amount (graph_of (record { n = x.n; links = put_link x.links (record { a = a; b = b; cost = cost }) }) needs present).network < 2 ^ 63 → IsGraph (graph_of x needs present) → IsGraph (graph_of y needs present)
+graph_attached x y needs present a b cost (Err e) different ok err once a_in b_in fits graph = subst (λ (z : Linked). IsGraph (graph_of z needs present)) (sym err) graph
+graph_attached x y needs present a b cost (Ok u) different ok err once a_in b_in fits graph =
+    subst (λ (z : Linked). IsGraph (graph_of z needs present)) (sym ok) (graph_put x needs present a b cost different (subst (λ (z : Linked). AreOnce z.links) ok once) a_in b_in fits graph)
+
+-- where a link was taken out, there is one fewer, and what they cost together is less by its cost
+pub fewer : (x y : Linked) (a b : ℕ) → TakesOut x y a b → IsSome (link x.links a b) → length y.links + 1 ≡ length x.links
+fewer x y a b out some = by_case (link x.links a b) some out.moved
   where
-    low_in : (t : Bool) → eqb low a ≡ t → IsTrue (is_in (graph_of n needs present es) low)
-    low_in true same = let e : a ≡ low = grind (arith, nat_tests) in subst (λ v. IsTrue (is_in (graph_of n needs present es) v)) e a_in
-    low_in false other = let apart : low ≡ a → ⊥ = λ e. grind (arith, nat_tests) in let e : b ≡ low = omega arith in subst (λ v. IsTrue (is_in (graph_of n needs present es) v)) e b_in
+    by_case : (o : Option ℕ) → IsSome o → IfSome o (λ cost. IsPermutation x.links (record { a = min a b; b = max a b; cost = cost } ∷ y.links)) → length y.links + 1 ≡ length x.links
+    by_case None h moved = absurd (let clash : ⊥ = cc in clash)
+    by_case (Some cost) h moved = let same = length_permutation _ _ moved in omega arith
 
-    high_in : (t : Bool) → eqb low a ≡ t → IsTrue (is_in (graph_of n needs present es) high)
-    high_in true same = let low_a : a ≡ low = grind (arith, nat_tests) in let e : b ≡ high = omega arith in subst (λ v. IsTrue (is_in (graph_of n needs present es) v)) e b_in
-    high_in false other = let apart : low ≡ a → ⊥ = λ e. grind (arith, nat_tests) in let e : a ≡ high = omega arith in subst (λ v. IsTrue (is_in (graph_of n needs present es) v)) e a_in
+pub total-removed : (x y : Linked) (a b : ℕ) → TakesOut x y a b → total (λ l. l.cost) y.links + unwrap_or (link x.links a b) 0 ≡ total (λ l. l.cost) x.links
+total-removed x y a b out = by_case (link x.links a b) out.moved out.unchanged
+  where
+    by_case : (o : Option ℕ) → IfSome o (λ cost. IsPermutation x.links (record { a = min a b; b = max a b; cost = cost } ∷ y.links)) → (o ≡ None → y ≡ x) → total (λ l. l.cost) y.links + unwrap_or o 0 ≡ total (λ l. l.cost) x.links
+    by_case None moved same = let all = ap (λ (z : Linked). total (λ (l : Link). l.cost) z.links) (same refl) in omega arith
+    by_case (Some cost) moved same = let all : total (λ l. l.cost) x.links ≡ cost + total (λ (l : Link). l.cost) y.links = total-IsPermutation (λ (l : Link). l.cost) x.links _ moved in omega arith
 
--- a link that was there is one of the links
-pub fewer : (es new : List Entry) (a b : ℕ) (found : Option Joint) → All IsOrdered (keys_of es) → found ≡ joint_of es a b → IfSome found (λ joint. IsPermutation (links_of es) (record { a = min a b; b = max a b; cost = joint.cost } ∷ links_of new)) → IsSome (link (links_of es) a b) → length (links_of new) + 1 ≡ length (links_of es)
-fewer es new a b None ordered is moves some =
-    let none : link (links_of es) a b ≡ None = link-joint es a b ordered ∙ ap (option_map (λ (joint : Joint). joint.cost)) (sym is) in
-    let clash : ◌≡◌ {A = Bool} (is_some {T = ℕ} None) true = ap is_some (sym none) ∙ some in
-    absurd (let no : ⊥ = cc in no)
-fewer es new a b (Some joint) ordered is moves some = let same = length_permutation _ _ moves in omega arith
+-- the graph once a link was taken out, whether there was one or not
+pub graph_removed : (x y : Linked) (needs : List Need) (present : List Bool) (a b : ℕ) → TakesOut x y a b → AreOnce y.links → IsGraph (graph_of x needs present) → IsGraph (graph_of y needs present)
+graph_removed x y needs present a b out once graph = by_case (link x.links a b) out.moved out.unchanged
+  where
+    still : (Q : Link → Type 0) (l : Link) → IsPermutation x.links (l ∷ y.links) → All Q x.links → All Q y.links
+    still Q l moved all = All-tail Q l y.links (All-permutation Q x.links (l ∷ y.links) moved all)
 
--- where there was none, nothing was found
-pub none_found : (es new : List Entry) (a b : ℕ) (found : Option Joint) → All IsOrdered (keys_of es) → found ≡ joint_of es a b → IfNone found (new ≡ es) → link (links_of es) a b ≡ None → new ≡ es
-none_found es new a b None ordered is same none = same
-none_found es new a b (Some joint) ordered is same none =
-    let some : link (links_of es) a b ≡ Some joint.cost = link-joint es a b ordered ∙ ap (option_map (λ (joint : Joint). joint.cost)) (sym is) in
-    let clash : ◌≡◌ {A = Option ℕ} None (Some joint.cost) = sym none ∙ some in
-    absurd (let no : ⊥ = cc in no)
+    by_case : (o : Option ℕ) → IfSome o (λ cost. IsPermutation x.links (record { a = min a b; b = max a b; cost = cost } ∷ y.links)) → (o ≡ None → y ≡ x) → IsGraph (graph_of y needs present)
+    by_case None moved same = subst (λ (z : Linked). IsGraph (graph_of z needs present)) (sym (same refl)) graph
+    by_case (Some cost) moved same = subst (λ n. IsGraph (graph_of (record { n = n; links = y.links }) needs present)) (sym out.count) (record {
+      instance = record {
+        some_vertex = graph.instance.some_vertex;
+        few_vertices = graph.instance.few_vertices;
+        ends = still (IsLinkBetween x.n) _ moved graph.instance.ends;
+        one_each = once;
+        needs = graph.instance.needs;
+        amount =
+            let costs : total (λ l. l.cost) x.links ≡ cost + total (λ (l : Link). l.cost) y.links = total-IsPermutation (λ (l : Link). l.cost) x.links _ moved in
+            let before = graph.instance.amount in
+            omega arith;
+      };
+      here = graph.here;
+      ends = still (AreHere (graph_of x needs present)) _ moved graph.ends;
+    })
 
 -- what follows from a fact on Ok
 pub on_ok_then : {X E : Type 0} (r : Result X E) (P Q : Type 0) → OnOk r P → (P → Q) → OnOk r Q
 on_ok_then (Ok x) P Q h f = f h
 on_ok_then (Err e) P Q h f = tt
-
--- what all links cost together once one of them was taken out
-pub total-removed : (es new : List Entry) (a b : ℕ) (found : Option Joint) → All IsOrdered (keys_of es) → found ≡ joint_of es a b → IfSome found (λ joint. IsPermutation (links_of es) (record { a = min a b; b = max a b; cost = joint.cost } ∷ links_of new)) → IfNone found (new ≡ es) → total (λ l. l.cost) (links_of new) + unwrap_or (link (links_of es) a b) 0 ≡ total (λ l. l.cost) (links_of es)
-total-removed es new a b None ordered is moves same =
-    let none : link (links_of es) a b ≡ None = link-joint es a b ordered ∙ ap (option_map (λ (joint : Joint). joint.cost)) (sym is) in
-    let left = ap (λ o. unwrap_or o 0) none in
-    let all = ap (λ (x : List Entry). total (λ (l : Link). l.cost) (links_of x)) same in
-    omega arith
-total-removed es new a b (Some joint) ordered is moves same =
-    let some : link (links_of es) a b ≡ Some joint.cost = link-joint es a b ordered ∙ ap (option_map (λ (joint : Joint). joint.cost)) (sym is) in
-    let left = ap (λ o. unwrap_or o 0) some in
-    let all : total (λ l. l.cost) (links_of es) ≡ joint.cost + total (λ (l : Link). l.cost) (links_of new) = total-IsPermutation (λ (l : Link). l.cost) (links_of es) _ moves in
-    omega arith
-
--- and once one more was put in
-pub total-pushed : (es : List Entry) (new : List Link) (l : Link) → new ≡ links_of es ++ l ∷ [] → total (λ l. l.cost) new ≡ total (λ l. l.cost) (links_of es) + l.cost
-total-pushed es new l is = let all : total (λ l. l.cost) new ≡ total (λ l. l.cost) (links_of es) + (l.cost + 0) = ap (total (λ (l : Link). l.cost)) is ∙ total-append (λ (l : Link). l.cost) (links_of es) (l ∷ []) in omega arith

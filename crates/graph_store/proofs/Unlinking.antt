@@ -7,7 +7,7 @@ use Rattle.graph_store.specs.declared.joints.Joint.{Joint}
 use Rattle.graph_store.specs.Changes.{are_ends}
 use Rattle.graph_store.specs.Joined.{Entry, joint_of, place_of, AreHalves, AreHalvesBut}
 use Rattle.graph_store.proofs.Halves.{AreHalves-same, AreHalves-without}
-use Rattle.graph_store.proofs.Links.{IsTold, place_of-gone, place_of-gone_high, place_of-gone_others}
+use Rattle.graph_store.proofs.LinkLemmas.{IsTold, place_of-gone, place_of-gone_high, place_of-gone_others}
 
 module _ (es e1 : List Entry) (a b low high : ℕ) (joint : Joint) (low_is : low ≡ min a b) (high_is : high ≡ max a b) (told : IsTold es low high joint)
     (gone : (x y : ℕ) → joint_of e1 x y ≡ cond (are_ends a b x y) None (joint_of es x y))

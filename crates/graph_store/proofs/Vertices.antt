@@ -10,7 +10,7 @@ use Rattle.st_model.proofs.Distinct.{link-comm}
 use Rattle.graph_store.specs.declared.half.Half.{Half}
 use Rattle.graph_store.specs.Graph.{IsGraph, is_in}
 use Rattle.graph_store.specs.Neighbours.{AreNeighbours}
-use Rattle.graph_store.specs.Joined.{Entry, links_of, graph_of}
+use Rattle.graph_store.specs.Joined.{Linked, graph_of}
 
 -- a half is of a linked vertex in range
 pub half_linked : (I : Network) (v : ℕ) (halves : List Half) (k : ℕ) (h : Half) → AreNeighbours I v halves → slice_get halves k ≡ Some h → IsSome (link I.links v h.to) × IsVertex I.n h.to
@@ -44,15 +44,15 @@ link_self (l ∷ ls) (suc k) d h = by_case (joins l (get_or ls k d).a (get_or ls
     by_case false h = h
 
 -- the graph without a vertex that has no links
-pub vertex_out : (n : ℕ) (needs : List Need) (present : List Bool) (es : List Entry) (v : ℕ) → 1 ≤ v → ((w : ℕ) → link (links_of es) v w ≡ None) → IsGraph (graph_of n needs present es) → IsGraph (graph_of n needs (set present (v - 1) false) es)
-vertex_out n needs present es v some alone graph = record {
+pub vertex_out : (x : Linked) (needs : List Need) (present : List Bool) (v : ℕ) → 1 ≤ v → ((w : ℕ) → link x.links v w ≡ None) → IsGraph (graph_of x needs present) → IsGraph (graph_of x needs (set present (v - 1) false))
+vertex_out x needs present v some alone graph = record {
   instance = graph.instance;
   here = length-set present (v - 1) false ∙ graph.here;
   ends = λ k d within.
-      let l : Link = get_or (links_of es) k d in
-      let linked : IsSome (link (links_of es) l.a l.b) = link_self (links_of es) k d within in
-      let not_a : l.a ≡ v → ⊥ = λ e. not_none (link (links_of es) l.a l.b) linked (ap (λ x. link (links_of es) x l.b) e ∙ alone l.b) in
-      let not_b : l.b ≡ v → ⊥ = λ e. not_none (link (links_of es) l.a l.b) linked (link-comm (links_of es) l.a l.b ∙ ap (λ x. link (links_of es) x l.a) e ∙ alone l.a) in
+      let l : Link = get_or x.links k d in
+      let linked : IsSome (link x.links l.a l.b) = link_self x.links k d within in
+      let not_a : l.a ≡ v → ⊥ = λ e. not_none (link x.links l.a l.b) linked (ap (λ z. link x.links z l.b) e ∙ alone l.b) in
+      let not_b : l.b ≡ v → ⊥ = λ e. not_none (link x.links l.a l.b) linked (link-comm x.links l.a l.b ∙ ap (λ z. link x.links z l.a) e ∙ alone l.a) in
       (still l.a not_a (graph.ends k d within).0, still l.b not_b (graph.ends k d within).1);
 }
   where
@@ -60,7 +60,7 @@ vertex_out n needs present es v some alone graph = record {
     not_none None h e = cc
     not_none (Some x) h e = cc
 
-    still : (w : ℕ) → (w ≡ v → ⊥) → is_in (graph_of n needs present es) w ≡ true → is_in (graph_of n needs (set present (v - 1) false) es) w ≡ true
+    still : (w : ℕ) → (w ≡ v → ⊥) → is_in (graph_of x needs present) w ≡ true → is_in (graph_of x needs (set present (v - 1) false)) w ≡ true
     still w other h = by_case (eqb w 0) refl h
       where
         by_case : (b : Bool) → eqb w 0 ≡ b → cond b false (get_or present (w - 1) false) ≡ true → cond b false (get_or (set present (v - 1) false) (w - 1) false) ≡ true

@@ -1,7 +1,8 @@
 -- What each change does to a graph, and what it leaves.
-use Rattle.std.specs.Prelude.{◌≡◌, ℕ, ◌-◌, min, Bool, false, ◌&&◌, ◌||◌, ◌==◌, if◌then◌else◌, slice_set, Some, None, unwrap_or}
+use Rattle.std.specs.Prelude.{◌≡◌, ℕ, ◌-◌, Bool, false, ◌&&◌, ◌||◌, ◌==◌, if◌then◌else◌, slice_set, None}
 use Rattle.st_model.specs.declared.need.Need.{Need}
 use Rattle.st_model.specs.Network.{link}
+use Rattle.st_model.specs.Steps.{put_link}
 use Rattle.graph_store.specs.Graph.{Graph}
 
 -- u and w are a and b, in either order
@@ -22,12 +23,10 @@ pub record RemovesLink (old new : Graph) (a b : ℕ) : Type 0 where
   pub present : new.present ≡ old.present
   pub links : (u w : ℕ) → link new.network.links u w ≡ (if are_ends a b u w then None else link old.network.links u w)
 
--- the link between a and b has the less of the cost and its cost so far; the rest is as before
-pub record PutsLink (old new : Graph) (a b cost : ℕ) : Type 0 where
-  pub count : new.network.n ≡ old.network.n
-  pub needs : new.network.needs ≡ old.network.needs
-  pub present : new.present ≡ old.present
-  pub links : (u w : ℕ) → link new.network.links u w ≡ (if are_ends a b u w then Some (min cost (unwrap_or (link old.network.links a b) cost)) else link old.network.links u w)
+-- the graph once a and b are linked at no more than this cost: a new link stands last, a dearer one keeps its place
+-- and costs this from now on, and one that costs no more stays as it is
+abbrev pub with_link : Graph → ℕ → ℕ → ℕ → Graph
+with_link g a b cost = record g { network = record g.network { links = put_link g.network.links (record { a = a; b = b; cost = cost }) } }
 
 -- the graph, in which v needs this
 abbrev pub with_need : Graph → ℕ → Need → Graph

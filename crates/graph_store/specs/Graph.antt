@@ -3,7 +3,7 @@ use Rattle.std.specs.Prelude.{◌≡◌, ℕ, ◌-◌, Bool, false, ◌==◌, Is
 use Rattle.st_model.specs.Network.{Network, IsInstance}
 
 pub record Graph : Type 0 where
-  -- its links stand in a free order
+  -- its links stand in a free order, which a removal may change
   pub network : Network
   -- whether vertex 1, 2, .. n is present
   pub present : List Bool

@@ -1,5 +1,5 @@
 -- How a store keeps a graph: a list of halves for each vertex, and for each link where its halves are.
-use Rattle.std.specs.Prelude.{◌≡◌, ℕ, ◌+◌, ◌<◌, min, max, Bool, ◌&&◌, ◌==◌, nat_lt, if◌then◌else◌, List, [], ◌∷◌, length, map, All, slice_get, slice_index_or, Option, Some}
+use Rattle.std.specs.Prelude.{◌≡◌, ℕ, ◌+◌, ◌<◌, min, max, Bool, ◌&&◌, ◌==◌, nat_lt, if◌then◌else◌, List, [], ◌∷◌, length, map, All, AllPairs, IsFalse, IsPermutation, IfSome, slice_get, slice_index_or, Option, Some, None}
 use Rattle.std.specs.declared.alloc.Global.{Global}
 use Rattle.std.specs.declared.vec.Vec.{Vec}
 use Rattle.std.specs.List.{IsDistinct}
@@ -7,9 +7,11 @@ use Rattle.std.specs.Map.{keys_of, lookup}
 use Rattle.std.specs.Option.{option_map}
 use Rattle.st_model.specs.declared.link.Link.{Link}
 use Rattle.st_model.specs.declared.need.Need.{Need}
+use Rattle.st_model.specs.Network.{joins, link}
 use Rattle.graph_store.specs.declared.half.Half.{Half}
 use Rattle.graph_store.specs.declared.joints.Joint.{Joint}
-use Rattle.graph_store.specs.Graph.{Graph, IsGraph}
+use Rattle.graph_store.specs.Changes.{are_ends}
+use Rattle.graph_store.specs.Graph.{Graph}
 
 -- a pair of vertices, the lower first, and where its halves are
 abbrev pub Entry : Type 0
@@ -71,13 +73,28 @@ abbrev pub numbered_from : ℕ → List Need → List (ℕ × Need)
 numbered_from v [] = []
 numbered_from v (need ∷ needs) = (v, need) ∷ numbered_from (v + 1) needs
 
--- the graph that the parts of a store stand for
-abbrev pub graph_of : ℕ → List Need → List Bool → List Entry → Graph
-graph_of n needs present es = record { network = record { n = n; links = links_of es; needs = needs }; present = present }
+-- links between the vertices 1 to n
+pub record Linked : Type 0 where
+  pub n : ℕ
+  pub links : List Link
 
--- what holds of the parts of every store
-pub record IsKept (n : ℕ) (needs : List Need) (present : List Bool) (lists : List (Vec Half Global)) (es : List Entry) : Type 0 where
-  pub graph : IsGraph (graph_of n needs present es)
+-- what holds of how links are kept: each half is where its link says
+pub record AreJoined (n : ℕ) (lists : List (Vec Half Global)) (es : List Entry) : Type 0 where
   pub long : length lists ≡ n + 1
   pub pairs : ArePairs es
   pub halves : (v : ℕ) → AreHalves (halves_at lists v) (place_of es v)
+
+-- no two links join the same two vertices
+abbrev pub AreOnce : List Link → Type 0
+AreOnce ls = AllPairs (λ l m. IsFalse (joins m l.a l.b)) ls
+
+-- what is left once the link between a and b is taken out, in a free order
+pub record TakesOut (old new : Linked) (a b : ℕ) : Type 0 where
+  pub count : new.n ≡ old.n
+  pub links : (u w : ℕ) → link new.links u w ≡ (if are_ends a b u w then None else link old.links u w)
+  pub moved : IfSome (link old.links a b) (λ cost. IsPermutation old.links (record { a = min a b; b = max a b; cost = cost } ∷ new.links))
+  pub unchanged : link old.links a b ≡ None → new ≡ old
+
+-- the graph of these links and needs, with these vertices present
+abbrev pub graph_of : Linked → List Need → List Bool → Graph
+graph_of x needs present = record { network = record { n = x.n; links = x.links; needs = needs }; present = present }

@@ -2,3 +2,4 @@ pub mod Graph
 pub mod Changes
 pub mod Neighbours
 pub mod Joined
+pub mod Whole

@@ -1,28 +1,19 @@
-ghost use Rattle.std.specs.Prelude.{◌≡◌, ℕ, ◌+◌, ◌<◌, true, ◌^◌, IfOk, vec_len, length, replicate};
-ghost use Rattle.st_model.specs.Network.{IsInstance};
-ghost use Rattle.graph_store.specs.Joined.{halves_at, place_of, links_of, AreHalves, ArePairs, numbered_from};
+ghost use Rattle.std.specs.Prelude.{◌≡◌, ◌+◌, ◌<◌, true, ◌^◌, IfOk, length, replicate};
+ghost use Rattle.graph_store.specs.Joined.{numbered_from};
 
-use crate::Half;
-use crate::joints::Joints;
-use crate::linking::attach;
-use crate::lists::no_halves;
-use indexmap::IndexMap;
-use st_model::{Instance, Link, Need};
+use crate::links::Links;
+use st_model::{Instance, Need};
 use std::alloc::{AllocError, Global};
 
-// The halves and the pairs of all links of an instance.
-pub fn link_all(alloc: Global, instance: &Instance) -> Result<(Vec<Vec<Half>>, Joints), AllocError>
-    ensures length { IfOk result (λ parts. vec_len parts.0 ≡ instance.now.n + 1) }
-    ensures pairs { IfOk result (λ parts. ArePairs parts.1.entries) }
-    ensures links { IfOk result (λ parts. links_of parts.1.entries ≡ instance.now.links) }
-    ensures halves { IfOk result (λ parts. (v : ℕ) → AreHalves (halves_at parts.0.items v) (place_of parts.1.entries v)) }
+// The links of an instance.
+pub fn link_all(alloc: Global, instance: &Instance) -> Result<Links, AllocError>
+    ensures { IfOk result (λ made. made ≡ record { n = instance.now.n; links = instance.now.links }) }
 {
-    let mut lists = no_halves(alloc, instance.vertices())?;
-    let mut joints = IndexMap::new(alloc);
+    let mut links = Links::none(alloc, instance.vertices())?;
     for link in instance.links() {
-        attach(&mut lists, &mut joints, link.a, link.b, link.cost)?;
+        links.attach(link.a, link.b, link.cost)?;
     }
-    Ok((lists, joints))
+    Ok(links)
 }
 
 // What each vertex needs.
@@ -41,20 +32,6 @@ pub fn present_all(alloc: Global, vertices: u32) -> Result<Vec<bool>, AllocError
     ensures { IfOk result (λ present. present.items ≡ replicate vertices true) }
 {
     vec![in alloc; true; vertices as usize]
-}
-
-// The links that are kept.
-pub fn links_from(alloc: Global, joints: &Joints) -> Result<Vec<Link>, AllocError>
-    ensures { IfOk result (λ links. links.items ≡ links_of joints.now.entries) }
-{
-    joints
-        .iter()
-        .map(|(pair, joint)| Link {
-            a: pair.0,
-            b: pair.1,
-            cost: joint.cost,
-        })
-        .collect(alloc)
 }
 
 // The needs, each with its vertex.

@@ -1,11 +1,12 @@
-ghost use Rattle.std.specs.Prelude.{◌≡◌, ◌≢◌, ◌<◌, ℕ, ◌∷◌, [], ◌++◌, min, max, ◌&&◌, ◌==◌, None, Some, IfSome, IfNone, IsSome, OnOk, OnErr, if◌then◌else◌, IsPermutation};
+ghost use Rattle.std.specs.Prelude.{◌≡◌, ◌≢◌, ◌<◌, ℕ, ◌∷◌, [], ◌++◌, min, max, ◌&&◌, ◌==◌, None, Some, IfOk, IfSome, IfNone, IsSome, OnOk, OnErr, if◌then◌else◌, IsPermutation};
 ghost use Rattle.std.specs.Map.{set_value};
 ghost use Rattle.std.specs.Option.{option_map};
 ghost use Rattle.graph_store.specs.Changes.{are_ends};
 ghost use Rattle.graph_store.specs.Joined.{joint_of, place_of, links_of, is_pair, ArePairs};
 
 use indexmap::IndexMap;
-use std::alloc::AllocError;
+use st_model::Link;
+use std::alloc::{AllocError, Global};
 
 // Of a link: its cost, and where its halves are in the lists of its lower and its higher end.
 #[derive(Clone, Copy, Debug)]
@@ -25,12 +26,28 @@ pub fn joint_between(joints: &Joints, u: u32, w: u32) -> Option<Joint>
     joints.get(&(u.min(w), u.max(w))).copied()
 }
 
+// All links.
+pub fn links_from(alloc: Global, joints: &Joints) -> Result<Vec<Link>, AllocError>
+    ensures { IfOk result (λ links. links.items ≡ links_of joints.now.entries) }
+{
+    joints
+        .iter()
+        .map(|(pair, joint)| Link {
+            a: pair.0,
+            b: pair.1,
+            cost: joint.cost,
+        })
+        .collect(alloc)
+}
+
 // Takes out the link between two vertices, if there is one.
 pub fn take_joint(joints: &mut Joints, u: u32, w: u32) -> Option<Joint>
     requires { ArePairs joints.old.entries }
     ensures value { result ≡ joint_of joints.old.entries u w }
-    ensures others { (x y : ℕ) → joint_of joints.new.entries x y ≡ (if are_ends u w x y then None else joint_of joints.old.entries x y) }
-    ensures moved { IfSome result (λ joint. IsPermutation joints.old.entries (((min u w, max u w), joint) ∷ joints.new.entries)) }
+    ensures others { (x y : ℕ) → joint_of joints.new.entries x y
+        ≡ (if are_ends u w x y then None else joint_of joints.old.entries x y) }
+    ensures moved { IfSome result (λ joint. IsPermutation joints.old.entries
+        (((min u w, max u w), joint) ∷ joints.new.entries)) }
     ensures unchanged { IfNone result (joints.new.entries ≡ joints.old.entries) }
     ensures pairs { ArePairs joints.new.entries }
 {
@@ -60,7 +77,9 @@ pub fn put_place(joints: &mut Joints, from: u32, to: u32, place: usize)
     requires pairs { ArePairs joints.old.entries }
     requires linked { IsSome (joint_of joints.old.entries from to) }
     requires different { from ≢ to }
-    ensures places { (x y : ℕ) → place_of joints.new.entries x y ≡ (if (x == from) && (y == to) then option_map (λ p. (place, p.1)) (place_of joints.old.entries x y) else place_of joints.old.entries x y) }
+    ensures places { (x y : ℕ) → place_of joints.new.entries x y
+        ≡ (if (x == from) && (y == to) then option_map (λ p. (place, p.1)) (place_of joints.old.entries x y)
+        else place_of joints.old.entries x y) }
     ensures links { links_of joints.new.entries ≡ links_of joints.old.entries }
     ensures pairs { ArePairs joints.new.entries }
 {
@@ -78,7 +97,8 @@ pub fn put_cost(joints: &mut Joints, low: u32, high: u32, joint: Joint, cost: u6
     requires pairs { ArePairs joints.old.entries }
     requires joint { joint_of joints.old.entries low high ≡ Some joint }
     requires ordered { low < high }
-    ensures entries { joints.new.entries ≡ set_value (is_pair low high) joints.old.entries (record joint { cost = cost }) }
+    ensures entries { joints.new.entries
+        ≡ set_value (is_pair low high) joints.old.entries (record joint { cost = cost }) }
     ensures pairs { ArePairs joints.new.entries }
 {
     if let Some(known) = joints.get_mut(&(low, high)) {

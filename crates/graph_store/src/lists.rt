@@ -21,7 +21,8 @@ pub fn no_halves(alloc: Global, last: u32) -> Result<Vec<Vec<Half>>, AllocError>
 pub fn push_half(lists: &mut Vec<Vec<Half>>, at: u32, half: Half) -> Result<(), AllocError>
     requires { at < vec_len lists.old }
     ensures length { vec_len lists.new ≡ vec_len lists.old }
-    ensures ok { OnOk result ((v : ℕ) → halves_at lists.new.items v ≡ (if v == at then halves_at lists.old.items at ++ half ∷ [] else halves_at lists.old.items v)) }
+    ensures ok { OnOk result ((v : ℕ) → halves_at lists.new.items v
+        ≡ (if v == at then halves_at lists.old.items at ++ half ∷ [] else halves_at lists.old.items v)) }
     ensures err { OnErr result ((v : ℕ) → halves_at lists.new.items v ≡ halves_at lists.old.items v) }
 {
     lists[at as usize].push(half)?;
@@ -32,18 +33,22 @@ pub fn push_half(lists: &mut Vec<Vec<Half>>, at: u32, half: Half) -> Result<(), 
 pub fn pop_half(lists: &mut Vec<Vec<Half>>, at: u32)
     requires { at < vec_len lists.old }
     ensures length { vec_len lists.new ≡ vec_len lists.old }
-    ensures popped { (v : ℕ) → halves_at lists.new.items v ≡ (if v == at then take (length (halves_at lists.old.items at) - 1) (halves_at lists.old.items at) else halves_at lists.old.items v) }
+    ensures popped { (v : ℕ) → halves_at lists.new.items v
+        ≡ (if v == at then take (length (halves_at lists.old.items at) - 1) (halves_at lists.old.items at)
+        else halves_at lists.old.items v) }
 {
     lists[at as usize].pop();
 }
 
-// Takes out the half at a place of a vertex's list; the last one moves there, and is told.
+// Takes out the half at a place of a vertex's list; the last one moves there, and is returned.
 pub fn take_half(lists: &mut Vec<Vec<Half>>, at: u32, place: usize) -> Option<Half>
     requires at { at < vec_len lists.old }
     requires place { place < length (halves_at lists.old.items at) }
     ensures length { vec_len lists.new ≡ vec_len lists.old }
     ensures moved { result ≡ slice_get (halves_at lists.new.items at) place }
-    ensures here { (k : ℕ) → slice_get (halves_at lists.new.items at) k ≡ (let old = halves_at lists.old.items at in if nat_lt (k + 1) (length old) then (if k == place then slice_get old (length old - 1) else slice_get old k) else None) }
+    ensures here { (k : ℕ) → slice_get (halves_at lists.new.items at) k
+        ≡ (let old = halves_at lists.old.items at in
+        if nat_lt (k + 1) (length old) then (if k == place then slice_get old (length old - 1) else slice_get old k) else None) }
     ensures others { (v : ℕ) → (v ≡ at → ⊥) → halves_at lists.new.items v ≡ halves_at lists.old.items v }
 {
     let list = &mut lists[at as usize];
@@ -56,7 +61,9 @@ pub fn put_half_cost(lists: &mut Vec<Vec<Half>>, at: u32, place: usize, cost: u6
     requires at { at < vec_len lists.old }
     requires place { place < length (halves_at lists.old.items at) }
     ensures length { vec_len lists.new ≡ vec_len lists.old }
-    ensures here { (k : ℕ) → slice_get (halves_at lists.new.items at) k ≡ (let old = slice_get (halves_at lists.old.items at) k in if k == place then option_map (with_cost cost) old else old) }
+    ensures here { (k : ℕ) → slice_get (halves_at lists.new.items at) k
+        ≡ (let old = slice_get (halves_at lists.old.items at) k in
+        if k == place then option_map (with_cost cost) old else old) }
     ensures others { (v : ℕ) → (v ≡ at → ⊥) → halves_at lists.new.items v ≡ halves_at lists.old.items v }
 {
     lists[at as usize][place].cost = cost;

@@ -1,13 +1,12 @@
 ghost use Rattle.std.specs.Prelude.{◌≡◌, ◌≢◌, ℕ, ◌+◌, ◌^◌, ◌<◌, ◌≤◌, ◌↔◌, true, IsTrue, IsSome, None, IfOk, IfSome, IfNone, OnOk, OnErr, length, replicate, unwrap_or};
 ghost use Rattle.st_model.specs.Network.{IsVertex, amount, link, need_of, pays, prize};
 ghost use Rattle.graph_store.specs.Graph.{is_in, IsGraph};
-ghost use Rattle.graph_store.specs.Changes.{RemovesVertex, RemovesLink, PutsLink, with_need};
+ghost use Rattle.graph_store.specs.Changes.{RemovesVertex, RemovesLink, with_link, with_need};
 ghost use Rattle.graph_store.specs.Neighbours.{AreNeighbours, IsDegree};
 
 use crate::Half;
-use crate::building::{link_all, links_from, needs_of, present_all, stated_needs};
-use crate::joints::{Joints, joint_between};
-use crate::linking::{attach, cheapen, unlink};
+use crate::building::{link_all, needs_of, present_all, stated_needs};
+use crate::links::Links;
 use st_model::{Instance, Need};
 use std::alloc::{AllocError, Global};
 use std::marker::Model;
@@ -15,38 +14,33 @@ use std::marker::Model;
 /// A graph under change: an instance, and which of its vertices are present.
 #[derive(Drop)]
 pub struct Store {
-    vertices: u32,
-    // The halves that begin at vertex 1, 2, .. n, behind an empty list.
-    lists: Vec<Vec<Half>>,
-    joints: Joints,
+    links: Links,
     needs: Vec<Need>,
     present: Vec<bool>,
 }
 
 impl Model for Store {
-    ghost use Rattle.graph_store.specs.Graph.{Graph};
-    ghost use Rattle.graph_store.specs.Joined.{graph_of, IsKept};
+    ghost use Rattle.graph_store.specs.Graph.{Graph, IsGraph};
+    ghost use Rattle.graph_store.specs.Joined.{graph_of};
 
     ghost Value = { Graph };
 
-    ghost view = { λ s. graph_of s.vertices s.needs.items s.present.items s.joints.entries };
+    ghost view = { λ s. graph_of s.links s.needs.items s.present.items };
 
-    ghost invariant = { λ s. IsKept s.vertices s.needs.items s.present.items s.lists.items s.joints.entries };
+    ghost invariant = { λ s. IsGraph (graph_of s.links s.needs.items s.present.items) };
 }
 
 impl Store {
     /// The instance, all of whose vertices are present.
     pub fn of(alloc: Global, instance: &Instance) -> Result<Store, AllocError>
-        ensures { IfOk result (λ store. store ≡ record { network = instance.now; present = replicate instance.now.n true }) }
+        ensures { IfOk result (λ store. store
+            ≡ record { network = instance.now; present = replicate instance.now.n true }) }
     {
-        let vertices = instance.vertices();
+        let links = link_all(alloc, instance)?;
         let needs = needs_of(alloc, instance)?;
-        let present = present_all(alloc, vertices)?;
-        let (lists, joints) = link_all(alloc, instance)?;
+        let present = present_all(alloc, instance.vertices())?;
         Ok(Store {
-            vertices,
-            lists,
-            joints,
+            links,
             needs,
             present,
         })
@@ -57,7 +51,7 @@ impl Store {
         ensures count { result ≡ self.now.network.n }
         ensures graph { IsGraph self.now }
     {
-        self.vertices
+        self.links.vertices()
     }
 
     /// What a vertex needs.
@@ -76,12 +70,30 @@ impl Store {
         self.present[vertex as usize - 1]
     }
 
+    /// What leaving out a vertex costs, which is nothing where it is required.
+    pub fn prize(&self, vertex: u32) -> u64
+        requires { IsVertex self.now.network.n vertex }
+        ensures { result ≡ pays self.now.network vertex }
+    {
+        match self.need(vertex) {
+            Need::Required => 0,
+            Need::Pays(prize) => prize,
+        }
+    }
+
+    /// What the link between two vertices costs, if there is one, in constant expected time.
+    pub fn link_cost(&self, a: u32, b: u32) -> Option<u64>
+        ensures { result ≡ link self.now.network.links a b }
+    {
+        self.links.cost(a, b)
+    }
+
     /// How many vertices a vertex is linked with.
-    pub fn degree(&self, vertex: u32) -> usize
+    pub fn degree(&self, vertex: u32) -> u32
         requires { IsVertex self.now.network.n vertex }
         ensures { IsDegree self.now.network vertex result }
     {
-        self.neighbours(vertex).len()
+        self.neighbours(vertex).len() as u32
     }
 
     /// The vertices that a vertex is linked with, each once and in a free order.
@@ -90,7 +102,7 @@ impl Store {
         ensures halves { AreNeighbours self.now.network vertex result.now }
         ensures graph { IsGraph self.now }
     {
-        &self.lists[vertex as usize]
+        self.links.halves(vertex)
     }
 
     /// The graph as an instance; of its vertices none is missing, but those that aren't present
@@ -98,9 +110,9 @@ impl Store {
     pub fn instance(&self, alloc: Global) -> Result<Instance, AllocError>
         ensures { IfOk result (λ instance. instance ≡ self.now.network) }
     {
-        let links = links_from(alloc, &self.joints)?;
+        let links = self.links.all(alloc)?;
         let needs = stated_needs(alloc, &self.needs)?;
-        Instance::build(alloc, self.vertices, &links, &needs)
+        Instance::build(alloc, self.links.vertices(), &links, &needs)
     }
 
     /// Removes a vertex and its links, in time linear in its degree.
@@ -118,7 +130,8 @@ impl Store {
     // One of the vertices that a vertex is linked with.
     fn last_neighbour(&self, vertex: u32) -> Option<u32>
         requires { IsVertex self.now.network.n vertex }
-        ensures linked { IfSome result (λ other. IsSome (link self.now.network.links vertex other) × IsVertex self.now.network.n other) }
+        ensures linked { IfSome result (λ other. IsSome (link self.now.network.links vertex other) ×
+            IsVertex self.now.network.n other) }
         ensures alone { IfNone result ((other : ℕ) → link self.now.network.links vertex other ≡ None) }
     {
         Some(self.neighbours(vertex).last()?.to)
@@ -129,33 +142,31 @@ impl Store {
         requires a { IsVertex self.old.network.n a }
         requires b { IsVertex self.old.network.n b }
         ensures removes { RemovesLink self.old self.new a b }
-        ensures fewer { IsSome (link self.old.network.links a b) → length self.new.network.links + 1 ≡ length self.old.network.links }
+        ensures fewer { IsSome (link self.old.network.links a b) →
+            length self.new.network.links + 1 ≡ length self.old.network.links }
         ensures unchanged { link self.old.network.links a b ≡ None → self.new ≡ self.old }
-        ensures amount { amount self.new.network + unwrap_or (link self.old.network.links a b) 0 ≡ amount self.old.network }
+        ensures amount { amount self.new.network + unwrap_or (link self.old.network.links a b) 0
+            ≡ amount self.old.network }
     {
-        unlink(&mut self.lists, &mut self.joints, a, b);
+        self.links.remove(a, b);
     }
 
     /// Links two present vertices at a cost, or at what their link costs so far if that is less,
-    /// in constant expected time.
+    /// in constant expected time. A new link stands last, and no other changes its place.
     pub fn put_link(&mut self, a: u32, b: u32, cost: u64) -> Result<(), AllocError>
         requires a { IsTrue (is_in self.old a) }
         requires b { IsTrue (is_in self.old b) }
         requires different { a ≢ b }
-        requires amount { amount self.old.network + cost < 2 ^ 63 }
-        ensures ok { OnOk result (PutsLink self.old self.new a b cost) }
+        requires amount { amount (with_link self.old a b cost).network < 2 ^ 63 }
+        ensures ok { OnOk result (self.new ≡ with_link self.old a b cost) }
         ensures amount { OnOk result (amount self.new.network ≤ amount self.old.network + cost) }
         ensures err { OnErr result (self.new ≡ self.old) }
     {
         let (low, high) = (a.min(b), a.max(b));
-        match joint_between(&self.joints, low, high) {
-            None => attach(&mut self.lists, &mut self.joints, low, high, cost),
-            Some(joint) if cost < joint.cost => {
-                cheapen(&mut self.lists, &mut self.joints, low, high, joint, cost);
-                Ok(())
-            }
-            Some(_) => Ok(()),
+        if self.links.cheapen(low, high, cost) {
+            return Ok(());
         }
+        self.links.attach(low, high, cost)
     }
 
     /// Says what a vertex needs from now on.

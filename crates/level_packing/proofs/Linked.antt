@@ -11,7 +11,8 @@ use Rattle.st_model.specs.declared.branch.Branch.{Branch}
 use Rattle.st_model.specs.declared.link.Link.{Link}
 use Rattle.st_model.specs.Lists.{has}
 use Rattle.st_model.specs.Network.{Network, IsInstance, IsLinkBetween, IsVertex, joins, link}
-use Rattle.level_packing.specs.Forest.{IsPresent, IsPresentLink, IsToCome, has_no_end}
+use Rattle.st_model.specs.Branch.{is_present}
+use Rattle.level_packing.specs.Forest.{IsPresent, IsPresentLink, IsToCome, has_present_ends}
 
 joins_either : (l m : Link) → joins l m.a m.b ≡ joins m l.a l.b
 joins_either l m = grind (arith, nat_tests)
@@ -25,18 +26,18 @@ link_itself (l ∷ ls) (suc k) d once within =
     rw other (link_itself ls k d (λ i j e below within. once (suc i) (suc j) e (omega arith) (omega arith)) (omega arith))
 
 -- what is linked between vertices of which none is in the set is among the links that are kept
-pub kept_links : (set : List ℕ) (ls : List Link) (u v : ℕ) → has set u ≡ false → has set v ≡ false → IfSome (link ls u v) (IsToCome (filter (has_no_end set) ls) u v)
-kept_links set [] u v not_u not_v = tt
-kept_links set (l ∷ ls) u v not_u not_v = by_case (joins l u v) (has_no_end set l) refl refl (kept_links set ls u v not_u not_v)
+pub kept_links : (B : Branch) (ls : List Link) (u v : ℕ) → IsTrue (is_present B u) → IsTrue (is_present B v) → IfSome (link ls u v) (IsToCome (filter (has_present_ends B) ls) u v)
+kept_links B [] u v in_u in_v = tt
+kept_links B (l ∷ ls) u v in_u in_v = by_case (joins l u v) (has_present_ends B l) refl refl (kept_links B ls u v in_u in_v)
   where
-    later : (o : Option ℕ) → IfSome o (IsToCome (filter (has_no_end set) ls) u v) → IfSome o (IsToCome (l ∷ filter (has_no_end set) ls) u v)
+    later : (o : Option ℕ) → IfSome o (IsToCome (filter (has_present_ends B) ls) u v) → IfSome o (IsToCome (l ∷ filter (has_present_ends B) ls) u v)
     later None h = tt
     later (Some price) (k, m, within, at, h) = (suc k, m, omega arith, at, h)
 
-    no_end : joins l u v ≡ true → has_no_end set l ≡ true
-    no_end joined = elim (joins-ends l u v joined) [ inl e ↦ rw (e.0, e.1, not_u, not_v) refl | inr e ↦ rw (e.0, e.1, not_u, not_v) refl ]
+    no_end : joins l u v ≡ true → has_present_ends B l ≡ true
+    no_end joined = elim (joins-ends l u v joined) [ inl e ↦ rw (e.0, e.1, in_u, in_v) refl | inr e ↦ rw (e.0, e.1, in_u, in_v) refl ]
 
-    by_case : (b c : Bool) → joins l u v ≡ b → has_no_end set l ≡ c → IfSome (link ls u v) (IsToCome (filter (has_no_end set) ls) u v) → IfSome (cond b (Some l.cost) (link ls u v)) (IsToCome (cond c (l ∷ filter (has_no_end set) ls) (filter (has_no_end set) ls)) u v)
+    by_case : (b c : Bool) → joins l u v ≡ b → has_present_ends B l ≡ c → IfSome (link ls u v) (IsToCome (filter (has_present_ends B) ls) u v) → IfSome (cond b (Some l.cost) (link ls u v)) (IsToCome (cond c (l ∷ filter (has_present_ends B) ls) (filter (has_present_ends B) ls)) u v)
     by_case true true joined free rest = (0, l, omega arith, refl, (joined, refl))
     by_case true false joined free rest = absurd (false≢true (sym free ∙ no_end joined))
     by_case false true joined free rest = later (link ls u v) rest
@@ -51,19 +52,16 @@ to_come_permutation xs ys u v None moved h = tt
 to_come_permutation xs ys u v (Some price) moved h = any_permutation (λ (l : Link). IsTrue (joins l u v) × (l.cost ≡ price)) xs ys moved h
 
 -- the links that are kept are between present vertices
-pub kept_present : (I : Network) (B : Branch) (set : List ℕ) → IsInstance I → ((v : ℕ) → v ≤ I.n → has set v ≡ has B.outside v) → All (IsPresentLink I B) (filter (has_no_end set) I.links)
-kept_present I B set instance same = All-from_recursion (IsPresentLink I B) (filter (has_no_end set) I.links) (kept I.links (recursion_from_All _ I.links (λ k d within. (instance.ends k d within, link_itself I.links k d instance.one_each within))))
+pub kept_present : (I : Network) (B : Branch) → IsInstance I → All (IsPresentLink I B) (filter (has_present_ends B) I.links)
+kept_present I B instance = All-from_recursion (IsPresentLink I B) (filter (has_present_ends B) I.links) (kept I.links (recursion_from_All _ I.links (λ k d within. (instance.ends k d within, link_itself I.links k d instance.one_each within))))
   where
-    present : (v : ℕ) → IsVertex I.n v → has set v ≡ false → IsPresent I B v
-    present v vertex off = record { vertex = vertex; present = rw (← same v vertex.1, off) refl }
-
-    kept : (ls : List Link) → AllByRecursion (λ l. IsLinkBetween I.n l × (link I.links l.a l.b ≡ Some l.cost)) ls → AllByRecursion (IsPresentLink I B) (filter (has_no_end set) ls)
+    kept : (ls : List Link) → AllByRecursion (λ l. IsLinkBetween I.n l × (link I.links l.a l.b ≡ Some l.cost)) ls → AllByRecursion (IsPresentLink I B) (filter (has_present_ends B) ls)
     kept [] h = tt
-    kept (l ∷ ls) h = by_case (has set l.a) (has set l.b) refl refl (kept ls h.1)
+    kept (l ∷ ls) h = by_case (is_present B l.a) (is_present B l.b) refl refl (kept ls h.1)
       where
-        by_case : (a b : Bool) → has set l.a ≡ a → has set l.b ≡ b → AllByRecursion (IsPresentLink I B) (filter (has_no_end set) ls) → AllByRecursion (IsPresentLink I B) (cond (not a && not b) (l ∷ filter (has_no_end set) ls) (filter (has_no_end set) ls))
-        by_case true b p q rest = rest
-        by_case false true p q rest = rest
-        by_case false false p q rest =
+        by_case : (a b : Bool) → is_present B l.a ≡ a → is_present B l.b ≡ b → AllByRecursion (IsPresentLink I B) (filter (has_present_ends B) ls) → AllByRecursion (IsPresentLink I B) (cond (a && b) (l ∷ filter (has_present_ends B) ls) (filter (has_present_ends B) ls))
+        by_case false b p q rest = rest
+        by_case true false p q rest = rest
+        by_case true true p q rest =
             let between : IsLinkBetween I.n l = h.0.0 in
-            (record { a = present l.a (between.low, omega (arith, between.ordered, between.high)) p; b = present l.b (omega (arith, between.low, between.ordered), between.high) q; cost = h.0.1 }, rest)
+            (record { a = record { vertex = (between.low, omega (arith, between.ordered, between.high)); present = p }; b = record { vertex = (omega (arith, between.low, between.ordered), between.high); present = q }; cost = h.0.1 }, rest)

@@ -1,5 +1,5 @@
 -- Clusters of vertices that links have joined so far, and the cuts round them.
-use Rattle.std.specs.Prelude.{◌≡◌, ◌≢◌, ℕ, ◌+◌, ◌*◌, ◌≤◌, ◌↔◌, ◌==◌, Bool, IsTrue, IsFalse, IsSome, IfSome, if◌then◌else◌, List, [], ◌∷◌, length, map, All, Any, Some, not, ◌&&◌, slice_index_or}
+use Rattle.std.specs.Prelude.{◌≡◌, ◌≢◌, ℕ, ◌+◌, ◌*◌, ◌≤◌, ◌↔◌, ◌==◌, Bool, IsTrue, IsFalse, IsSome, IfSome, if◌then◌else◌, List, [], ◌∷◌, length, map, All, Any, Some, ◌&&◌, slice_index_or}
 use Rattle.std.specs.Prelude.{Vec}
 use Rattle.std.specs.declared.alloc.Global.{Global}
 use Rattle.st_model.specs.declared.branch.Branch.{Branch}
@@ -117,6 +117,6 @@ pub record IsPresentLink (I : Network) (B : Branch) (l : Link) : Type 0 where
   pub b : IsPresent I B l.b
   pub cost : link I.links l.a l.b ≡ Some l.cost
 
--- neither end of the link is in the set
-abbrev pub has_no_end : List ℕ → Link → Bool
-has_no_end set l = not (has set l.a) && not (has set l.b)
+-- neither end of the link is outside
+abbrev pub has_present_ends : Branch → Link → Bool
+has_present_ends B l = is_present B l.a && is_present B l.b

@@ -19,9 +19,9 @@ pub record IsSpanning (I : Network) (B : Branch) (t : Tree) : Type 0 where
 
 -- a spanning tree with a packing that weighs what the tree costs; or, where there is no such
 -- tree, a packing that weighs at least the target
-abbrev pub Closes : Network → Branch → ℕ → Leaf → Type 0
-Closes I B target (Spanned t P) = IsSpanning I B t × Fits I B P × (weight I B P ≡ cost I t)
-Closes I B target (Wall P) = ((t : Tree) → IsSpanning I B t → ⊥) × Fits I B P × (target ≤ weight I B P)
+abbrev pub IsLeaf : Network → Branch → ℕ → Leaf → Type 0
+IsLeaf I B target (Spanned t P) = IsSpanning I B t × Fits I B P × (weight I B P ≡ cost I t)
+IsLeaf I B target (Wall P) = ((t : Tree) → IsSpanning I B t → ⊥) × Fits I B P × (target ≤ weight I B P)
 
 -- the sets of the packing's cuts are written in ascending order, each vertex once
 abbrev pub AreSets : ℕ → Packing → Type 0

@@ -3,7 +3,7 @@ ghost use Rattle.std.specs.List.Sorted.{IsNonDecreasingBy};
 ghost use Rattle.st_model.specs.Network.{IsInstance, link};
 ghost use Rattle.st_model.specs.Branch.{is_certain};
 ghost use Rattle.level_packing.specs.Forest.{IsGrown, IsPresent, IsPresentLink, IsToCome, groups, cluster_of};
-ghost use Rattle.level_packing.specs.Spanning.{Closes, HasFewCuts, HasSets};
+ghost use Rattle.level_packing.specs.Spanning.{IsLeaf, HasFewCuts, HasSets};
 
 use crate::Leaf;
 use crate::ascending::ascending;
@@ -11,7 +11,7 @@ use crate::forest::{Forest, alone};
 use crate::present::present_links;
 use crate::search::{first_apart, first_present};
 use cut_packing::{Cut, Packing};
-use st_model::{Branch, Instance, Link, Listed, VertexSet, thin};
+use st_model::{Instance, Link, Listed, Sides, thin};
 use std::alloc::{AllocError, Global};
 
 /// Closes a branch in which each present vertex is required or inside: by a tree that reaches
@@ -22,23 +22,22 @@ use std::alloc::{AllocError, Global};
 pub fn close_all(
     alloc: Global,
     instance: &Instance,
-    branch: &Branch,
+    branch: &Sides,
     target: u64,
 ) -> Result<Leaf, AllocError>
-    requires certain { (v : ℕ) → IsPresent instance.now branch.now v → IsTrue (is_certain instance.now branch.now v) }
+    requires certain { (v : ℕ) → IsPresent instance.now branch.now v
+        → IsTrue (is_certain instance.now branch.now v) }
     requires some { (v : ℕ) × IsPresent instance.now branch.now v }
-    ensures closed { IfOk result (Closes instance.now branch.now target) }
+    ensures closed { IfOk result (IsLeaf instance.now branch.now target) }
     ensures sets { IfOk result (HasSets instance.now.n) }
     ensures few { IfOk result (HasFewCuts instance.now.n target) }
 {
-    let places = instance.vertices() as usize + 1;
-    let outside = VertexSet::of(alloc, places, branch.outside.as_slice())?;
-    let Some(root) = first_present(instance, branch, &outside) else {
+    let Some(root) = first_present(instance, branch) else {
         unreachable!()
     };
-    let links = present_links(alloc, instance, branch, &outside)?;
+    let links = present_links(alloc, instance, branch)?;
     let forest = grow(alloc, instance, branch, root, &links)?;
-    match first_apart(instance, branch, &outside, &forest, root) {
+    match first_apart(instance, branch, &forest, root) {
         None => spanned(alloc, instance, branch, target, root, forest),
         Some(vertex) => wall(alloc, instance, branch, target, root, forest, vertex),
     }
@@ -48,7 +47,7 @@ pub fn close_all(
 fn grow(
     alloc: Global,
     instance: &Instance,
-    branch: &Branch,
+    branch: &Sides,
     root: u32,
     links: &[Link],
 ) -> Result<Forest, AllocError>
@@ -70,16 +69,18 @@ fn grow(
 fn spanned(
     alloc: Global,
     instance: &Instance,
-    branch: &Branch,
+    branch: &Sides,
     target: u64,
     root: u32,
     forest: Forest,
 ) -> Result<Leaf, AllocError>
-    requires certain { (v : ℕ) → IsPresent instance.now branch.now v → IsTrue (is_certain instance.now branch.now v) }
+    requires certain { (v : ℕ) → IsPresent instance.now branch.now v
+        → IsTrue (is_certain instance.now branch.now v) }
     requires instance { IsInstance instance.now }
     requires grown { IsGrown instance.now branch.now root [] (groups forest) }
-    requires one { (v : ℕ) → IsPresent instance.now branch.now v → cluster_of (groups forest) v ≡ cluster_of (groups forest) root }
-    ensures closed { IfOk result (Closes instance.now branch.now target) }
+    requires one { (v : ℕ) → IsPresent instance.now branch.now v
+        → cluster_of (groups forest) v ≡ cluster_of (groups forest) root }
+    ensures closed { IfOk result (IsLeaf instance.now branch.now target) }
     ensures sets { IfOk result (HasSets instance.now.n) }
     ensures few { IfOk result (HasFewCuts instance.now.n target) }
 {
@@ -97,18 +98,19 @@ fn spanned(
 fn wall(
     alloc: Global,
     instance: &Instance,
-    branch: &Branch,
+    branch: &Sides,
     target: u64,
     root: u32,
     forest: Forest,
     vertex: u32,
 ) -> Result<Leaf, AllocError>
-    requires certain { (v : ℕ) → IsPresent instance.now branch.now v → IsTrue (is_certain instance.now branch.now v) }
+    requires certain { (v : ℕ) → IsPresent instance.now branch.now v
+        → IsTrue (is_certain instance.now branch.now v) }
     requires instance { IsInstance instance.now }
     requires grown { IsGrown instance.now branch.now root [] (groups forest) }
     requires vertex { IsPresent instance.now branch.now vertex }
     requires apart { cluster_of (groups forest) vertex ≢ cluster_of (groups forest) root }
-    ensures closed { IfOk result (Closes instance.now branch.now target) }
+    ensures closed { IfOk result (IsLeaf instance.now branch.now target) }
     ensures sets { IfOk result (HasSets instance.now.n) }
     ensures few { IfOk result (HasFewCuts instance.now.n target) }
 {

@@ -8,7 +8,7 @@ ghost use Rattle.level_packing.specs.Forest.{IsPresent};
 use crate::search::first_present;
 use crate::{Leaf, close_all};
 use cut_packing::Cut;
-use st_model::{Branch, Instance, Listed, Need, Tree, VertexSet, is_tree, tree_cost};
+use st_model::{Branch, Instance, Listed, Need, Sides, Tree, is_tree, tree_cost};
 use std::alloc::{AllocError, Global};
 use std::test::Fail;
 use test_instances::{link, triangle_with_centre};
@@ -24,18 +24,17 @@ enum Closing {
 }
 
 // Whether a vertex is outside, inside or required.
-fn is_settled(instance: &Instance, branch: &Branch, vertex: u32) -> bool
+fn is_settled(instance: &Instance, branch: &Sides, vertex: u32) -> bool
     requires { IsVertex instance.now.n vertex }
     ensures { result ≡ (has branch.now.outside vertex || is_certain instance.now branch.now vertex) }
 {
-    branch.outside.as_slice().contains(&vertex)
-        || matches!(instance.need(vertex), Need::Required)
-        || branch.inside.as_slice().contains(&vertex)
+    branch.is_outside(vertex) || branch.is_certain(instance, vertex)
 }
 
 // Whether each present vertex is required or inside.
-fn is_decided(instance: &Instance, branch: &Branch) -> bool
-    ensures { OnTrue result ((v : ℕ) → IsPresent instance.now branch.now v → IsTrue (is_certain instance.now branch.now v)) }
+fn is_decided(instance: &Instance, branch: &Sides) -> bool
+    ensures { OnTrue result ((v : ℕ) → IsPresent instance.now branch.now v
+        → IsTrue (is_certain instance.now branch.now v)) }
 {
     for before in 0..instance.vertices() {
         if !is_settled(instance, branch, before + 1) {
@@ -49,12 +48,10 @@ fn is_decided(instance: &Instance, branch: &Branch) -> bool
 fn closed(
     alloc: Global,
     instance: &Instance,
-    branch: &Branch,
+    branch: &Sides,
     target: u64,
 ) -> Result<Option<Leaf>, AllocError> {
-    let places = instance.vertices() as usize + 1;
-    let outside = VertexSet::of(alloc, places, branch.outside.as_slice())?;
-    let Some(_) = first_present(instance, branch, &outside) else {
+    let Some(_) = first_present(instance, branch) else {
         return Ok(None);
     };
     if !is_decided(instance, branch) {
@@ -122,7 +119,8 @@ fn closing_of(
         inside: Listed::of(Vec::from_slice(alloc, inside)?),
         outside: Listed::of(Vec::from_slice(alloc, outside)?),
     };
-    let Some(leaf) = closed(alloc, instance, &branch, target)? else {
+    let sides = Sides::of(alloc, branch)?;
+    let Some(leaf) = closed(alloc, instance, &sides, target)? else {
         return Ok(Closing::Undecided);
     };
     let (tree, packing) = match leaf {

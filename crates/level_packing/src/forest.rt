@@ -6,7 +6,7 @@ ghost use Rattle.level_packing.specs.Growing.{IsAlone, IsRaised, IsJoinedBy, IsM
 
 use crate::ascending::ascending;
 use cut_packing::Cut;
-use st_model::{Branch, Instance, Link, Listed};
+use st_model::{Instance, Link, Listed, Sides};
 use std::alloc::{AllocError, Global};
 use std::mem;
 
@@ -49,7 +49,7 @@ impl Forest {
         &mut self,
         alloc: Global,
         instance: &Instance,
-        branch: &Branch,
+        branch: &Sides,
         root: u32,
         links: &[Link],
         at: usize,
@@ -82,7 +82,8 @@ impl Forest {
         requires first { first < length self.old.members.items }
         requires second { second < length self.old.members.items }
         requires formed { length self.old.formed.items ≡ length self.old.members.items }
-        requires in_range { (i : ℕ) → i ≡ first ⊎ i ≡ second → All (λ v. v < length self.old.cluster.items) (members_of (groups self.old) i) }
+        requires in_range { (i : ℕ) → i ≡ first ⊎ i ≡ second
+            → All (λ v. v < length self.old.cluster.items) (members_of (groups self.old) i) }
         requires two { first ≢ second }
         ensures { OnOk result (IsJoinedBy of_root first second link (groups self.old) (groups self.new)) }
     {
@@ -121,7 +122,8 @@ impl Forest {
         requires first { first < length self.old.members.items }
         requires second { second < length self.old.members.items }
         requires formed { length self.old.formed.items ≡ length self.old.members.items }
-        requires in_range { (i : ℕ) → i ≡ first ⊎ i ≡ second → All (λ v. v < length self.old.cluster.items) (members_of (groups self.old) i) }
+        requires in_range { (i : ℕ) → i ≡ first ⊎ i ≡ second
+            → All (λ v. v < length self.old.cluster.items) (members_of (groups self.old) i) }
         requires two { first ≢ second }
         ensures { OnOk result (IsMerged first second link (groups self.old) (groups self.new)) }
     {
@@ -156,7 +158,7 @@ impl Forest {
     }
 }
 
-// Moves all of one list behind another.
+// Moves all of one list to the end of another.
 fn pour(alloc: Global, members: &mut Vec<Vec<u32>>, from: u32, to: u32) -> Result<(), AllocError>
     requires from { from < length members.old.items }
     requires to { to < length members.old.items }
@@ -174,7 +176,8 @@ fn relabel(cluster: &mut Vec<u32>, vertices: &[u32], name: u32)
     requires { All (λ v. v < length cluster.old.items) vertices.now }
     ensures len { length cluster.new.items ≡ length cluster.old.items }
     ensures labels { (v : ℕ) → v < length cluster.old.items
-        → slice_index_or cluster.new.items v 0 ≡ (if has vertices.now v then name else slice_index_or cluster.old.items v 0) }
+        → slice_index_or cluster.new.items v 0
+        ≡ (if has vertices.now v then name else slice_index_or cluster.old.items v 0) }
 {
     for vertex in vertices {
         cluster[*vertex as usize] = name;

@@ -12,7 +12,8 @@ use Rattle.log_format.specs.declared.log.Claim.{Claim}
 use Rattle.log_format.specs.declared.log.Claim.TheVariants.{Found, NoTree}
 use Rattle.log_format.specs.declared.proof_line.ProofLine.{ProofLine}
 use Rattle.st_model.specs.Wall.{IsWall}
-use Rattle.log_format.specs.Accepts.{all_trees, AcceptsFound, AcceptsClaim, Holds, AcceptedHolds}
+use Rattle.st_model.specs.Branch.{all_trees}
+use Rattle.log_format.specs.Accepts.{AcceptsFound, AcceptsClaim, Holds, AcceptedHolds}
 use Rattle.log_format.proofs.AllTrees.{belongs_to_all}
 
 -- a proved bound bounds every tree

@@ -1,9 +1,8 @@
 -- The branch of all trees.
 use Rattle.st_model.specs.declared.tree.Tree.{Tree}
 use Rattle.st_model.specs.Network.{Network}
-use Rattle.st_model.specs.Branch.{Belongs, IsBranch}
+use Rattle.st_model.specs.Branch.{Belongs, IsBranch, all_trees}
 use Rattle.st_model.proofs.Branches.{IsVertexSet-nil}
-use Rattle.log_format.specs.Accepts.{all_trees}
 
 pub belongs_to_all : (t : Tree) → Belongs all_trees t
 belongs_to_all t = record { inside = λ v h. absurd cc; outside = λ v h. absurd cc }

@@ -1,23 +1,16 @@
 -- Where words and keywords end.
 use Rattle.std.proofs.Common.{◌≡◌, ◌≢◌, ℕ, suc, Bool, true, false, cond, not, eqb, inl, inr, List, [], ◌∷◌, ◌++◌, length, take, drop, Option, Some, None, option_map, refl, sym, ap, ◌∙◌}
 use Rattle.std.specs.Prelude.{◌==◌, position, MatchOption, unwrap_or}
-use Rattle.std.proofs.lemmas.Bool.{eqb-true, eq-eqb, and_parts, and_from, not-true}
+use Rattle.std.proofs.lemmas.Bool.{eqb-true, eq-eqb, and_parts, not-true}
 use denote.Ref.{Bor}
 use Rattle.st_model.proofs.Links.{position-cons}
 use Rattle.log_format.specs.Reading.{after, word_at}
-use Rattle.decimals.proofs.Steps.{chosen}
-use Rattle.decimals.proofs.Numerals.{lacks}
-
--- two texts without d make one
-pub lacks-append : (d : ℕ) (xs ys : List ℕ) → lacks d xs ≡ true → lacks d ys ≡ true → lacks d (xs ++ ys) ≡ true
-lacks-append d [] ys h k = k
-lacks-append d (x ∷ xs) ys h k =
-    let p = and_parts (not (eqb x d)) (lacks d xs) h in
-    and_from (not (eqb x d)) (lacks d (xs ++ ys)) p.0 (lacks-append d xs ys p.1 k)
+use Rattle.plain_text.proofs.Steps.{chosen}
+use Rattle.plain_text.proofs.Lacking.{lacks}
 
 -- ---- keywords
 
--- what stands behind the keyword is what follows it
+-- what stands after the keyword is what follows it
 pub after_takes : (keyword bytes rest : List ℕ) → after keyword bytes ≡ Some rest → bytes ≡ keyword ++ rest
 after_takes [] bytes rest e = cc
 after_takes (k ∷ keyword) [] rest e = absurd cc
@@ -32,7 +25,7 @@ pub after_again : (keyword rest : List ℕ) → after keyword (keyword ++ rest) 
 after_again [] rest = refl
 after_again (k ∷ keyword) rest = rw (eq-eqb k k refl) (after_again keyword rest)
 
--- what a stripped prefix leaves is what stands behind the keyword
+-- what a stripped prefix leaves is what stands after the keyword
 pub after-stripped : (keyword bytes : List ℕ) (rest : Option (List ℕ)) → MatchOption rest ((r : List ℕ) → bytes ≢ keyword ++ r) (λ r. bytes ≡ keyword ++ r) → rest ≡ after keyword bytes
 after-stripped keyword bytes None none = sym (lacking keyword bytes (after keyword bytes) refl none)
   where

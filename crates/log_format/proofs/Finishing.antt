@@ -17,7 +17,7 @@ use Rattle.log_format.specs.declared.stage.Stage.TheVariants.{AtHeader, AtClaim,
 use Rattle.log_format.specs.Text.{words, arc_line, cut_line, header, log_lines, IsLog, AreWhole, Begins, IsWritableCut, IsWritablePacking}
 use Rattle.log_format.specs.Reading.{most, closed, cuts_left, step, run}
 use Rattle.log_format.specs.Reached.{lines_read, IsReached, IsRead}
-use Rattle.decimals.proofs.Steps.{step_some}
+use Rattle.plain_text.proofs.Steps.{step_some}
 use Rattle.log_format.proofs.LineLaws.{pair_judges, wall_judges, IsAscending}
 use Rattle.log_format.proofs.StageLaws.{step_takes}
 use Rattle.log_format.proofs.Sets.{cut_from}

@@ -11,10 +11,11 @@ use Rattle.std.proofs.lemmas.Slice.Eq.{bytes_eq-Decides}
 use Rattle.cut_packing.specs.declared.cut.Cut.{Cut}
 use Rattle.log_format.specs.Text.{spaced, words, cut_line}
 use Rattle.log_format.specs.Reading.{after, word_at, number_at, only, number_of, pair_of, set_at, counted_set_at, cut_head_of, cut_of, wall_of, most}
-use Rattle.decimals.specs.Numbers.{number}
-use Rattle.decimals.proofs.Steps.{step_some}
+use Rattle.plain_text.specs.Numbers.{number}
+use Rattle.plain_text.proofs.Steps.{step_some}
 use Rattle.log_format.proofs.Cut.{after_takes, after_again, begins_word, word_takes, word_again}
-use Rattle.decimals.proofs.Numerals.{decimal_lacks, number_takes, number_again}
+use Rattle.plain_text.proofs.Lacking.{lacks-decimal}
+use Rattle.plain_text.proofs.Numerals.{number_takes, number_again}
 
 -- a test finds x just where the line is the spelling of x and x fits
 pub record Judges {X : Type 0} (judge : List ℕ → Option X) (spell : X → List ℕ) (Fits : X → Type 0) : Type 0 where
@@ -40,7 +41,7 @@ begins_spaced (n ∷ ns) = refl
 
 -- ---- numbers
 
--- a number that was read is written so, behind a space
+-- a number that was read is written so, after a space
 pub number_at_takes : (low high : ℕ) (bytes : List ℕ) (x : ℕ × List ℕ) → high < 2 ^ 64 → number_at low high bytes ≡ Some x → IsBetween low high x.0 × (bytes ≡ spaced x.0 ++ x.1)
 unfolding number_at
 number_at_takes low high bytes x lt e =
@@ -53,11 +54,11 @@ number_at_takes low high bytes x lt e =
     let parts : a.0 ≡ decimal b.0 ++ (word_at a.0).1 = word_takes a.0 ∙ ap (λ (w : List ℕ). w ++ (word_at a.0).1) t.1 in
     subst (λ (y : ℕ × List ℕ). IsBetween low high y.0 × (bytes ≡ spaced y.0 ++ y.1)) same (t.0, front ∙ ap (λ (r : List ℕ). 32 ∷ r) parts)
 
--- a number that is written behind a space is read
+-- a number that is written after a space is read
 pub number_at_again : (low high n : ℕ) (rest : List ℕ) → high < 2 ^ 64 → IsBetween low high n → begins_word rest ≡ true → number_at low high (spaced n ++ rest) ≡ Some (n, rest)
 unfolding number_at
 number_at_again low high n rest lt fits ends =
-    rw (word_again (decimal n) rest (decimal_lacks 32 n (omega arith) (omega arith)) ends, number_again low high n lt fits) refl
+    rw (word_again (decimal n) rest (lacks-decimal 32 n (omega arith)) ends, number_again low high n lt fits) refl
 
 -- x was given, and nothing was left
 pub only_takes : {X : Type 0} (x : X) (rest : List ℕ) (y : X) → only x rest ≡ Some y → (rest ≡ []) × (x ≡ y)
@@ -162,7 +163,7 @@ pub record IsAscending (set : List ℕ) : Type 0 where
 abbrev pub counted : List ℕ → List ℕ
 counted set = flat_map spaced (length set ∷ set)
 
--- a set that was read is written behind its number
+-- a set that was read is written after its number
 counted_takes : (bytes set : List ℕ) → counted_set_at bytes ≡ Some set → IsAscending set × (bytes ≡ counted set)
 unfolding counted_set_at
 counted_takes bytes set e =
@@ -171,7 +172,7 @@ counted_takes bytes set e =
     let u = set_takes n.0.0 0 n.0.1 set n.2 in
     (record { some = omega (arith, t.0, u.0); few = omega (arith, t.0, u.0); ascend = u.1 }, t.1 ∙ (ap (λ (r : List ℕ). spaced n.0.0 ++ r) u.2 ∙ ap (λ (k : ℕ). spaced k ++ flat_map spaced set) (sym u.0)))
 
--- a set that is written behind its number is read
+-- a set that is written after its number is read
 counted_again : (set : List ℕ) → IsAscending set → counted_set_at (counted set) ≡ Some set
 unfolding counted_set_at
 counted_again set fits = rw (number_at_again 1 most (length set) (flat_map spaced set) (omega arith) (fits.some, fits.few) (begins_spaced set)) (set_again 0 set fits.ascend)

@@ -10,11 +10,11 @@ use Rattle.log_format.specs.declared.log.Claim.TheVariants.{Found, NoTree}
 use Rattle.log_format.specs.declared.proof_line.ProofLine.{ProofLine}
 use Rattle.log_format.specs.declared.proof_line.ProofLine.TheVariants.{Split, Close}
 use Rattle.cut_packing.specs.declared.cut.Cut.{Cut}
-use Rattle.log_format.specs.Text.{ended, spaced, words, root_number, arc_line, cut_line, lines_of, claim_lines, log_lines, log_text, with_byte, cut_lines, whole_lines, unfinished, IsAnyVertex, IsWritableCut, IsWritableLine, IsClaimInRange, IsInLogRange}
-use Rattle.byte_pieces.specs.Pieces.{cut}
+use Rattle.plain_text.specs.Lines.{ended}
+use Rattle.log_format.specs.Text.{spaced, words, root_number, arc_line, cut_line, lines_of, claim_lines, log_lines, log_text, with_byte, cut_lines, whole_lines, unfinished, IsAnyVertex, IsWritableCut, IsWritableLine, IsClaimInRange, IsInLogRange}
+use Rattle.plain_text.specs.Pieces.{cut}
 use Rattle.log_format.specs.Reading.{most}
-use Rattle.log_format.proofs.Cut.{lacks-append}
-use Rattle.decimals.proofs.Numerals.{lacks, decimal_lacks}
+use Rattle.plain_text.proofs.Lacking.{lacks, lacks-append, lacks-decimal}
 use Rattle.log_format.proofs.Sets.{set_to}
 use Rattle.log_format.proofs.Runs.{root_in_range}
 use Rattle.st_model.specs.Network.{IsVertex}
@@ -85,7 +85,7 @@ AreWritable ns = AllByRecursion (λ n. n < 2 ^ 64) ns
 
 numbers_lack : (ns : List ℕ) → AreWritable ns → lacks 10 (flat_map spaced ns) ≡ true
 numbers_lack [] fits = refl
-numbers_lack (n ∷ ns) fits = lacks-append 10 (spaced n) (flat_map spaced ns) (decimal_lacks 10 n (omega arith) fits.0) (numbers_lack ns fits.1)
+numbers_lack (n ∷ ns) fits = lacks-append 10 (spaced n) (flat_map spaced ns) (lacks-decimal 10 n (omega arith)) (numbers_lack ns fits.1)
 
 -- a keyword and numbers end no line
 words_lack : (keyword ns : List ℕ) → lacks 10 keyword ≡ true → AreWritable ns → lacks 10 (words keyword ns) ≡ true

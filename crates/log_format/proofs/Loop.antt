@@ -5,24 +5,24 @@ use Rattle.std.proofs.lemmas.List.{append-nil}
 use Rattle.log_format.specs.declared.fault.LineError.{LineError}
 use Rattle.log_format.specs.declared.fault.LineError.TheVariants.{BadLine, NoMemory}
 use Rattle.log_format.specs.Reading.{Fails, number_at, only, set_at}
-use Rattle.decimals.specs.Numbers.{◌>>=◌}
+use Rattle.plain_text.specs.Steps.{◌>>=◌}
 
 -- what was read before, and what is still read
 abbrev pub with_front : List ℕ → Option (List ℕ) → Option (List ℕ)
 with_front front read = read >>= λ xs. Some (front ++ xs)
 
--- what is read next goes behind what was read before
+-- what is read next goes after what was read before
 regroup : (front : List ℕ) (first : ℕ) (read : Option (List ℕ)) → with_front front (read >>= λ xs. Some (first ∷ xs)) ≡ with_front (front ++ first ∷ []) read
 regroup front first (Some xs) = ap (λ (r : List ℕ). Some r) (simp append_assoc)
 regroup front first None = refl
 
 -- one more vertex was read
-pub goes_on : (front : List ℕ) (count i last : ℕ) (bytes : List ℕ) (first : ℕ) (behind : List ℕ) (all : Option (List ℕ)) → i < count → number_at (last + 1) 1000000 bytes ≡ Some (first, behind)
-    → with_front front (set_at (count - i) last bytes) ≡ all → with_front (front ++ first ∷ []) (set_at (count - (i + 1)) first behind) ≡ all
+pub goes_on : (front : List ℕ) (count i last : ℕ) (bytes : List ℕ) (first : ℕ) (after : List ℕ) (all : Option (List ℕ)) → i < count → number_at (last + 1) 1000000 bytes ≡ Some (first, after)
+    → with_front front (set_at (count - i) last bytes) ≡ all → with_front (front ++ first ∷ []) (set_at (count - (i + 1)) first after) ≡ all
 unfolding set_at
-goes_on front count i last bytes first behind all lt h so_far =
+goes_on front count i last bytes first after all lt h so_far =
     let k : count - i ≡ suc (count - (i + 1)) = omega arith in
-    let one : with_front front (set_at (count - i) last bytes) ≡ with_front (front ++ first ∷ []) (set_at (count - (i + 1)) first behind) = rw (k, h) (regroup front first (set_at (count - (i + 1)) first behind)) in
+    let one : with_front front (set_at (count - i) last bytes) ≡ with_front (front ++ first ∷ []) (set_at (count - (i + 1)) first after) = rw (k, h) (regroup front first (set_at (count - (i + 1)) first after)) in
     sym one ∙ so_far
 
 -- what is no vertex ends the reading

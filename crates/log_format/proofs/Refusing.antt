@@ -10,7 +10,7 @@ use Rattle.log_format.specs.declared.stage.Stage.TheVariants.{AtHeader, AtClaim,
 use Rattle.log_format.specs.Text.{log_lines, whole_lines, unfinished, AreWhole, Begins}
 use Rattle.log_format.specs.Reading.{step}
 use Rattle.log_format.specs.Reached.{lines_read, IsRead}
-use Rattle.log_format.specs.Refused.{IsBadLine, HasBytesBehind, IsCutShort, LogRefused}
+use Rattle.log_format.specs.Refused.{IsBadLine, HasBytesAfter, IsCutShort, LogRefused}
 use Rattle.log_format.specs.Laws.{IsNoText, RefusedExactly}
 use Rattle.log_format.proofs.Finishing.{read_none, read_more, read_begins, refused_stops, read_whole, whole_is_read}
 use Rattle.log_format.proofs.WholeLines.{is_text, text_stands}
@@ -23,8 +23,8 @@ AllRead lines = (t : Stage) × IsRead t × (lines_read t ≡ lines)
 pub record Stops (lines : List (List ℕ)) : Type 0 where
   pub before : List (List ℕ)
   pub bad : List ℕ
-  pub behind : List (List ℕ)
-  pub parts : lines ≡ before ++ bad ∷ behind
+  pub after : List (List ℕ)
+  pub parts : lines ≡ before ++ bad ∷ after
   pub begun : Begins before
   pub stops : ¬ (Begins (before ++ bad ∷ []))
 
@@ -34,7 +34,7 @@ scan s [] read = inl (s, read, sym (append-nil (lines_read s)))
 scan s (line ∷ lines) read = by_step (step s line) refl (λ t more. scan t lines more)
   where
     by_step : (o : Option Stage) → step s line ≡ o → ((t : Stage) → IsRead t → AllRead (lines_read t ++ lines) ⊎ Stops (lines_read t ++ lines)) → AllRead (lines_read s ++ line ∷ lines) ⊎ Stops (lines_read s ++ line ∷ lines)
-    by_step None e others = inr (record { before = lines_read s; bad = line; behind = lines; parts = refl; begun = read_begins s read; stops = refused_stops s line read e })
+    by_step None e others = inr (record { before = lines_read s; bad = line; after = lines; parts = refl; begun = read_begins s read; stops = refused_stops s line read e })
     by_step (Some t) e others =
         let more = read_more s t line read e in
         let same : lines_read t ++ lines ≡ lines_read s ++ line ∷ lines = ap (λ (r : List (List ℕ)). r ++ lines) more.1 ∙ append_assoc (lines_read s) (line ∷ []) lines in
@@ -69,7 +69,7 @@ read_faults bytes (t, read, lines) no_text =
           let same : log_lines log ≡ whole_lines bytes = whole.1 ∙ (ap lines_read (sym end.1) ∙ lines) in
           elim (nothing_left (unfinished bytes)) [
             | inl none ↦ absurd (no_text log whole.0 (is_text bytes log same none))
-            | inr some ↦ (length (whole_lines bytes) + 1, BadLine, inr (record { whole = (log, whole.0, same); behind = some; place = refl }))
+            | inr some ↦ (length (whole_lines bytes) + 1, BadLine, inr (record { whole = (log, whole.0, same); after = some; place = refl }))
           ]
       | inr none ↦ (
         length (whole_lines bytes) + 1,
@@ -87,7 +87,7 @@ some_fault_lem : (bytes : List ℕ) → IsNoText bytes → (line : ℕ) × (kind
 some_fault_lem bytes no_text =
     elim (scan AtHeader (whole_lines bytes) read_none) [
       | inl read ↦ read_faults bytes read no_text
-      | inr stop ↦ (length stop.before + 1, BadLine, inl (record { before = stop.before; bad = stop.bad; behind = stop.behind; lines = stop.parts; place = refl; begun = stop.begun; stops = stop.stops }))
+      | inr stop ↦ (length stop.before + 1, BadLine, inl (record { before = stop.before; bad = stop.bad; after = stop.after; lines = stop.parts; place = refl; begun = stop.begun; stops = stop.stops }))
     ]
 
 -- ---- one fault
@@ -120,7 +120,7 @@ not_within a b x before begun stops = stops (begins_first (a ++ x ∷ []) before
 
 -- lines that some log begins with hold no line that stops each
 all_begun : (bytes : List ℕ) (line : ℕ) → IsBadLine bytes line → Begins (whole_lines bytes) → ⊥
-all_begun bytes line bad begun = bad.stops (begins_first (bad.before ++ bad.bad ∷ []) bad.behind (subst Begins (bad.lines ∙ sym (append_assoc bad.before (bad.bad ∷ []) bad.behind)) begun))
+all_begun bytes line bad begun = bad.stops (begins_first (bad.before ++ bad.bad ∷ []) bad.after (subst Begins (bad.lines ∙ sym (append_assoc bad.before (bad.bad ∷ []) bad.after)) begun))
 
 -- the lines of a whole log begin one
 whole_begins : (lines : List (List ℕ)) → AreWhole lines → Begins lines
@@ -129,34 +129,34 @@ whole_begins lines (log, fits, e) = (log, [], fits, e ∙ sym (append-nil lines)
 -- one bad line only
 one_bad : (bytes : List ℕ) (line line' : ℕ) → IsBadLine bytes line → IsBadLine bytes line' → line ≡ line'
 one_bad bytes line line' bad bad' =
-    elim (compare bad.before bad'.before bad.bad bad'.bad bad.behind bad'.behind (sym bad.lines ∙ bad'.lines)) [
+    elim (compare bad.before bad'.before bad.bad bad'.bad bad.after bad'.after (sym bad.lines ∙ bad'.lines)) [
       | inl same ↦ bad.place ∙ (ap (λ (r : List (List ℕ)). length r + 1) same ∙ sym bad'.place)
       | inr (inl before) ↦ absurd (not_within bad.before bad'.before bad.bad before bad'.begun bad.stops)
       | inr (inr before) ↦ absurd (not_within bad'.before bad.before bad'.bad before bad.begun bad'.stops)
     ]
 
 -- bytes are refused for one of three reasons
-by_reason : (bytes : List ℕ) (line : ℕ) (kind : Kind) → LogRefused bytes line kind → ((IsBadLine bytes line ⊎ HasBytesBehind bytes line) × (kind ≡ BadLine)) ⊎ (IsCutShort bytes line × (kind ≡ EndsEarly))
+by_reason : (bytes : List ℕ) (line : ℕ) (kind : Kind) → LogRefused bytes line kind → ((IsBadLine bytes line ⊎ HasBytesAfter bytes line) × (kind ≡ BadLine)) ⊎ (IsCutShort bytes line × (kind ≡ EndsEarly))
 by_reason bytes line BadLine refused = inl (refused, refl)
 by_reason bytes line EndsEarly refused = inr (refused, refl)
 by_reason bytes line _ none = absurd none
 
 -- one line and no cut
-bad_once : (bytes : List ℕ) (line line' : ℕ) → IsBadLine bytes line ⊎ HasBytesBehind bytes line → IsBadLine bytes line' ⊎ HasBytesBehind bytes line' → line ≡ line'
+bad_once : (bytes : List ℕ) (line line' : ℕ) → IsBadLine bytes line ⊎ HasBytesAfter bytes line → IsBadLine bytes line' ⊎ HasBytesAfter bytes line' → line ≡ line'
 bad_once bytes line line' (inl bad) (inl bad') = one_bad bytes line line' bad bad'
-bad_once bytes line line' (inl bad) (inr behind) = absurd (all_begun bytes line bad (whole_begins (whole_lines bytes) behind.whole))
-bad_once bytes line line' (inr behind) (inl bad) = absurd (all_begun bytes line' bad (whole_begins (whole_lines bytes) behind.whole))
-bad_once bytes line line' (inr behind) (inr behind') = behind.place ∙ sym behind'.place
+bad_once bytes line line' (inl bad) (inr after) = absurd (all_begun bytes line bad (whole_begins (whole_lines bytes) after.whole))
+bad_once bytes line line' (inr after) (inl bad) = absurd (all_begun bytes line' bad (whole_begins (whole_lines bytes) after.whole))
+bad_once bytes line line' (inr after) (inr after') = after.place ∙ sym after'.place
 
-not_both : (bytes : List ℕ) (line line' : ℕ) → IsBadLine bytes line ⊎ HasBytesBehind bytes line → IsCutShort bytes line' → ⊥
+not_both : (bytes : List ℕ) (line line' : ℕ) → IsBadLine bytes line ⊎ HasBytesAfter bytes line → IsCutShort bytes line' → ⊥
 not_both bytes line line' (inl bad) short = all_begun bytes line bad short.begun
-not_both bytes line line' (inr behind) short = short.part behind.whole
+not_both bytes line line' (inr after) short = short.part after.whole
 
 -- one fault only
 one_fault_lem : (bytes : List ℕ) (line line' : ℕ) (kind kind' : Kind) → LogRefused bytes line kind → LogRefused bytes line' kind' → (line ≡ line') × (kind ≡ kind')
 one_fault_lem bytes line line' kind kind' a b = both (by_reason bytes line kind a) (by_reason bytes line' kind' b)
   where
-    both : ((IsBadLine bytes line ⊎ HasBytesBehind bytes line) × (kind ≡ BadLine)) ⊎ (IsCutShort bytes line × (kind ≡ EndsEarly)) → ((IsBadLine bytes line' ⊎ HasBytesBehind bytes line') × (kind' ≡ BadLine)) ⊎ (IsCutShort bytes line' × (kind' ≡ EndsEarly)) → (line ≡ line') × (kind ≡ kind')
+    both : ((IsBadLine bytes line ⊎ HasBytesAfter bytes line) × (kind ≡ BadLine)) ⊎ (IsCutShort bytes line × (kind ≡ EndsEarly)) → ((IsBadLine bytes line' ⊎ HasBytesAfter bytes line') × (kind' ≡ BadLine)) ⊎ (IsCutShort bytes line' × (kind' ≡ EndsEarly)) → (line ≡ line') × (kind ≡ kind')
     both (inl bad) (inl bad') = (bad_once bytes line line' bad.0 bad'.0, bad.1 ∙ sym bad'.1)
     both (inl bad) (inr short) = absurd (not_both bytes line line' bad.0 short.0)
     both (inr short) (inl bad) = absurd (not_both bytes line' line bad.0 short.0)

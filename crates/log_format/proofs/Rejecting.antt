@@ -3,7 +3,7 @@ use Rattle.std.proofs.Common.{◌≡◌, ℕ, ◌+◌, true, List, [], ◌∷◌
 use Rattle.std.proofs.lemmas.List.{append-nil}
 use Rattle.st_model.specs.declared.branch.Branch.{Branch}
 use Rattle.st_model.specs.Network.{Network}
-use Rattle.st_model.specs.Branch.{with_inside, with_outside}
+use Rattle.st_model.specs.Branch.{with_inside, with_outside, all_trees}
 use Rattle.cut_packing.specs.ProofTree.{ProofTree, close, split, Closes, IsSplit, Proves}
 use Rattle.log_format.specs.declared.kind.Kind.{Kind}
 use Rattle.log_format.specs.declared.kind.Kind.TheVariants.{NotTree, WrongCost, DualAbovePrimal, BadSplit, BadPacking, TooLight, BadWall}
@@ -14,11 +14,11 @@ use Rattle.log_format.specs.declared.proof_line.ProofLine.{ProofLine}
 use Rattle.log_format.specs.declared.proof_line.ProofLine.TheVariants.{Split, Close}
 use Rattle.log_format.specs.Preorder.{preorder, are_proofs}
 use Rattle.log_format.specs.Text.{IsProved}
-use Rattle.log_format.specs.Accepts.{all_trees, ProvesAll, AcceptsClaim, FailsFirst, IsFirstWrong, RejectsClaim, proof_line}
+use Rattle.log_format.specs.Accepts.{ProvesAll, AcceptsClaim, FailsFirst, IsFirstWrong, RejectsClaim, proof_line}
 use Rattle.log_format.specs.Laws.{RejectedExactly}
 use Rattle.log_format.proofs.Preorders.{preorders, one_passes}
 
--- ---- one check, and the others behind it
+-- ---- one check, and the others after it
 
 -- two failures of a check and the others are one
 agree : {C O O' : Type 0} (at l l' : ℕ) (is k k' : Kind) → FailsFirst C at is l k O → FailsFirst C at is l' k' O' → (O → O' → (l ≡ l') × (k ≡ k')) → (l ≡ l') × (k ≡ k')

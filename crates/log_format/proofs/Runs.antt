@@ -129,13 +129,13 @@ claim_again : (claim : Claim) (rest : List (List ℕ)) → IsClaimInRange claim 
 unfolding step
 claim_again (Found primal dual tree proof) rest fits one =
     let a : Answer = record { primal = primal; dual = dual; tree = tree } in
-    let behind : List (List ℕ) = codes "STEPS 0" ∷ codes "PROOF" ∷ flat_map lines_of proof in
+    let after : List (List ℕ) = codes "STEPS 0" ∷ codes "PROOF" ∷ flat_map lines_of proof in
     let claim_is : step AtClaim (words (codes "CLAIM TREE") (primal ∷ dual ∷ [])) ≡ Some (AtTree primal dual) = rw ((pair_judges (codes "CLAIM TREE") 0 most 0 most (omega arith) (omega arith)).again (primal, dual) ((omega arith, omega (arith, fits.primal_fits)), (omega arith, omega (arith, fits.dual_fits)))) refl in
     let tree_is : step (AtTree primal dual) (words (codes "TREE") (tree.start ∷ length tree.arcs ∷ [])) ≡ Some (AtArcs primal dual tree.start [] (length tree.arcs)) = rw ((pair_judges (codes "TREE") 1 1000000 0 most (omega arith) (omega arith)).again (tree.start, length tree.arcs) (fits.tree_fits.start, (omega arith, omega (arith, fits.tree_fits.few_arcs)))) refl in
     run-cons AtClaim (AtTree primal dual) _ _ claim_is
     ∙ (run-cons (AtTree primal dual) (AtArcs primal dual tree.start [] (length tree.arcs)) _ _ tree_is
-    ∙ (ap (run (AtArcs primal dual tree.start [] (length tree.arcs))) (append_assoc (map arc_line tree.arcs) behind rest)
-    ∙ (arcs_again primal dual tree.start [] tree.arcs (behind ++ rest) (recursion_from_All _ tree.arcs fits.tree_fits.arcs)
+    ∙ (ap (run (AtArcs primal dual tree.start [] (length tree.arcs))) (append_assoc (map arc_line tree.arcs) after rest)
+    ∙ (arcs_again primal dual tree.start [] tree.arcs (after ++ rest) (recursion_from_All _ tree.arcs fits.tree_fits.arcs)
     ∙ (run-cons (AtArcs primal dual tree.start tree.arcs 0) (AtProof a) (codes "STEPS 0") (codes "PROOF" ∷ (flat_map lines_of proof ++ rest)) refl
     ∙ (run-cons (AtProof a) (half a [] 0) (codes "PROOF") (flat_map lines_of proof ++ rest) refl
     ∙ proof_again a [] proof 0 rest (one_passes proof one) (recursion_from_All IsWritableLine proof fits.lines_fit))))))

@@ -23,7 +23,7 @@ are_vertices : (last : ℕ) (set : List ℕ) → AscendAbove last set → AllByR
 are_vertices last [] h = tt
 are_vertices last (v ∷ vs) h = let above : last + 1 ≤ v = h.0.0 in ((omega arith, h.0.1), are_vertices v vs h.1)
 
--- what stands behind the first rises too
+-- what stands after the first rises too
 tail_rises : (v : ℕ) (vs : List ℕ) → IsStrictlyIncreasing (v ∷ vs) → IsStrictlyIncreasing vs
 tail_rises v vs h k lt =
     let e : suc k + 1 ≡ suc (k + 1) = omega arith in

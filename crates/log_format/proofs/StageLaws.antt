@@ -20,9 +20,9 @@ use Rattle.log_format.specs.declared.stage.Stage.{Stage}
 use Rattle.log_format.specs.declared.stage.Stage.TheVariants.{AtHeader, AtClaim, AtTree, AtArcs, AtProof, AtHalf, AtCuts, AtWall, AtEnd, AtNothing}
 use Rattle.log_format.specs.Text.{words, root_number, arc_line, cut_line, lines_of, header, IsAnyVertex, IsWritableCut, IsWritableLine}
 use Rattle.log_format.specs.Reading.{number_of, pair_of, cut_of, wall_of, most, stage_if, root_of, closed, cuts_left, split_at, half_at, step, open_after}
-use Rattle.decimals.specs.Numbers.{◌>>=◌}
+use Rattle.plain_text.specs.Steps.{◌>>=◌}
 use Rattle.log_format.specs.Reached.{tree_lines, answer_lines, proof_lines, close_lines, lines_read, IsProving, IsReached}
-use Rattle.decimals.proofs.Steps.{step_some, chosen}
+use Rattle.plain_text.proofs.Steps.{step_some, chosen}
 use Rattle.log_format.proofs.LineLaws.{bytes_are, number_of_judges, pair_judges, cut_judges, wall_judges}
 use Rattle.log_format.proofs.Sets.{set_from, cut_from}
 use Rattle.log_format.proofs.Preorders.{are_proofs-append, open_after-append, one_from}

@@ -10,7 +10,8 @@ use Rattle.st_model.specs.declared.tree.Tree.{Tree}
 use Rattle.log_format.specs.declared.log.Claim.{Claim}
 use Rattle.log_format.specs.declared.log.Claim.TheVariants.{Found, NoTree}
 use Rattle.log_format.specs.declared.proof_line.ProofLine.{ProofLine}
-use Rattle.log_format.specs.Text.{ended, spaced, words, arc_line, lines_of, claim_lines}
+use Rattle.plain_text.specs.Lines.{ended}
+use Rattle.log_format.specs.Text.{spaced, words, arc_line, lines_of, claim_lines}
 
 -- four pieces, one after the other
 four : (old a t1 t2 t3 new b c d whole : List ℕ) → t1 ≡ old ++ a → t2 ≡ t1 ++ b → t3 ≡ t2 ++ c → new ≡ t3 ++ d → a ++ (b ++ (c ++ d)) ≡ whole → new ≡ old ++ whole

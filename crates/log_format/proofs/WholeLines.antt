@@ -9,8 +9,9 @@ use Rattle.log_format.specs.declared.fault.ReadError.{ReadError}
 use Rattle.log_format.specs.declared.fault.ReadError.TheVariants.{Fault, NoMemory}
 use Rattle.log_format.specs.declared.log.Log.{Log}
 use Rattle.log_format.specs.declared.stage.Stage.TheVariants.{AtHeader}
-use Rattle.log_format.specs.Text.{ended, log_lines, log_text, whole_lines, unfinished, Begins, IsLog}
-use Rattle.byte_pieces.specs.Pieces.{cut}
+use Rattle.plain_text.specs.Lines.{ended}
+use Rattle.log_format.specs.Text.{log_lines, log_text, whole_lines, unfinished, Begins, IsLog}
+use Rattle.plain_text.specs.Pieces.{cut}
 use Rattle.log_format.specs.Refused.{LogRefused, IsRefusedBy}
 use Rattle.log_format.proofs.Finishing.{read_none, read_begins, same_lines}
 use Rattle.log_format.proofs.Lines.{cut_some, cut_none, text_lines, lines_make}
@@ -25,10 +26,10 @@ pub record IsReadUpTo (bytes : List ℕ) (before : List (List ℕ)) (rest : List
   pub tail : unfinished bytes ≡ unfinished rest
 
 -- one more line was read
-pub one_more : (bytes : List ℕ) (before : List (List ℕ)) (rest line behind : List ℕ) → IsReadUpTo bytes before rest → cut 10 rest ≡ Some (line, behind) → IsReadUpTo bytes (before ++ line ∷ []) behind
-one_more bytes before rest line behind read e =
-    let c = cut_some rest line behind e in
-    record { split = read.split ∙ (ap (λ (r : List (List ℕ)). before ++ r) c.0 ∙ sym (append_assoc before (line ∷ []) (whole_lines behind))); tail = read.tail ∙ c.1 }
+pub one_more : (bytes : List ℕ) (before : List (List ℕ)) (rest line after : List ℕ) → IsReadUpTo bytes before rest → cut 10 rest ≡ Some (line, after) → IsReadUpTo bytes (before ++ line ∷ []) after
+one_more bytes before rest line after read e =
+    let c = cut_some rest line after e in
+    record { split = read.split ∙ (ap (λ (r : List (List ℕ)). before ++ r) c.0 ∙ sym (append_assoc before (line ∷ []) (whole_lines after))); tail = read.tail ∙ c.1 }
 
 -- all lines were read
 pub no_more : (bytes : List ℕ) (before : List (List ℕ)) (rest : List ℕ) → IsReadUpTo bytes before rest → cut 10 rest ≡ None → (before ≡ whole_lines bytes) × (rest ≡ unfinished bytes)
@@ -37,12 +38,12 @@ no_more bytes before rest read e =
     (sym (read.split ∙ (ap (λ (r : List (List ℕ)). before ++ r) c.0 ∙ append-nil before)), sym (read.tail ∙ c.1))
 
 -- a line that no log goes on with is bad
-pub bad_line : (bytes : List ℕ) (before : List (List ℕ)) (rest line behind : List ℕ) (number : ℕ) → IsReadUpTo bytes before rest → cut 10 rest ≡ Some (line, behind) → number ≡ length before → Begins before → ¬ (Begins (before ++ line ∷ []))
+pub bad_line : (bytes : List ℕ) (before : List (List ℕ)) (rest line after : List ℕ) (number : ℕ) → IsReadUpTo bytes before rest → cut 10 rest ≡ Some (line, after) → number ≡ length before → Begins before → ¬ (Begins (before ++ line ∷ []))
     → LogRefused bytes (number + 1) BadLine
-bad_line bytes before rest line behind number read e is begun stops =
-    inl (record { before = before; bad = line; behind = whole_lines behind; lines = read.split ∙ ap (λ (r : List (List ℕ)). before ++ r) (cut_some rest line behind e).0; place = ap (λ (k : ℕ). k + 1) is; begun = begun; stops = stops })
+bad_line bytes before rest line after number read e is begun stops =
+    inl (record { before = before; bad = line; after = whole_lines after; lines = read.split ∙ ap (λ (r : List (List ℕ)). before ++ r) (cut_some rest line after e).0; place = ap (λ (k : ℕ). k + 1) is; begun = begun; stops = stops })
 
--- whole lines of a log with nothing behind them are its text
+-- whole lines of a log with nothing after them are its text
 pub is_text : (bytes : List ℕ) (log : Log) → log_lines log ≡ whole_lines bytes → unfinished bytes ≡ [] → bytes ≡ log_text log
 is_text bytes log lines none = lines_make bytes ∙ (ap (λ (r : List ℕ). flat_map ended (whole_lines bytes) ++ r) none ∙ (append-nil (flat_map ended (whole_lines bytes)) ∙ ap (flat_map ended) (sym lines)))
 
@@ -50,9 +51,9 @@ is_text bytes log lines none = lines_make bytes ∙ (ap (λ (r : List ℕ). flat
 pub text_stands : (bytes : List ℕ) (line : ℕ) (kind : Kind) (log : Log) → LogRefused bytes line kind → IsLog log → bytes ≡ log_text log → ⊥
 text_stands bytes line BadLine log (inl bad) fits text =
     let lines = ap whole_lines text ∙ ap (λ (p : List (List ℕ) × List ℕ). p.0) (text_lines log fits.in_range) in
-    bad.stops (log, bad.behind, fits, sym lines ∙ (bad.lines ∙ sym (append_assoc bad.before (bad.bad ∷ []) bad.behind)))
-text_stands bytes line BadLine log (inr behind) fits text =
-    behind.behind (ap unfinished text ∙ ap (λ (p : List (List ℕ) × List ℕ). p.1) (text_lines log fits.in_range))
+    bad.stops (log, bad.after, fits, sym lines ∙ (bad.lines ∙ sym (append_assoc bad.before (bad.bad ∷ []) bad.after)))
+text_stands bytes line BadLine log (inr after) fits text =
+    after.after (ap unfinished text ∙ ap (λ (p : List (List ℕ) × List ℕ). p.1) (text_lines log fits.in_range))
 text_stands bytes line EndsEarly log short fits text =
     let lines = ap whole_lines text ∙ ap (λ (p : List (List ℕ) × List ℕ). p.0) (text_lines log fits.in_range) in
     short.part (log, fits, sym lines)

@@ -4,7 +4,7 @@ use Rattle.st_model.specs.declared.branch.Branch.{Branch}
 use Rattle.st_model.specs.declared.tree.Tree.{Tree}
 use Rattle.st_model.specs.Network.{Network}
 use Rattle.st_model.specs.Arborescence.{IsTree, IsBound, IsBest, cost}
-use Rattle.st_model.specs.Branch.{with_inside, with_outside}
+use Rattle.st_model.specs.Branch.{with_inside, with_outside, all_trees}
 use Rattle.st_model.specs.Wall.{IsWall}
 use Rattle.cut_packing.specs.Packing.{Fits, weight}
 use Rattle.cut_packing.specs.ProofTree.{ProofTree, IsSplit, Proves}
@@ -16,10 +16,6 @@ use Rattle.log_format.specs.declared.log.Claim.TheVariants.{Found, NoTree}
 use Rattle.log_format.specs.declared.proof_line.ProofLine.{ProofLine}
 use Rattle.log_format.specs.declared.proof_line.ProofLine.TheVariants.{Split, Close}
 use Rattle.log_format.specs.Preorder.{preorder}
-
--- the branch of all trees
-abbrev pub all_trees : Branch
-all_trees = record { inside = []; outside = [] }
 
 -- the lines are a proof tree that proves x of all trees
 abbrev pub ProvesAll : Network → ℕ → List ProofLine → Type 0

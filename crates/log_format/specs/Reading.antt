@@ -2,7 +2,8 @@
 use Rattle.std.specs.Prelude.{◌≡◌, ℕ, zero, suc, ◌+◌, ◌-◌, ◌≤◌, ◌==◌, List, [], ◌∷◌, ◌++◌, length, Option, Some, None, Result, Ok, Err, if◌then◌else◌, codes}
 use Rattle.std.specs.Str.{bytes_eq}
 use Rattle.cut_packing.specs.declared.cut.Cut.{Cut}
-use Rattle.decimals.specs.Numbers.{◌>>=◌, number}
+use Rattle.plain_text.specs.Numbers.{number}
+use Rattle.plain_text.specs.Steps.{◌>>=◌}
 use Rattle.log_format.specs.declared.fault.LineError.{LineError}
 use Rattle.log_format.specs.declared.fault.LineError.TheVariants.{BadLine, NoMemory}
 use Rattle.log_format.specs.declared.log.Claim.TheVariants.{Found, NoTree}
@@ -23,7 +24,7 @@ abbrev pub Gives : {X Y : Type 0} → (X → Y) → Result X LineError → Optio
 Gives view (Ok x) read = read ≡ Some (view x)
 Gives view (Err e) read = Fails e read
 
--- what stands behind a keyword
+-- what stands after a keyword
 abbrev pub after : List ℕ → List ℕ → Option (List ℕ)
 after [] bytes = Some bytes
 after (k ∷ keyword) [] = None
@@ -34,7 +35,7 @@ abbrev pub word_at : List ℕ → List ℕ × List ℕ
 word_at [] = ([], [])
 word_at (b ∷ bs) = if b == 32 then ([], b ∷ bs) else (b ∷ (word_at bs).0, (word_at bs).1)
 
--- a number from low to high behind a space, and what stands behind it
+-- a number from low to high after a space, and what stands after it
 unfoldable pub number_at : ℕ → ℕ → List ℕ → Option (ℕ × List ℕ)
 number_at low high bytes = do
   rest ← after (32 ∷ []) bytes
@@ -77,7 +78,7 @@ counted_set_at bytes = do
   count ← number_at 1 most bytes
   set_at count.0 0 count.1
 
--- the vertex and the value of a cut, and what stands behind them
+-- the vertex and the value of a cut, and what stands after them
 unfoldable pub cut_head_of : List ℕ → Option (ℕ × ℕ × List ℕ)
 cut_head_of line = do
   rest ← after (codes "U") line
@@ -123,7 +124,7 @@ abbrev pub half_at : Proving → Option ℕ → List ℕ → Option Stage
 half_at p (Some v) line = Some (split_at p v)
 half_at p None line = pair_of (codes "C") 0 1000000 0 most line >>= λ head. Some (cuts_left p (root_of head.0) [] head.1)
 
--- what is to come behind a line, if it may stand here
+-- what is to come after a line, if it may stand here
 unfoldable pub step : Stage → List ℕ → Option Stage
 step AtHeader line = stage_if header line AtClaim
 step AtClaim line = if bytes_eq line (codes "CLAIM NONE") then Some AtWall else (pair_of (codes "CLAIM TREE") 0 most 0 most line >>= λ b. Some (AtTree b.0 b.1))

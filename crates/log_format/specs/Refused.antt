@@ -10,16 +10,16 @@ use Rattle.log_format.specs.Text.{AreWhole, Begins, whole_lines, unfinished}
 pub record IsBadLine (bytes : List ℕ) (line : ℕ) : Type 0 where
   pub before : List (List ℕ)
   pub bad : List ℕ
-  pub behind : List (List ℕ)
-  pub lines : whole_lines bytes ≡ before ++ bad ∷ behind
+  pub after : List (List ℕ)
+  pub lines : whole_lines bytes ≡ before ++ bad ∷ after
   pub place : line ≡ length before + 1
   pub begun : Begins before
   pub stops : ¬ (Begins (before ++ bad ∷ []))
 
--- the whole lines are all of a log, and bytes that end no line stand behind them
-pub record HasBytesBehind (bytes : List ℕ) (line : ℕ) : Type 0 where
+-- the whole lines are all of a log, and bytes that end no line stand after them
+pub record HasBytesAfter (bytes : List ℕ) (line : ℕ) : Type 0 where
   pub whole : AreWhole (whole_lines bytes)
-  pub behind : unfinished bytes ≢ []
+  pub after : unfinished bytes ≢ []
   pub place : line ≡ length (whole_lines bytes) + 1
 
 -- some log begins with the whole lines, and they are all of none
@@ -30,7 +30,7 @@ pub record IsCutShort (bytes : List ℕ) (line : ℕ) : Type 0 where
 
 -- the line and the kind of what is wrong with the text of no log
 abbrev pub LogRefused : List ℕ → ℕ → Kind → Type 0
-LogRefused bytes line BadLine = IsBadLine bytes line ⊎ HasBytesBehind bytes line
+LogRefused bytes line BadLine = IsBadLine bytes line ⊎ HasBytesAfter bytes line
 LogRefused bytes line EndsEarly = IsCutShort bytes line
 LogRefused bytes line _ = ⊥
 

@@ -6,6 +6,7 @@ use Rattle.st_model.specs.declared.tree.Tree.{Tree}
 use Rattle.st_model.specs.Network.{IsVertex}
 use Rattle.st_model.specs.Branch.{IsVertexSet}
 use Rattle.cut_packing.specs.declared.cut.Cut.{Cut}
+use Rattle.plain_text.specs.Lines.{ended}
 use Rattle.cut_packing.specs.declared.packing.Packing.{Packing}
 use Rattle.log_format.specs.declared.log.Log.{Log}
 use Rattle.log_format.specs.declared.log.Claim.{Claim}
@@ -13,10 +14,6 @@ use Rattle.log_format.specs.declared.log.Claim.TheVariants.{Found, NoTree}
 use Rattle.log_format.specs.declared.proof_line.ProofLine.{ProofLine}
 use Rattle.log_format.specs.declared.proof_line.ProofLine.TheVariants.{Split, Close}
 use Rattle.log_format.specs.Preorder.{IsOneProof}
-
--- a line with its end
-abbrev pub ended : List ℕ → List ℕ
-ended line = line ++ 10 ∷ []
 
 -- a space and a number
 abbrev pub spaced : ℕ → List ℕ
@@ -123,7 +120,7 @@ abbrev pub with_byte : ℕ → List (List ℕ) × List ℕ → List (List ℕ) �
 with_byte b ([], rest) = ([], b ∷ rest)
 with_byte b (line ∷ lines, rest) = ((b ∷ line) ∷ lines, rest)
 
--- the whole lines of some bytes, without their ends, and what is left behind the last end
+-- the whole lines of some bytes, without their ends, and what is left after the last end
 abbrev pub cut_lines : List ℕ → List (List ℕ) × List ℕ
 cut_lines [] = ([], [])
 cut_lines (b ∷ bytes) = if b == 10 then ([] ∷ (cut_lines bytes).0, (cut_lines bytes).1) else with_byte b (cut_lines bytes)

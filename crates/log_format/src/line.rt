@@ -3,14 +3,14 @@ ghost use Rattle.log_format.specs.Reading.{Gives, after, word_at, number_at, onl
 
 use crate::fault::LineError;
 use cut_packing::Cut;
-use decimals::number;
+use plain_text::number;
 use st_model::Listed;
 use std::alloc::Global;
 
 /// The greatest number of a vertex.
 pub const MAX_VERTEX: u64 = 1_000_000;
 
-/// What stands behind a keyword.
+/// What stands after a keyword.
 fn after<'a>(keyword: &[u8], bytes: &'a [u8]) -> Option<&'a [u8]>
     ensures { option_map (λ rest. rest.now) result ≡ after keyword.now bytes.now }
 {
@@ -33,7 +33,7 @@ fn word_length(bytes: &[u8]) -> usize
     space_index(bytes).unwrap_or(bytes.len())
 }
 
-/// The number on a line from low to high that stands behind a space, and what stands behind it.
+/// The number on a line from low to high that stands after a space, and what stands after it.
 #[tactic(auto, unfolding(crate::specs::Reading::number_at))]
 fn number_at(bytes: &[u8], low: u64, high: u64) -> Option<(u64, &[u8])>
     ensures value { option_map (λ x. (x.0, x.1.now)) result ≡ number_at low high bytes.now }
@@ -80,7 +80,7 @@ pub fn pair_of(
     Some((first, second))
 }
 
-/// The vertex above another that stands behind a space, and what stands behind it.
+/// The vertex above another that stands after a space, and what stands after it.
 fn vertex_above(bytes: &[u8], last: u32) -> Result<(u32, &[u8]), LineError>
     requires { last ≤ 1000000 }
     ensures value { Gives (λ x. (x.0, x.1.now)) result (number_at (last + 1) 1000000 bytes.now) }
@@ -92,7 +92,7 @@ fn vertex_above(bytes: &[u8], last: u32) -> Result<(u32, &[u8]), LineError>
     Ok((vertex as u32, rest))
 }
 
-/// This many ascending vertices, and nothing behind them.
+/// This many ascending vertices, and nothing after them.
 fn set_at(alloc: Global, bytes: &[u8], count: u64) -> Result<Vec<u32>, LineError>
     ensures { Gives (λ set. set.items) result (set_at count 0 bytes.now) }
 {
@@ -100,10 +100,10 @@ fn set_at(alloc: Global, bytes: &[u8], count: u64) -> Result<Vec<u32>, LineError
     let mut rest = bytes;
     let mut last = 0;
     for _ in 0..count {
-        let (vertex, behind) = vertex_above(rest, last)?;
+        let (vertex, others) = vertex_above(rest, last)?;
         set.push(vertex)?;
         last = vertex;
-        rest = behind;
+        rest = others;
     }
     if !rest.is_empty() {
         return Err(LineError::BadLine);
@@ -120,7 +120,7 @@ fn counted_set_at(alloc: Global, bytes: &[u8]) -> Result<Vec<u32>, LineError>
     set_at(alloc, rest, count)
 }
 
-/// The vertex and the value of a cut, and what stands behind them.
+/// The vertex and the value of a cut, and what stands after them.
 #[tactic(auto, unfolding(crate::specs::Reading::cut_head_of))]
 fn cut_head_of(line: &[u8]) -> Option<(u32, u64, &[u8])>
     ensures { option_map (λ x. (x.0, x.1, x.2.now)) result ≡ cut_head_of line.now }

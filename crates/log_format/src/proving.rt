@@ -18,7 +18,7 @@ fn with_line(lines: Listed<ProofLine>, line: ProofLine) -> Result<Listed<ProofLi
     Ok(Listed::of(lines))
 }
 
-// What comes behind a close: the next of the halves that wait, or the end.
+// What comes after a close: the next of the halves that wait, or the end.
 fn closed(proving: Proving, packing: Packing) -> Result<Stage, AllocError>
     requires { IsOpen proving }
     ensures { IfOk result (λ stage. stage
@@ -47,7 +47,7 @@ fn closed(proving: Proving, packing: Packing) -> Result<Stage, AllocError>
     }))
 }
 
-// What comes behind a split: its two halves, one of which waits.
+// What comes after a split: its two halves, one of which waits.
 fn split(proving: Proving, vertex: u32) -> Result<Stage, AllocError>
     requires { IsOpen proving }
     ensures { IfOk result (λ stage. stage ≡ split_at proving vertex) }
@@ -65,7 +65,7 @@ fn split(proving: Proving, vertex: u32) -> Result<Stage, AllocError>
     }))
 }
 
-// What comes behind some cuts of a close.
+// What comes after some cuts of a close.
 fn cuts_left(
     proving: Proving,
     root: Option<u32>,
@@ -93,7 +93,7 @@ fn root_of(number: u32) -> Option<u32>
     if number == 0 { None } else { Some(number) }
 }
 
-// What comes behind the head of a close.
+// What comes after the head of a close.
 fn at_close(alloc: Global, proving: Proving, line: &[u8]) -> Result<Stage, LineError>
     requires { IsOpen proving }
     ensures { Gives (λ s. s) result (half_at proving None line.now) }
@@ -108,7 +108,7 @@ fn at_close(alloc: Global, proving: Proving, line: &[u8]) -> Result<Stage, LineE
     Ok(stage)
 }
 
-/// What comes behind a line where a half of a proof begins.
+/// What comes after a line where a half of a proof begins.
 #[tactic(auto, unfolding(crate::specs::Reading::step))]
 pub fn at_half(alloc: Global, proving: Proving, line: &[u8]) -> Result<Stage, LineError>
     requires { IsOpen proving }
@@ -123,7 +123,7 @@ pub fn at_half(alloc: Global, proving: Proving, line: &[u8]) -> Result<Stage, Li
     }
 }
 
-/// What comes behind a line where cuts of a close stand.
+/// What comes after a line where cuts of a close stand.
 #[tactic(auto, unfolding(crate::specs::Reading::step))]
 pub fn at_cuts(
     alloc: Global,

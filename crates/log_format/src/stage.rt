@@ -67,7 +67,7 @@ fn stage_if(wanted: &[u8], line: &[u8], stage: Stage) -> Result<Stage, LineError
     Ok(stage)
 }
 
-// What comes behind the line of a claim.
+// What comes after the line of a claim.
 #[tactic(auto, unfolding(crate::specs::Reading::step))]
 fn at_claim(line: &[u8]) -> Result<Stage, LineError>
     ensures { Gives (λ s. s) result (step Stage.AtClaim line.now) }
@@ -81,7 +81,7 @@ fn at_claim(line: &[u8]) -> Result<Stage, LineError>
     Ok(Stage::AtTree { primal, dual })
 }
 
-// What comes behind the line of a tree.
+// What comes after the line of a tree.
 #[tactic(auto, unfolding(crate::specs::Reading::step))]
 fn at_tree(alloc: Global, primal: u64, dual: u64, line: &[u8]) -> Result<Stage, LineError>
     ensures { Gives (λ s. s) result (step (Stage.AtTree primal dual) line.now) }
@@ -117,7 +117,7 @@ fn with_arc(arcs: Listed<(u32, u32)>, line: &[u8]) -> Result<Listed<(u32, u32)>,
     Ok(Listed::of(arcs))
 }
 
-// What comes behind a line where arcs may stand.
+// What comes after a line where arcs may stand.
 #[tactic(auto, unfolding(crate::specs::Reading::step))]
 fn at_arcs(
     primal: u64,
@@ -147,7 +147,7 @@ fn at_arcs(
     })
 }
 
-// What comes behind the word that begins a proof.
+// What comes after the word that begins a proof.
 #[tactic(auto, unfolding(crate::specs::Reading::step))]
 fn at_proof(alloc: Global, answer: Answer, line: &[u8]) -> Result<Stage, LineError>
     ensures { Gives (λ s. s) result (step (Stage.AtProof answer) line.now) }
@@ -160,7 +160,7 @@ fn at_proof(alloc: Global, answer: Answer, line: &[u8]) -> Result<Stage, LineErr
     stage_if(b"PROOF", line, Stage::AtHalf(proving))
 }
 
-// What comes behind a line where a wall stands.
+// What comes after a line where a wall stands.
 #[tactic(auto, unfolding(crate::specs::Reading::step))]
 fn at_wall(alloc: Global, line: &[u8]) -> Result<Stage, LineError>
     ensures { Gives (λ s. s) result (step Stage.AtWall line.now) }
@@ -169,7 +169,7 @@ fn at_wall(alloc: Global, line: &[u8]) -> Result<Stage, LineError>
     Ok(Stage::AtEnd(Claim::NoTree { wall }))
 }
 
-/// What comes behind a line, if it may stand here.
+/// What comes after a line, if it may stand here.
 #[tactic(auto, unfolding(crate::specs::Reading::step))]
 pub fn step(alloc: Global, stage: Stage, line: &[u8]) -> Result<Stage, LineError>
     requires { IsReached stage }

@@ -1,6 +1,7 @@
 ghost use Rattle.std.specs.Prelude.{◌≡◌, ◌<◌, ◌^◌, ◌∷◌, [], ◌++◌, length, map, OnOk, IfOk, codes, Some, None};
 ghost use Rattle.std.specs.List.{flat_map};
-ghost use Rattle.log_format.specs.Text.{ended, spaced, words, root_number, arc_line, cut_line, lines_of, claim_lines, log_text, IsInLogRange};
+ghost use Rattle.plain_text.specs.Lines.{ended};
+ghost use Rattle.log_format.specs.Text.{spaced, words, root_number, arc_line, cut_line, lines_of, claim_lines, log_text, IsInLogRange};
 
 use crate::{Claim, Log, ProofLine};
 use cut_packing::{Cut, Packing};
@@ -46,7 +47,7 @@ fn write_pair(text: &mut Text, word: &[u8], first: u64, second: u64) -> Result<(
     write_end(text)
 }
 
-// Writes each vertex behind a space.
+// Writes each vertex after a space.
 fn write_vertices(text: &mut Text, vertices: &[u32]) -> Result<(), AllocError>
     ensures { OnOk result (text.new.items ≡ text.old.items ++ flat_map spaced vertices.now) }
 {

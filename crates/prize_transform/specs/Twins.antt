@@ -32,7 +32,7 @@ prize_in D v = prize_for (kind_of D v)
 abbrev pub prized : Digraph → List ℕ
 prized D = filter (λ v. nat_lt 0 (prize_in D v)) (up_to D.n)
 
--- the vertices, each behind a number, from this one on
+-- the vertices, each after a number, from this one on
 abbrev pub numbered_from : ℕ → List ℕ → List (ℕ × ℕ)
 numbered_from end [] = []
 numbered_from end (v ∷ vs) = (end, v) ∷ numbered_from (end + 1) vs

@@ -7,7 +7,7 @@ mod brute_force;
 use crate::Twins;
 use bidirected_form::Arcs;
 use graph_store::Store;
-use st_model::{Branch, Listed, Need};
+use st_model::{Branch, Listed, Need, Sides};
 use std::alloc::{AllocError, Global};
 use std::test::Fail;
 use test_instances::pair;
@@ -20,7 +20,7 @@ fn twins_of_pair(alloc: Global) -> Result<Twins, AllocError> {
         inside: Listed::of(vec![in alloc; 2]?),
         outside: Listed::of(Vec::new(alloc)),
     };
-    let arcs = Arcs::of(alloc, &store, &branch, 2)?;
+    let arcs = Arcs::of(alloc, &store, &Sides::of(alloc, branch)?, 2)?;
     Twins::of(alloc, &arcs)
 }
 

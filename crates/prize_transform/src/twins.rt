@@ -107,7 +107,9 @@ fn push_end(
     prize: u64,
 ) -> Result<(), AllocError>
     requires { vertices + length ends.old.items < 2000000 }
-    ensures { OnOk result (ends.new.items ≡ (if nat_lt 0 prize then ends.old.items ++ (vertices + 1 + length ends.old.items, vertex) ∷ [] else ends.old.items)) }
+    ensures { OnOk result (ends.new.items
+        ≡ (if nat_lt 0 prize
+        then ends.old.items ++ (vertices + 1 + length ends.old.items, vertex) ∷ [] else ends.old.items)) }
 {
     if prize > 0 {
         ends.push((vertices + 1 + ends.len() as u32, vertex))?;

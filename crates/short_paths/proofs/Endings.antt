@@ -40,7 +40,7 @@ route_told settled marks v mark o p range is told same =
     route-is settled (places_of marks) v range.0 inside ∙ ap (option_map (route_at settled)) (place_read marks v mark o inside is told ∙ same)
 
 -- of a search that is done, the routes are all there are
-pub are_routes : (links : List Link) (n : ℕ) (sources : List ℕ) (limit : ℕ) (search : Search) → IsGoing links n sources limit search search.queue.offers.items → length search.queue.offers.items ≡ 0 → AreRoutes links n sources limit (routes_of search.settled.items (places_of search.marks.items))
+pub are_routes : (links : List Link) (n : ℕ) (sources : List ℕ) (limit : ℕ) (search : Search) → IsGoing links n sources limit search search.queue → length search.queue ≡ 0 → AreRoutes links n sources limit (routes_of search.settled.items (places_of search.marks.items))
 are_routes links n sources limit search going none = record {
   count = (let long = length-map (drop 1 (places_of search.marks.items)) (option_map (route_at search.settled.items)) in let short = length-drop 1 (places_of search.marks.items) in let places = going.kept.places_long in omega arith);
   reached = λ v route range at. reached v route (place_of (places_of search.marks.items) v) refl (sym (route-is search.settled.items (places_of search.marks.items) v range.0 (inside v range)) ∙ at);
@@ -64,7 +64,7 @@ are_routes links n sources limit search going none = record {
     beyond v s c source walk (Some place) is at = absurd (let clash : ◌≡◌ {A = Option Route} (Some (route_at search.settled.items place)) None = sym (ap (option_map (route_at search.settled.items)) is) ∙ at in let no : ⊥ = cc in no)
     beyond v s c source walk None is at = elim (cases_lt limit c) [
       | inl past ↦ past
-      | inr within ↦ elim (covered links n sources limit (bests_of search.marks.items) (places_of search.marks.items) search.settled.items search.queue.offers.items s v c going.kept going.spread source within walk) [
+      | inr within ↦ elim (covered links n sources limit (bests_of search.marks.items) (places_of search.marks.items) search.settled.items search.queue s v c going.kept going.spread source within walk) [
         | inl there ↦ absurd (let clash : ◌≡◌ {A = Bool} false true = ap is_some (sym is) ∙ there in let no : ⊥ = cc in no)
         | inr o ↦ absurd (let held = o.1.1 in omega arith)
       ]

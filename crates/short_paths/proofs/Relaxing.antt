@@ -9,7 +9,6 @@ use Rattle.graph_store.specs.declared.half.Half.{Half}
 use Rattle.graph_store.specs.Neighbours.{AreNeighbours}
 use Rattle.short_paths.specs.declared.settled.Settled.{Settled}
 use Rattle.short_paths.specs.declared.search.Search.{Search}
-use Rattle.short_paths.specs.Waiting.{IsOrdered}
 use Rattle.short_paths.specs.Marks.{bests_of, places_of}
 use Rattle.short_paths.specs.Searching.{IsOffered, place_of, IsSearch, IsFair}
 use Rattle.short_paths.specs.Steps.{Offers, Follows, HasFollowed, Relaxes, offer_of}
@@ -20,7 +19,7 @@ pub record Gains (links : List Link) (n limit : ℕ) (old new : Search) (cost to
   pub more : (w x : ℕ) → IsOffered (bests_of old.marks.items) w x → IsOffered (bests_of new.marks.items) w x
   pub offered : IsOffered (bests_of new.marks.items) to cost
   pub best_long : length (bests_of new.marks.items) ≡ length (bests_of old.marks.items)
-  pub keeps : (sources : List ℕ) → IsFair links n sources limit (places_of old.marks.items) old.settled.items (offer_of cost to from) → IsSearch links n sources limit (bests_of old.marks.items) (places_of old.marks.items) old.settled.items old.queue.offers.items → IsSearch links n sources limit (bests_of new.marks.items) (places_of new.marks.items) new.settled.items new.queue.offers.items
+  pub keeps : (sources : List ℕ) → IsFair links n sources limit (places_of old.marks.items) old.settled.items (offer_of cost to from) → IsSearch links n sources limit (bests_of old.marks.items) (places_of old.marks.items) old.settled.items old.queue → IsSearch links n sources limit (bests_of new.marks.items) (places_of new.marks.items) new.settled.items new.queue
 
 pub offer_gains : (links : List Link) (n limit : ℕ) (old new : Search) (cost to from : ℕ) → to < length (bests_of old.marks.items) → Offers old new cost to from → Gains links n limit old new cost to from
 offer_gains links n limit old new cost to from within offers = elim offers.either [
@@ -28,36 +27,35 @@ offer_gains links n limit old new cost to from within offers = elim offers.eithe
     more = λ w x h. subst (λ b. IsOffered b w x) (sym kept.1) h;
     offered = subst (λ b. IsOffered b to cost) (sym kept.1) kept.0;
     best_long = ap length kept.1;
-    keeps = λ sources fair search. moved sources (offer_kept links n sources limit (bests_of old.marks.items) (bests_of new.marks.items) (places_of old.marks.items) old.settled.items old.queue.offers.items new.queue.offers.items kept.1 kept.2 search);
+    keeps = λ sources fair search. moved sources (offer_kept links n sources limit (bests_of old.marks.items) (bests_of new.marks.items) (places_of old.marks.items) old.settled.items old.queue new.queue kept.1 kept.2 search);
   }
   | inr put ↦ record {
     more = still_offered (bests_of old.marks.items) (bests_of new.marks.items) to cost within put.1 put.0;
     offered = offered_here (bests_of old.marks.items) (bests_of new.marks.items) to cost within put.1;
     best_long = ap length put.1 ∙ length-set (bests_of old.marks.items) to (Some cost);
-    keeps = λ sources fair search. moved sources (offer_put (bests_of old.marks.items) (bests_of new.marks.items) to cost within put.1 links n sources limit (places_of old.marks.items) old.settled.items old.queue.offers.items new.queue.offers.items (offer_of cost to from) refl refl put.2 fair search);
+    keeps = λ sources fair search. moved sources (offer_put (bests_of old.marks.items) (bests_of new.marks.items) to cost within put.1 links n sources limit (places_of old.marks.items) old.settled.items old.queue new.queue (offer_of cost to from) refl refl put.2 fair search);
   }
 ]
   where
-    moved : (sources : List ℕ) → IsSearch links n sources limit (bests_of new.marks.items) (places_of old.marks.items) old.settled.items new.queue.offers.items → IsSearch links n sources limit (bests_of new.marks.items) (places_of new.marks.items) new.settled.items new.queue.offers.items
-    moved sources h = subst (λ (p : List (Option ℕ) × List Settled). IsSearch links n sources limit (bests_of new.marks.items) p.0 p.1 new.queue.offers.items) (λ j. (sym offers.places j, sym offers.settled j)) h
+    moved : (sources : List ℕ) → IsSearch links n sources limit (bests_of new.marks.items) (places_of old.marks.items) old.settled.items new.queue → IsSearch links n sources limit (bests_of new.marks.items) (places_of new.marks.items) new.settled.items new.queue
+    moved sources h = subst (λ (p : List (Option ℕ) × List Settled). IsSearch links n sources limit (bests_of new.marks.items) p.0 p.1 new.queue) (λ j. (sym offers.places j, sym offers.settled j)) h
 
 -- nothing followed yet
-pub followed_none : (links : List Link) (n limit vertex cost : ℕ) (search : Search) → IsOrdered search.queue.offers.items → HasFollowed links n limit vertex cost [] search search
-followed_none links n limit vertex cost search order = record {
+pub followed_none : (links : List Link) (n limit vertex cost : ℕ) (search : Search) → HasFollowed links n limit vertex cost [] search search
+followed_none links n limit vertex cost search = record {
   places = refl;
   settled = refl;
   best_long = refl;
   more = λ w x h. h;
   offered = All-nil (λ half. (limit < cost + half.cost) ⊎ IsOffered (bests_of search.marks.items) half.to (cost + half.cost));
   length = omega arith;
-  order = order;
   keeps = λ sources place s placed at vertex_is cost_is h. h;
 }
 
 -- one half more
 pub followed_more : (links : List Link) (n limit vertex cost : ℕ) (halves : List Half) (half : Half) (first old new : Search) → half.to < length (bests_of old.marks.items) → IsVertex n half.to → link links vertex half.to ≡ Some half.cost
-    → Follows old new limit (cost + half.cost) half.to vertex → IsOrdered new.queue.offers.items → length new.queue.offers.items ≤ length old.queue.offers.items + 1 → HasFollowed links n limit vertex cost halves first old → HasFollowed links n limit vertex cost (halves ++ half ∷ []) first new
-followed_more links n limit vertex cost halves half first old new within in_range linked follows order longer before = elim follows.either [
+    → Follows old new limit (cost + half.cost) half.to vertex → length new.queue ≤ length old.queue + 1 → HasFollowed links n limit vertex cost halves first old → HasFollowed links n limit vertex cost (halves ++ half ∷ []) first new
+followed_more links n limit vertex cost halves half first old new within in_range linked follows longer before = elim follows.either [
   | inl beyond ↦ subst (λ (s : Search). HasFollowed links n limit vertex cost (halves ++ half ∷ []) first s) (sym beyond.1) (record {
     places = before.places;
     settled = before.settled;
@@ -65,7 +63,6 @@ followed_more links n limit vertex cost halves half first old new within in_rang
     more = before.more;
     offered = All-push (λ half. (limit < cost + half.cost) ⊎ IsOffered (bests_of old.marks.items) half.to (cost + half.cost)) halves half before.offered (inl beyond.0);
     length = (let long = length-append halves (half ∷ []) in let bound = before.length in omega arith);
-    order = before.order;
     keeps = before.keeps;
   })
   | inr followed ↦
@@ -77,7 +74,6 @@ followed_more links n limit vertex cost halves half first old new within in_rang
         more = λ w x h. gains.more w x (before.more w x h);
         offered = All-push (λ half. (limit < cost + half.cost) ⊎ IsOffered (bests_of new.marks.items) half.to (cost + half.cost)) halves half (All-weaker (λ half. (limit < cost + half.cost) ⊎ IsOffered (bests_of old.marks.items) half.to (cost + half.cost)) (λ half. (limit < cost + half.cost) ⊎ IsOffered (bests_of new.marks.items) half.to (cost + half.cost)) (λ h told. weaker gains.more h told) halves before.offered) (inr gains.offered);
         length = (let long = length-append halves (half ∷ []) in let bound = before.length in omega arith);
-        order = order;
         keeps = λ sources place s placed at vertex_is cost_is h.
             gains.keeps sources (record {
               in_range = in_range;
@@ -104,7 +100,7 @@ followed_all I limit vertex cost halves old new are few followed = record {
 
 -- one source more is offered
 pub start_step : (links : List Link) (n limit : ℕ) (sources seen : List ℕ) (source : ℕ) (old new : Search) → source < length (bests_of old.marks.items) → IsVertex n source → Contains sources source → Offers old new 0 source 0
-    → IsSearch links n sources limit (bests_of old.marks.items) (places_of old.marks.items) old.settled.items old.queue.offers.items → IsSearch links n sources limit (bests_of new.marks.items) (places_of new.marks.items) new.settled.items new.queue.offers.items
+    → IsSearch links n sources limit (bests_of old.marks.items) (places_of old.marks.items) old.settled.items old.queue → IsSearch links n sources limit (bests_of new.marks.items) (places_of new.marks.items) new.settled.items new.queue
 start_step links n limit sources seen source old new within in_range held offers search =
     (offer_gains links n limit old new 0 source 0 within offers).keeps sources (record { in_range = in_range; within = (omega arith); comes = inl (refl, refl, held) }) search
 

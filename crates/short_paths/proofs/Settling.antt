@@ -1,22 +1,23 @@
 -- The cheapest offer is a distance, so its vertex is settled at it.
-use Rattle.std.proofs.Common.{◌≡◌, ℕ, zero, suc, ◌+◌, ◌-◌, ◌^◌, ◌<◌, ◌≤◌, Bool, true, false, cond, eqb, List, [], ◌∷◌, ◌++◌, length, get_or, set, slice_get, replicate, Contains, Option, Some, None, IsSome, is_some, unwrap_or, IsPermutation, refl, sym, ap, subst, ◌∙◌, arith, ◌⊎◌, inl, inr, length-append}
+use Rattle.std.proofs.Common.{◌≡◌, ℕ, zero, suc, ◌+◌, ◌-◌, ◌^◌, ◌<◌, ◌≤◌, Bool, true, false, cond, ◌||◌, eqb, List, [], ◌∷◌, ◌++◌, length, get_or, set, slice_get, replicate, Contains, Option, Some, None, IsSome, is_some, unwrap_or, IsPermutation, refl, sym, ap, subst, ◌∙◌, arith, ◌⊎◌, inl, inr, length-append}
 use Rattle.std.proofs.lemmas.Bool.{cases_eq, cases_lt}
 use Rattle.std.proofs.lemmas.Bool.Decides.{nat_tests}
 use Rattle.std.proofs.lemmas.List.{get_or-set_same, get_or-set_other, length-set, get_or_append_left, get_or_past}
 use Rattle.std.proofs.lemmas.List.Elements.{All-tail, All-contains, All-weaker}
 use Rattle.std.proofs.lemmas.List.Sorted.{All-permutation, Contains-permutation}
 use Rattle.std.proofs.lemmas.Option.{slice_get_within}
-use Rattle.std.specs.Prelude.{All}
+use Rattle.std.specs.Prelude.{All, IsTrue}
 use Rattle.st_model.specs.declared.link.Link.{Link}
+use Rattle.st_model.specs.Lists.{has}
 use Rattle.st_model.specs.Network.{IsVertex, link}
+use Rattle.st_model.proofs.Marked.{has-push}
 use Rattle.graph_store.proofs.ListLemmas.{slice_get-push}
 use Rattle.short_paths.specs.declared.queue.Offer.{Offer}
-use Rattle.short_paths.specs.declared.queue.Queue.{Queue}
 use Rattle.short_paths.specs.declared.settled.Settled.{Settled}
 use Rattle.short_paths.specs.declared.search.Search.{Search}
 use Rattle.short_paths.specs.Marks.{bests_of, places_of}
 use Rattle.short_paths.specs.Walk.{IsWalk, stay, on, IsDistance, IsPath}
-use Rattle.short_paths.specs.Searching.{IsOffered, Waits, Comes, place_of, paths_of, IsSearch, IsSpread, IsFair, IsExact, IsRelaxed, open_count}
+use Rattle.short_paths.specs.Searching.{IsOffered, Waits, Comes, place_of, paths_of, IsSearch, IsSpread, IsFair, IsExact, IsSettled, IsRelaxed, open_count}
 use Rattle.short_paths.specs.Steps.{offer_of, Settles, Relaxes, Takes, IsGoing}
 use Rattle.short_paths.proofs.Walks.{IsPath-one, IsPath-push}
 use Rattle.short_paths.proofs.Paths.{length-paths_of, paths_of-push, at_end}
@@ -128,33 +129,68 @@ module _ (links : List Link) (n : ℕ) (sources : List ℕ) (limit : ℕ) (best 
           by_case true same h = inl (grind (arith, nat_tests), (let e : s ≡ one = cc in e))
           by_case false other h = inr h
 
+      -- the path goes from what comes before
+      read : get_or (paths_of (settled ++ one ∷ [])) (length settled) [] ≡ get_or (paths_of settled) (unwrap_or (place_of places from) (2 ^ 32 - 1)) [] ++ vertex ∷ []
+      read = ap (λ ps. get_or ps (length settled) []) (paths_of-push settled one) ∙ at_end (paths_of settled) (length settled) (length-paths_of settled) (get_or (paths_of settled) one.before [] ++ one.vertex ∷ []) ∙ ap (λ (x : Settled). get_or (paths_of settled) x.before [] ++ x.vertex ∷ []) one_is
+
+      -- before a source there is nothing
+      nothing_before : from ≡ 0 → get_or (paths_of settled) (unwrap_or (place_of places from) (2 ^ 32 - 1)) [] ≡ []
+      nothing_before source =
+          let none : place_of places from ≡ None = ap (place_of places) source ∙ none_before (place_of places 0) refl in
+          ap (λ o. get_or (paths_of settled) (unwrap_or o (2 ^ 32 - 1)) []) none ∙ get_or_past (paths_of settled) (2 ^ 32 - 1) [] (let long = length-paths_of settled in omega arith)
+
+      -- no path passes a vertex that isn't settled
+      not_passed : (place : ℕ) (s : Settled) → slice_get settled place ≡ Some s → (b : Bool) → has (get_or (paths_of settled) place []) vertex ≡ b → b ≡ false
+      not_passed place s at false is = refl
+      not_passed place s at true is =
+          let passed = (search.exact place s at).passed vertex is in
+          let there = search.found passed.0 passed.1 passed.2 in
+          absurd (let clash : ◌≡◌ {A = Bool} false true = ap is_some (sym open_is ∙ ap (place_of places) (sym passed.3)) ∙ there in let no : ⊥ = cc in no)
+
+      -- those on the path are settled
+      old_passed : (v : ℕ) → IsSettled settled v → IsSettled (settled ++ one ∷ []) v
+      old_passed v passed = (passed.0, passed.1, old_at passed.0 passed.1 passed.2, passed.3)
+
+      new_passed : (v : ℕ) → IsTrue (has (get_or (paths_of (settled ++ one ∷ [])) (length settled) []) v) → IsSettled (settled ++ one ∷ []) v
+      new_passed v on_path = by_case (eqb vertex v) refl (sym (has-push (get_or (paths_of settled) (unwrap_or (place_of places from) (2 ^ 32 - 1)) []) vertex v) ∙ ap (λ p. has p v) (sym read) ∙ on_path)
+        where
+          by_case : (b : Bool) → eqb vertex v ≡ b → (has (get_or (paths_of settled) (unwrap_or (place_of places from) (2 ^ 32 - 1)) []) v || b) ≡ true → IsSettled (settled ++ one ∷ []) v
+          by_case true same h = let v_is : vertex ≡ v = grind (arith, nat_tests) in (length settled, one, new_at, ap (λ (x : Settled). x.vertex) one_is ∙ v_is)
+          by_case false other h = elim taken_fair.comes [
+            | inl source ↦ absurd (let clash : ◌≡◌ {A = Bool} false true = sym (ap (λ p. has p v || false) (nothing_before source.0)) ∙ h in let no : ⊥ = cc in no)
+            | inr linked ↦
+                let place : unwrap_or (place_of places from) (2 ^ 32 - 1) ≡ linked.0 = ap (λ o. unwrap_or o (2 ^ 32 - 1)) linked.3 in
+                let before : has (get_or (paths_of settled) linked.0 []) v ≡ true = or_nothing _ (ap (λ k. has (get_or (paths_of settled) k []) v || false) (sym place) ∙ h) in
+                old_passed v ((search.exact linked.0 linked.1 linked.4).passed v before)
+          ]
+            where
+              or_nothing : (b : Bool) → (b || false) ≡ true → b ≡ true
+              or_nothing true h = refl
+              or_nothing false h = h
+
       -- the path to it
       path : IsPath links sources (get_or (paths_of (settled ++ one ∷ [])) (length settled) []) vertex cost
       path = subst (λ p. IsPath links sources p vertex cost) (sym read) by_offer
         where
-          read : get_or (paths_of (settled ++ one ∷ [])) (length settled) [] ≡ get_or (paths_of settled) (unwrap_or (place_of places from) (2 ^ 32 - 1)) [] ++ vertex ∷ []
-          read = ap (λ ps. get_or ps (length settled) []) (paths_of-push settled one) ∙ at_end (paths_of settled) (length settled) (length-paths_of settled) (get_or (paths_of settled) one.before [] ++ one.vertex ∷ []) ∙ ap (λ (x : Settled). get_or (paths_of settled) x.before [] ++ x.vertex ∷ []) one_is
-
           by_offer : IsPath links sources (get_or (paths_of settled) (unwrap_or (place_of places from) (2 ^ 32 - 1)) [] ++ vertex ∷ []) vertex cost
           by_offer = elim taken_fair.comes [
             | inl source ↦
-                let none : place_of places from ≡ None = ap (place_of places) source.0 ∙ none_before (place_of places 0) refl in
-                let nothing : get_or (paths_of settled) (unwrap_or (place_of places from) (2 ^ 32 - 1)) [] ≡ [] = ap (λ o. get_or (paths_of settled) (unwrap_or o (2 ^ 32 - 1)) []) none ∙ get_or_past (paths_of settled) (2 ^ 32 - 1) [] (let long = length-paths_of settled in omega arith) in
+                let nothing = nothing_before source.0 in
                 subst (λ (p : List ℕ × ℕ). IsPath links sources (p.0 ++ vertex ∷ []) vertex p.1) (λ j. (sym nothing j, sym source.1 j)) (IsPath-one links sources vertex source.2)
             | inr linked ↦
                 let exact = search.exact linked.0 linked.1 linked.4 in
                 let place : unwrap_or (place_of places from) (2 ^ 32 - 1) ≡ linked.0 = ap (λ o. unwrap_or o (2 ^ 32 - 1)) linked.3 in
-                subst (λ (p : ℕ × ℕ). IsPath links sources (get_or (paths_of settled) p.0 [] ++ vertex ∷ []) vertex p.1) (λ j. (sym place j, sym linked.6 j)) (IsPath-push links sources (get_or (paths_of settled) linked.0 []) linked.1.vertex vertex linked.1.cost linked.2 exact.path linked.5)
+                subst (λ (p : ℕ × ℕ). IsPath links sources (get_or (paths_of settled) p.0 [] ++ vertex ∷ []) vertex p.1) (λ j. (sym place j, sym linked.6 j)) (IsPath-push links sources (get_or (paths_of settled) linked.0 []) linked.1.vertex vertex linked.1.cost linked.2 exact.path linked.5 (not_passed linked.0 linked.1 linked.4 (has (get_or (paths_of settled) linked.0 []) vertex) refl))
           ]
 
       new_exact : (place : ℕ) (s : Settled) → slice_get (settled ++ one ∷ []) place ≡ Some s → IsExact links n sources limit (settled ++ one ∷ []) place s
       new_exact place s at = elim (cases_at place s at) [
-        | inl new ↦ subst (λ (p : ℕ × Settled). IsExact links n sources limit (settled ++ one ∷ []) p.0 p.1) (λ j. (sym new.0 j, sym (new.1 ∙ one_is) j)) (record { in_range = taken_fair.in_range; distance = distance; within = taken_fair.within; path = path })
+        | inl new ↦ subst (λ (p : ℕ × Settled). IsExact links n sources limit (settled ++ one ∷ []) p.0 p.1) (λ j. (sym new.0 j, sym (new.1 ∙ one_is) j)) (record { in_range = taken_fair.in_range; distance = distance; within = taken_fair.within; path = path; passed = new_passed })
         | inr old ↦
             let exact = search.exact place s old in
             let inside = slice_get_within settled place s old in
             let same : get_or (paths_of (settled ++ one ∷ [])) place [] ≡ get_or (paths_of settled) place [] = ap (λ ps. get_or ps place []) (paths_of-push settled one) ∙ get_or_append_left (paths_of settled) _ [] place (let long = length-paths_of settled in omega arith) in
-            record { in_range = exact.in_range; distance = exact.distance; within = exact.within; path = subst (λ p. IsPath links sources p s.vertex s.cost) (sym same) exact.path }
+            record { in_range = exact.in_range; distance = exact.distance; within = exact.within; path = subst (λ p. IsPath links sources p s.vertex s.cost) (sym same) exact.path; passed = λ v on_path. old_passed v (exact.passed v (ap (λ p. has p v) (sym same) ∙ on_path)) }
       ]
 
       new_placed : (v place : ℕ) → place_of (set places vertex (Some (length settled))) v ≡ Some place → (s : Settled) × (slice_get (settled ++ one ∷ []) place ≡ Some s) × (s.vertex ≡ v)
@@ -237,7 +273,7 @@ open_count-replicate (suc n) = let rest = open_count-replicate n in omega arith
 -- nothing changes where the vertex was settled
 pub takes_nothing : (links : List Link) (n limit : ℕ) (old : Search) (cost vertex from : ℕ) → IsSome (place_of (places_of old.marks.items) vertex) → Takes links n limit old old (offer_of cost vertex from)
 takes_nothing links n limit old cost vertex from there = record {
-  going = λ sources before moves least going. record { kept = skipped links n sources limit (bests_of old.marks.items) (places_of old.marks.items) old.settled.items before old.queue.offers.items cost vertex from moves going.kept there; spread = going.spread };
+  going = λ sources before moves least going. record { kept = skipped links n sources limit (bests_of old.marks.items) (places_of old.marks.items) old.settled.items before old.queue cost vertex from moves going.kept there; spread = going.spread };
   counted = refl;
   nearer = omega arith;
 }
@@ -255,7 +291,7 @@ takes_one links n limit old mid new cost vertex from few within open_is settles 
   nearer =
       let counts = open_count-set (places_of old.marks.items) vertex (length old.settled.items) within open_is in
       let same = ap open_count (relaxes.places ∙ settles.places) in
-      let queue = ap (λ (q : Queue). length q.offers.items) same_queue in
+      let queue = ap (λ (q : List Offer). length q) same_queue in
       let longer = relaxes.length in
       omega arith;
 }
@@ -263,20 +299,20 @@ takes_one links n limit old mid new cost vertex from few within open_is settles 
     one : Settled
     one = record { vertex = vertex; cost = cost; before = unwrap_or (place_of (places_of old.marks.items) from) (2 ^ 32 - 1) }
 
-    going : (sources : List ℕ) (before : List Offer) → IsPermutation before (offer_of cost vertex from ∷ old.queue.offers.items) → All (λ other. cost ≤ other.cost) before → IsGoing links n sources limit old before → IsGoing links n sources limit new new.queue.offers.items
+    going : (sources : List ℕ) (before : List Offer) → IsPermutation before (offer_of cost vertex from ∷ old.queue) → All (λ other. cost ≤ other.cost) before → IsGoing links n sources limit old before → IsGoing links n sources limit new new.queue
     going sources before moves least gone = record {
       kept = relaxes.keeps sources (length old.settled.items) one
-          (ap (λ p. place_of p vertex) settles.places ∙ placed_here links n sources limit (bests_of old.marks.items) (places_of old.marks.items) old.settled.items before old.queue.offers.items cost vertex from moves gone.kept least gone.spread open_is one refl few)
-          (ap (λ ss. slice_get ss (length old.settled.items)) settles.settled ∙ one_here links n sources limit (bests_of old.marks.items) (places_of old.marks.items) old.settled.items before old.queue.offers.items cost vertex from moves gone.kept least gone.spread open_is one refl few)
+          (ap (λ p. place_of p vertex) settles.places ∙ placed_here links n sources limit (bests_of old.marks.items) (places_of old.marks.items) old.settled.items before old.queue cost vertex from moves gone.kept least gone.spread open_is one refl few)
+          (ap (λ ss. slice_get ss (length old.settled.items)) settles.settled ∙ one_here links n sources limit (bests_of old.marks.items) (places_of old.marks.items) old.settled.items before old.queue cost vertex from moves gone.kept least gone.spread open_is one refl few)
           refl refl
-          (moved sources (settled_step links n sources limit (bests_of old.marks.items) (places_of old.marks.items) old.settled.items before old.queue.offers.items cost vertex from moves gone.kept least gone.spread open_is one refl few (bests_of mid.marks.items) settles.best_long settles.others));
+          (moved sources (settled_step links n sources limit (bests_of old.marks.items) (places_of old.marks.items) old.settled.items before old.queue cost vertex from moves gone.kept least gone.spread open_is one refl few (bests_of mid.marks.items) settles.best_long settles.others));
       spread = subst (λ ss. IsSpread links sources limit (bests_of new.marks.items) ss (length ss)) (sym (relaxes.settled ∙ settles.settled))
-          (spread_step links n sources limit (bests_of old.marks.items) (places_of old.marks.items) old.settled.items before old.queue.offers.items cost vertex from moves gone.kept least gone.spread open_is one refl few (bests_of new.marks.items)
+          (spread_step links n sources limit (bests_of old.marks.items) (places_of old.marks.items) old.settled.items before old.queue cost vertex from moves gone.kept least gone.spread open_is one refl few (bests_of new.marks.items)
           (λ w x h. relaxes.more w x (settles.more w x h)) relaxes.relaxed);
     }
       where
-        moved : (sources : List ℕ) → IsSearch links n sources limit (bests_of mid.marks.items) (set (places_of old.marks.items) vertex (Some (length old.settled.items))) (old.settled.items ++ one ∷ []) old.queue.offers.items → IsSearch links n sources limit (bests_of mid.marks.items) (places_of mid.marks.items) mid.settled.items mid.queue.offers.items
-        moved sources h = subst (λ (p : List (Option ℕ) × List Settled × List Offer). IsSearch links n sources limit (bests_of mid.marks.items) p.0 p.1 p.2) (λ j. (sym settles.places j, sym settles.settled j, (sym same_queue j).offers.items)) h
+        moved : (sources : List ℕ) → IsSearch links n sources limit (bests_of mid.marks.items) (set (places_of old.marks.items) vertex (Some (length old.settled.items))) (old.settled.items ++ one ∷ []) old.queue → IsSearch links n sources limit (bests_of mid.marks.items) (places_of mid.marks.items) mid.settled.items mid.queue
+        moved sources h = subst (λ (p : List (Option ℕ) × List Settled × List Offer). IsSearch links n sources limit (bests_of mid.marks.items) p.0 p.1 p.2) (λ j. (sym settles.places j, sym settles.settled j, sym same_queue j)) h
 
 -- where there is nothing, there is None
 pub none_where : (o : Option ℕ) → is_some o ≡ false → o ≡ None

@@ -2,7 +2,10 @@
 use Rattle.std.proofs.Common.{◌≡◌, ℕ, ◌+◌, List, [], ◌∷◌, ◌++◌, Contains, Option, Some, None, option_map, refl, sym, ap, ◌∙◌, arith}
 use Rattle.std.specs.Option.{option_and_then}
 use Rattle.st_model.specs.declared.link.Link.{Link}
+use Rattle.std.specs.Prelude.{IsFalse}
+use Rattle.st_model.specs.Lists.{has}
 use Rattle.st_model.specs.Network.{link}
+use Rattle.st_model.proofs.Marked.{AllApart-push}
 use Rattle.short_paths.specs.Walk.{cost_along, path_cost, IsPath}
 
 -- the last of some vertices
@@ -37,11 +40,11 @@ along_more links u (v ∷ rest) c d w at next = by_first (link links u v) (cost_
 
 -- a source is a path to itself
 pub IsPath-one : (links : List Link) (sources : List ℕ) (v : ℕ) → Contains sources v → IsPath links sources (v ∷ []) v 0
-IsPath-one links sources v at = record { begins = (v, [], at, refl); ends = ([], refl); cost = refl }
+IsPath-one links sources v at = record { begins = (v, [], at, refl); ends = ([], refl); once = (refl, tt); cost = refl }
 
 -- a path goes on by a link from its end
-pub IsPath-push : (links : List Link) (sources path : List ℕ) (v w c d : ℕ) → IsPath links sources path v c → link links v w ≡ Some d → IsPath links sources (path ++ w ∷ []) w (c + d)
-IsPath-push links sources path v w c d is next =
+pub IsPath-push : (links : List Link) (sources path : List ℕ) (v w c d : ℕ) → IsPath links sources path v c → link links v w ≡ Some d → IsFalse (has path w) → IsPath links sources (path ++ w ∷ []) w (c + d)
+IsPath-push links sources path v w c d is next apart =
     let s = is.begins.0 in
     let rest = is.begins.1 in
     let path_is : path ≡ s ∷ rest = is.begins.3 in
@@ -50,5 +53,6 @@ IsPath-push links sources path v w c d is next =
     record {
       begins = (s, rest ++ w ∷ [], is.begins.2, ap (λ p. p ++ w ∷ []) path_is);
       ends = (path, refl);
+      once = AllApart-push path w is.once apart;
       cost = ap (λ p. path_cost links (p ++ w ∷ [])) path_is ∙ along_more links s rest c d w along (ap (λ x. link links x w) last ∙ next);
     }

@@ -1,7 +1,8 @@
 -- What a search for distances keeps: vertices that are settled, and offers to others.
-use Rattle.std.specs.Prelude.{◌≡◌, ℕ, ◌+◌, ◌<◌, ◌≤◌, ◌⊎◌, List, [], ◌∷◌, ◌++◌, length, map, drop, fold, All, Contains, slice_get, slice_index_or, Option, Some, None, IsSome}
+use Rattle.std.specs.Prelude.{◌≡◌, ℕ, ◌+◌, ◌<◌, ◌≤◌, ◌⊎◌, List, [], ◌∷◌, ◌++◌, length, map, drop, fold, All, Contains, slice_get, slice_index_or, Option, Some, None, IsSome, IsTrue}
 use Rattle.std.specs.Option.{option_map}
 use Rattle.st_model.specs.declared.link.Link.{Link}
+use Rattle.st_model.specs.Lists.{has}
 use Rattle.st_model.specs.Network.{IsVertex, link}
 use Rattle.short_paths.specs.declared.queue.Offer.{Offer}
 use Rattle.short_paths.specs.declared.settled.Settled.{Settled}
@@ -43,12 +44,17 @@ pub record IsFair (links : List Link) (n : ℕ) (sources : List ℕ) (limit : �
   pub within : offer.cost ≤ limit
   pub comes : Comes links sources places settled offer.from offer.to offer.cost
 
+-- v is one of the settled vertices
+abbrev pub IsSettled : List Settled → ℕ → Type 0
+IsSettled settled v = (place : ℕ) × (s : Settled) × (slice_get settled place ≡ Some s) × (s.vertex ≡ v)
+
 -- what holds of the vertex that was settled at a place
 pub record IsExact (links : List Link) (n : ℕ) (sources : List ℕ) (limit : ℕ) (settled : List Settled) (place : ℕ) (s : Settled) : Type 0 where
   pub in_range : IsVertex n s.vertex
   pub distance : IsDistance links sources s.vertex s.cost
   pub within : s.cost ≤ limit
   pub path : IsPath links sources (slice_index_or (paths_of settled) place []) s.vertex s.cost
+  pub passed : (v : ℕ) → IsTrue (has (slice_index_or (paths_of settled) place []) v) → IsSettled settled v
 
 -- each vertex that is linked with a settled one was offered what it costs by there, if that is within the limit
 abbrev pub IsRelaxed : List Link → ℕ → List (Option ℕ) → Settled → Type 0

@@ -3,6 +3,7 @@ use Rattle.std.specs.Prelude.{◌≡◌, ℕ, ◌+◌, ◌≤◌, List, [], ◌�
 use Rattle.std.specs.Option.{option_map, option_and_then}
 use Rattle.st_model.specs.declared.link.Link.{Link}
 use Rattle.st_model.specs.Network.{link}
+use Rattle.st_model.specs.VertexSet.{AllApart}
 
 -- a walk from u, to a vertex and of a cost
 pub data IsWalk (links : List Link) (u : ℕ) : ℕ → ℕ → Type 0 where
@@ -24,8 +25,9 @@ abbrev pub path_cost : List Link → List ℕ → Option ℕ
 path_cost links [] = None
 path_cost links (u ∷ rest) = cost_along links u rest
 
--- the path begins with a source, ends with v, goes over links and costs c
+-- the path begins with a source, ends with v, goes over links, passes no vertex twice and costs c
 pub record IsPath (links : List Link) (sources path : List ℕ) (v c : ℕ) : Type 0 where
   pub begins : (s : ℕ) × (rest : List ℕ) × Contains sources s × (path ≡ s ∷ rest)
   pub ends : (front : List ℕ) × (path ≡ front ++ v ∷ [])
+  pub once : AllApart path
   pub cost : path_cost links path ≡ Some c

@@ -65,10 +65,11 @@ impl Distances {
     }
 
     /// A path from a source to a vertex, if it is within the limit: each two next vertices are
-    /// linked, and their links cost what `at` tells.
+    /// linked, none is passed twice, and the links cost what `at` returns.
     pub fn path_to(&self, alloc: Global, vertex: u32) -> Result<Option<Vec<u32>>, AllocError>
         requires { IsVertex (length self.now) vertex }
-        ensures { IfOk result (λ path. option_map (λ vertices. vertices.items) path ≡ option_map (λ route. route.path) (route_of self.now vertex)) }
+        ensures { IfOk result (λ path. option_map (λ vertices. vertices.items) path
+            ≡ option_map (λ route. route.path) (route_of self.now vertex)) }
     {
         match self.marks[vertex as usize].place() {
             Some(place) => Ok(Some(path_back(alloc, &self.settled, place)?)),

@@ -2,6 +2,7 @@ ghost use Rattle.std.specs.Prelude.{◌≡◌, ℕ, ◌+◌, ◌*◌, ◌<◌, �
 ghost use Rattle.short_paths.specs.Waiting.{cost_at, IsAbove, IsOrdered, IsRising, IsSinking};
 
 use std::alloc::{AllocError, Global};
+use std::marker::Model;
 
 // An offer: a cost, the vertex that it reaches, and the one that it comes from.
 #[derive(Clone, Copy, Debug)]
@@ -15,13 +16,25 @@ pub struct Offer {
 // than one below it. Each step down waits for memory, so four below each serve better than two.
 #[derive(Drop)]
 pub struct Queue {
-    pub offers: Vec<Offer>,
+    offers: Vec<Offer>,
+}
+
+impl Model for Queue {
+    ghost use Rattle.std.specs.Prelude.{List};
+    ghost use Rattle.short_paths.specs.declared.queue.Offer.{Offer};
+    ghost use Rattle.short_paths.specs.Waiting.{IsOrdered};
+
+    ghost Value = { List Offer };
+
+    ghost view = { λ q. q.offers.items };
+
+    ghost invariant = { λ q. IsOrdered q.offers.items };
 }
 
 impl Queue {
     // No offer waits.
     pub fn new(alloc: Global) -> Queue
-        ensures { result.offers.items ≡ [] }
+        ensures { result ≡ [] }
     {
         Queue {
             offers: Vec::new(alloc),
@@ -30,10 +43,8 @@ impl Queue {
 
     // One more offer waits.
     pub fn push(&mut self, offer: Offer) -> Result<(), AllocError>
-        requires { IsOrdered self.old.offers.items }
-        ensures moved { OnOk result (IsPermutation (offer ∷ self.old.offers.items) self.new.offers.items) }
-        ensures length { length self.new.offers.items ≤ length self.old.offers.items + 1 }
-        ensures order { IsOrdered self.new.offers.items }
+        ensures moved { OnOk result (IsPermutation (offer ∷ self.old) self.new) }
+        ensures length { length self.new ≤ length self.old + 1 }
     {
         let place = self.offers.len();
         self.offers.push(offer)?;
@@ -43,13 +54,11 @@ impl Queue {
 
     // One of the cheapest offers, which waits no longer.
     pub fn pop(&mut self) -> Option<Offer>
-        requires { IsOrdered self.old.offers.items }
-        ensures moved { IfSome result (λ offer. IsPermutation self.old.offers.items (offer ∷ self.new.offers.items)) }
-        ensures cheapest { IfSome result (λ offer. All (λ other. offer.cost ≤ other.cost) self.old.offers.items) }
-        ensures length { OnSome result (length self.new.offers.items + 1 ≡ length self.old.offers.items) }
-        ensures order { IsOrdered self.new.offers.items }
-        ensures empty { IfNone result (self.old.offers.items ≡ []) }
-        ensures none { IfNone result (self.new.offers.items ≡ []) }
+        ensures moved { IfSome result (λ offer. IsPermutation self.old (offer ∷ self.new)) }
+        ensures cheapest { IfSome result (λ offer. All (λ other. offer.cost ≤ other.cost) self.old) }
+        ensures length { OnSome result (length self.new + 1 ≡ length self.old) }
+        ensures empty { IfNone result (self.old ≡ []) }
+        ensures none { IfNone result (self.new ≡ []) }
     {
         if self.offers.is_empty() {
             return None;
@@ -76,8 +85,10 @@ fn rise(offers: &mut [Offer], mut place: usize)
 // The place above a place, if the offer there is dearer.
 fn dearer_above(offers: &[Offer], place: usize) -> Option<usize>
     requires { place < length offers.now }
-    ensures dearer { IfSome result (λ above. IsAbove above place × (cost_at offers.now place < cost_at offers.now above)) }
-    ensures none { IfNone result ((above : ℕ) → IsAbove above place → cost_at offers.now above ≤ cost_at offers.now place) }
+    ensures dearer { IfSome result (λ above. IsAbove above place ×
+        (cost_at offers.now place < cost_at offers.now above)) }
+    ensures none { IfNone result ((above : ℕ) → IsAbove above place →
+        cost_at offers.now above ≤ cost_at offers.now place) }
 {
     if place == 0 {
         return None;
@@ -106,9 +117,12 @@ fn sink(offers: &mut [Offer])
 // The place of a cheapest offer below a place, if it is cheaper than the one there.
 fn cheaper_below(offers: &[Offer], place: usize) -> Option<usize>
     requires { place ≤ length offers.now }
-    ensures cheaper { IfSome result (λ below. IsAbove place below × (below < length offers.now) × (cost_at offers.now below < cost_at offers.now place)) }
-    ensures cheapest { IfSome result (λ below. (other : ℕ) → IsAbove place other → other < length offers.now → cost_at offers.now below ≤ cost_at offers.now other) }
-    ensures none { IfNone result ((other : ℕ) → IsAbove place other → other < length offers.now → cost_at offers.now place ≤ cost_at offers.now other) }
+    ensures cheaper { IfSome result (λ below. IsAbove place below × (below < length offers.now) ×
+        (cost_at offers.now below < cost_at offers.now place)) }
+    ensures cheapest { IfSome result (λ below. (other : ℕ) → IsAbove place other → other < length offers.now →
+        cost_at offers.now below ≤ cost_at offers.now other) }
+    ensures none { IfNone result ((other : ℕ) → IsAbove place other → other < length offers.now →
+        cost_at offers.now place ≤ cost_at offers.now other) }
 {
     let first = 4 * place + 1;
     if first >= offers.len() {
@@ -126,7 +140,8 @@ fn cheaper_below(offers: &[Offer], place: usize) -> Option<usize>
 fn cheapest_of_four(offers: &[Offer], first: usize) -> usize
     requires { first < length offers.now }
     ensures within { (first ≤ result) × (result ≤ first + 3) × (result < length offers.now) }
-    ensures cheapest { (other : ℕ) → first ≤ other → other ≤ first + 3 → other < length offers.now → cost_at offers.now result ≤ cost_at offers.now other }
+    ensures cheapest { (other : ℕ) → first ≤ other → other ≤ first + 3 → other < length offers.now →
+        cost_at offers.now result ≤ cost_at offers.now other }
 {
     if first + 3 < offers.len() {
         let left = cheaper(offers, first, first + 1);
@@ -141,7 +156,8 @@ fn cheapest_of_four(offers: &[Offer], first: usize) -> usize
 fn cheapest_from(offers: &[Offer], first: usize) -> usize
     requires { first < length offers.now }
     ensures within { (first ≤ result) × (result < length offers.now) }
-    ensures cheapest { (other : ℕ) → first ≤ other → other < length offers.now → cost_at offers.now result ≤ cost_at offers.now other }
+    ensures cheapest { (other : ℕ) → first ≤ other → other < length offers.now →
+        cost_at offers.now result ≤ cost_at offers.now other }
 {
     let mut best = first;
     for place in first + 1..offers.len() {

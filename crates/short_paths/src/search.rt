@@ -1,7 +1,6 @@
 ghost use Rattle.std.specs.Prelude.{◌≡◌, ℕ, ◌+◌, ◌-◌, ◌^◌, ◌<◌, ◌≤◌, length, All, IfOk, IfSome, IfNone, OnOk, OnSome, IsPermutation, ◌∷◌, None, [], List, replicate};
 ghost use Rattle.st_model.specs.Network.{IsVertex};
 ghost use Rattle.st_model.specs.declared.link.Link.{Link};
-ghost use Rattle.short_paths.specs.Waiting.{IsOrdered};
 ghost use Rattle.short_paths.specs.Marks.{bests_of, places_of};
 ghost use Rattle.short_paths.specs.Steps.{Offers, Follows, Relaxes, Settles, Takes, IsGoing};
 
@@ -24,10 +23,10 @@ impl Search {
     // Nothing is settled, and each source is offered to be reached at no cost.
     pub fn start(alloc: Global, vertices: u32, sources: &[u32]) -> Result<Search, AllocError>
         requires { All (IsVertex vertices) sources.now }
-        ensures going { IfOk result (λ made. (links : List Link) (limit : ℕ) → IsGoing links vertices sources.now limit made made.queue.offers.items) }
+        ensures going { IfOk result (λ made. (links : List Link) (limit : ℕ) →
+            IsGoing links vertices sources.now limit made made.queue) }
         ensures settled { IfOk result (λ made. made.settled.items ≡ []) }
         ensures places { IfOk result (λ made. places_of made.marks.items ≡ replicate (vertices + 1) None) }
-        ensures order { IfOk result (λ made. IsOrdered made.queue.offers.items) }
     {
         let mut search = Search::new(alloc, vertices)?;
         for &source in sources {
@@ -41,7 +40,7 @@ impl Search {
         ensures best { IfOk result (λ made. bests_of made.marks.items ≡ replicate (vertices + 1) None) }
         ensures places { IfOk result (λ made. places_of made.marks.items ≡ replicate (vertices + 1) None) }
         ensures settled { IfOk result (λ made. made.settled.items ≡ []) }
-        ensures queue { IfOk result (λ made. made.queue.offers.items ≡ []) }
+        ensures queue { IfOk result (λ made. made.queue ≡ []) }
     {
         Ok(Search {
             queue: Queue::new(alloc),
@@ -54,11 +53,9 @@ impl Search {
     // comes by here, so a call would cost about as much as what it does.
     #[inline(always)]
     fn offer(&mut self, cost: u64, to: u32, from: u32) -> Result<(), AllocError>
-        requires to { to < length self.old.marks.items }
-        requires order { IsOrdered self.old.queue.offers.items }
+        requires { to < length self.old.marks.items }
         ensures ok { OnOk result (Offers self.old self.new cost to from) }
-        ensures order { IsOrdered self.new.queue.offers.items }
-        ensures length { length self.new.queue.offers.items ≤ length self.old.queue.offers.items + 1 }
+        ensures length { length self.new.queue ≤ length self.old.queue + 1 }
     {
         let mark = self.marks[to as usize];
         if mark.is_offered(cost) {
@@ -71,11 +68,9 @@ impl Search {
 
     // Offers the other end of a half what it costs by there, if that is within the limit.
     fn follow(&mut self, limit: u64, cost: u64, half: Half, from: u32) -> Result<(), AllocError>
-        requires to { half.to < length self.old.marks.items }
-        requires order { IsOrdered self.old.queue.offers.items }
+        requires { half.to < length self.old.marks.items }
         ensures ok { OnOk result (Follows self.old self.new limit (cost + half.cost) half.to from) }
-        ensures order { IsOrdered self.new.queue.offers.items }
-        ensures length { length self.new.queue.offers.items ≤ length self.old.queue.offers.items + 1 }
+        ensures length { length self.new.queue ≤ length self.old.queue + 1 }
     {
         match cost.checked_add(half.cost) {
             Some(reach) if reach <= limit => self.offer(reach, half.to, from),
@@ -87,9 +82,8 @@ impl Search {
     fn relax(&mut self, store: &Store, limit: u64, vertex: u32, cost: u64) -> Result<(), AllocError>
         requires vertex { IsVertex store.now.network.n vertex }
         requires marks { length self.old.marks.items ≡ store.now.network.n + 1 }
-        requires order { IsOrdered self.old.queue.offers.items }
-        ensures ok { OnOk result (Relaxes store.now.network.links store.now.network.n limit vertex cost self.old self.new) }
-        ensures order { IsOrdered self.new.queue.offers.items }
+        ensures { OnOk result (Relaxes store.now.network.links store.now.network.n limit vertex cost self.old
+            self.new) }
     {
         for half in store.neighbours(vertex) {
             self.follow(limit, cost, *half, vertex)?;
@@ -118,13 +112,11 @@ impl Search {
 
     // The cheapest of the offers that wait.
     pub fn next(&mut self) -> Option<Offer>
-        requires { IsOrdered self.old.queue.offers.items }
-        ensures moved { IfSome result (λ offer. IsPermutation self.old.queue.offers.items (offer ∷ self.new.queue.offers.items)) }
-        ensures cheapest { IfSome result (λ offer. All (λ other. offer.cost ≤ other.cost) self.old.queue.offers.items) }
-        ensures length { OnSome result (length self.new.queue.offers.items + 1 ≡ length self.old.queue.offers.items) }
-        ensures order { IsOrdered self.new.queue.offers.items }
-        ensures empty { IfNone result (self.old.queue.offers.items ≡ []) }
-        ensures none { IfNone result (self.new.queue.offers.items ≡ []) }
+        ensures moved { IfSome result (λ offer. IsPermutation self.old.queue (offer ∷ self.new.queue)) }
+        ensures cheapest { IfSome result (λ offer. All (λ other. offer.cost ≤ other.cost) self.old.queue) }
+        ensures length { OnSome result (length self.new.queue + 1 ≡ length self.old.queue) }
+        ensures empty { IfNone result (self.old.queue ≡ []) }
+        ensures none { IfNone result (self.new.queue ≡ []) }
         ensures marks { self.new.marks ≡ self.old.marks }
         ensures settled { self.new.settled ≡ self.old.settled }
     {
@@ -137,9 +129,7 @@ impl Search {
         requires from { offer.from ≤ store.now.network.n }
         requires marks { length self.old.marks.items ≡ store.now.network.n + 1 }
         requires few { length self.old.settled.items < 2 ^ 32 - 1 }
-        requires order { IsOrdered self.old.queue.offers.items }
-        ensures ok { OnOk result (Takes store.now.network.links store.now.network.n limit self.old self.new offer) }
-        ensures order { IsOrdered self.new.queue.offers.items }
+        ensures { OnOk result (Takes store.now.network.links store.now.network.n limit self.old self.new offer) }
     {
         if self.marks[offer.to as usize].place().is_some() {
             return Ok(());

@@ -53,7 +53,7 @@ fn distances_from(alloc: Global, sources: &[u32], limit: u64) -> Result<[u64; 7]
 }
 
 #[test]
-fn tells_distances_within_the_limit(rt: HostRuntime) -> Result<(), Fail> {
+fn finds_distances_within_the_limit(rt: HostRuntime) -> Result<(), Fail> {
     let alloc = rt.alloc();
     assert_eq!(rt; distances_from(alloc, &[1], 10)?, [0, 4, 4, 2, 99, 99, 99]);
     assert_eq!(rt; distances_from(alloc, &[1], 3)?, [0, 99, 99, 2, 99, 99, 99]);
@@ -79,7 +79,7 @@ fn path_from_1(alloc: Global, to: u32, limit: u64) -> Result<Option<Vec<u32>>, A
 }
 
 #[test]
-fn tells_paths(rt: HostRuntime) -> Result<(), Fail> {
+fn finds_paths(rt: HostRuntime) -> Result<(), Fail> {
     let alloc = rt.alloc();
     let centre = path_from_1(alloc, 4, 10)?;
     assert_eq!(rt; centre.as_deref(), Some([1, 4].as_slice()));
@@ -87,5 +87,8 @@ fn tells_paths(rt: HostRuntime) -> Result<(), Fail> {
     assert_eq!(rt; itself.as_deref(), Some([1].as_slice()));
     assert!(rt; path_from_1(alloc, 2, 3)?.is_none());
     assert!(rt; path_from_1(alloc, 5, 100)?.is_none());
+    let store = triangle(alloc)?;
+    let free = from_many(alloc, &store, &[5, 6], 0)?.path_to(alloc, 6)?;
+    assert_eq!(rt; free.as_deref(), Some([6].as_slice()));
     Ok(())
 }

@@ -3,14 +3,13 @@ use Rattle.std.proofs.Common.{◌≡◌, ℕ, ◌≤◌, cond, ltb, List, [], �
 use Rattle.std.proofs.lemmas.List.{append-nil}
 use Rattle.st_model.specs.declared.branch.Branch.{Branch}
 use Rattle.st_model.specs.Network.{Network}
-use Rattle.st_model.specs.Branch.{with_inside, with_outside}
+use Rattle.st_model.specs.Branch.{with_inside, with_outside, all_trees}
 use Rattle.cut_packing.specs.declared.packing.Packing.{Packing}
 use Rattle.cut_packing.specs.Packing.{Fits, weight}
 use Rattle.cut_packing.specs.ProofTree.{IsSplit, close, split}
 use Rattle.log_format.specs.declared.proof_line.ProofLine.{ProofLine}
 use Rattle.log_format.specs.declared.proof_line.ProofLine.TheVariants.{Split, Close}
 use Rattle.log_format.specs.Preorder.{preorder}
-use Rattle.log_format.specs.Accepts.{all_trees}
 use Rattle.split_search.specs.declared.node.Node.{Node}
 use Rattle.split_search.specs.Searched.{light_weights}
 use Rattle.split_search.specs.Progress.{IsProofOf, InTurn, AreProofs, Continues}

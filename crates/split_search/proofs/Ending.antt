@@ -12,12 +12,13 @@ use Rattle.cut_packing.specs.declared.packing.Packing.{Packing}
 use Rattle.cut_packing.specs.Packing.{CutFits}
 use Rattle.cut_packing.specs.ProofTree.{ProofTree, Proves}
 use Rattle.log_format.specs.declared.proof_line.ProofLine.{ProofLine}
-use Rattle.log_format.specs.Accepts.{AcceptsFound, all_trees}
+use Rattle.log_format.specs.Accepts.{AcceptsFound}
 use Rattle.log_format.proofs.AllTrees.{all_trees-branch}
 use Rattle.log_format.specs.Text.{IsWritableCut, IsWritableLine, IsWritableFound}
 use Rattle.split_search.specs.declared.node.Node.{Node}
 use Rattle.split_search.specs.declared.searched.Searched.{Searched}
 use Rattle.std.specs.declared.alloc.AllocError.{AllocError}
+use Rattle.st_model.specs.Branch.{all_trees}
 use Rattle.split_search.specs.Node.{IsNode, free_count, turns_of}
 use Rattle.split_search.specs.Progress.{IsUnderWay, IsClosing, lowest}
 use Rattle.split_search.specs.Searched.{IsNobodyRequired, IsSpent, IsGreatestBound, IsSearched, free_vertices}

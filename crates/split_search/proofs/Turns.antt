@@ -7,12 +7,12 @@ use Rattle.std.proofs.Math.Nat.{pow-suc}
 use Rattle.st_model.specs.declared.branch.Branch.{Branch}
 use Rattle.st_model.specs.Lists.{has}
 use Rattle.st_model.specs.Network.{Network, IsVertex, is_required}
-use Rattle.st_model.specs.Branch.{with_inside, with_outside}
+use Rattle.st_model.specs.Branch.{with_inside, with_outside, all_trees}
 use Rattle.st_model.proofs.Sums.{total-append, sum_to_same, sum_to-add, sum_to_one}
 use Rattle.st_model.proofs.Halves.{has-with_vertex}
-use Rattle.log_format.specs.Accepts.{all_trees}
 use Rattle.split_search.specs.declared.node.Node.{Node}
-use Rattle.split_search.specs.Node.{is_free, free_count, turns, turns_of}
+use Rattle.st_model.specs.Branch.{is_free}
+use Rattle.split_search.specs.Node.{free_count, turns, turns_of}
 use Rattle.split_search.specs.Searched.{free_vertices}
 
 -- one free vertex less

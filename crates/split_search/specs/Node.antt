@@ -2,24 +2,16 @@
 use Rattle.std.specs.Prelude.{ℕ, zero, suc, ◌+◌, ◌≤◌, ◌==◌, Bool, not, ◌&&◌, IsTrue, IsFalse, if◌then◌else◌, List, [], filter, None}
 use Rattle.st_model.specs.declared.branch.Branch.{Branch}
 use Rattle.st_model.specs.Lists.{total, sum_to}
-use Rattle.st_model.specs.Network.{Network, IsVertex, is_required, pays}
-use Rattle.st_model.specs.Branch.{IsBranch, LeavesRequired, is_undecided, is_certain, with_inside, with_outside}
+use Rattle.st_model.specs.Network.{Network, IsVertex, pays}
+use Rattle.st_model.specs.Branch.{IsBranch, LeavesRequired, NoneIsCertain, is_free, with_inside, with_outside}
 use Rattle.cut_packing.specs.declared.packing.Packing.{Packing}
 use Rattle.cut_packing.specs.Packing.{Fits, weight}
 use Rattle.log_format.specs.Text.{IsWritablePacking}
 use Rattle.split_search.specs.declared.node.Node.{Node}
 
--- whether trees of the branch may reach v or not
-abbrev pub is_free : Network → Branch → ℕ → Bool
-is_free I B v = is_undecided B v && not (is_required I v)
-
 -- each vertex from 1 to n is required, inside or outside
 abbrev pub IsDecided : Network → Branch → Type 0
 IsDecided I B = (v : ℕ) → IsVertex I.n v → IsFalse (is_free I B v)
-
--- no vertex is required or inside
-abbrev pub HasNoCertain : Network → Branch → Type 0
-HasNoCertain I B = (v : ℕ) → IsVertex I.n v → IsFalse (is_certain I B v)
 
 -- a branch of the instance that leaves required vertices, and a packing that fits it
 pub record IsNode (I : Network) (N : Node) : Type 0 where
@@ -66,4 +58,4 @@ turns I nodes = total (λ N. turns_of (free_count I N.branch)) nodes
 pub record IsChoice (I : Network) (B : Branch) (v : ℕ) : Type 0 where
   pub vertex : IsVertex I.n v
   pub free : IsTrue (is_free I B v)
-  pub greatest : HasNoCertain I B → (w : ℕ) → IsVertex I.n w → IsTrue (is_free I B w) → pays I w ≤ pays I v
+  pub greatest : NoneIsCertain I B → (w : ℕ) → IsVertex I.n w → IsTrue (is_free I B w) → pays I w ≤ pays I v

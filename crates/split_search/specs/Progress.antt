@@ -5,12 +5,13 @@ use Rattle.st_model.specs.declared.tree.Tree.{Tree}
 use Rattle.st_model.specs.Lists.{sum_to}
 use Rattle.st_model.specs.Network.{Network, IsInstance, pays}
 use Rattle.st_model.specs.Arborescence.{IsTree, cost}
+use Rattle.st_model.specs.Branch.{all_trees}
 use Rattle.cut_packing.specs.ProofTree.{ProofTree, Proves}
 use Rattle.log_format.specs.declared.proof_line.ProofLine.{ProofLine}
 use Rattle.log_format.specs.Preorder.{preorder}
-use Rattle.log_format.specs.Accepts.{all_trees}
 use Rattle.log_format.specs.Text.{IsWritableLine}
 use Rattle.split_search.specs.declared.node.Node.{Node}
+use Rattle.split_search.specs.declared.progress.Progress.{Progress}
 use Rattle.split_search.specs.Node.{IsNode, turns, turns_of}
 use Rattle.split_search.specs.Searched.{IsNobodyRequired, free_vertices, light_weights}
 
@@ -54,6 +55,10 @@ pub record IsUnderWay (I : Network) (lines : List ProofLine) (waiting : List Nod
   pub few_waiting : length waiting ≤ length lines + 1
   pub turns_left : length lines + turns I waiting ≤ turns_of (free_vertices I)
   pub written : All IsWritableLine lines
+
+-- the same of a search that goes on
+abbrev pub GoesOn : Network → Progress → Type 0
+GoesOn I p = IsUnderWay I p.lines.items p.waiting.items p.best p.least
 
 -- the least of a number and some others
 abbrev pub lowest : ℕ → List ℕ → ℕ

@@ -5,12 +5,12 @@ use Rattle.st_model.specs.declared.tree.Tree.{Tree}
 use Rattle.st_model.specs.Lists.{sum_to}
 use Rattle.st_model.specs.Network.{Network, IsVertex, is_required}
 use Rattle.st_model.specs.Arborescence.{cost}
-use Rattle.st_model.specs.Branch.{with_inside, with_outside}
+use Rattle.st_model.specs.Branch.{with_inside, with_outside, all_trees}
 use Rattle.cut_packing.specs.Packing.{weight}
 use Rattle.cut_packing.specs.ProofTree.{ProofTree, close, split}
 use Rattle.log_format.specs.declared.proof_line.ProofLine.{ProofLine}
 use Rattle.log_format.specs.Preorder.{preorder}
-use Rattle.log_format.specs.Accepts.{AcceptsFound, ProvesAll, all_trees}
+use Rattle.log_format.specs.Accepts.{AcceptsFound, ProvesAll}
 use Rattle.log_format.specs.Text.{IsWritableFound}
 use Rattle.split_search.specs.declared.searched.Searched.{Searched}
 

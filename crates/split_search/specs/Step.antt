@@ -3,6 +3,7 @@ use Rattle.std.specs.Prelude.{◌≡◌, ℕ, ◌<◌, ◌⊎◌, Option, Some, 
 use Rattle.st_model.specs.declared.tree.Tree.{Tree}
 use Rattle.st_model.specs.Network.{Network}
 use Rattle.st_model.specs.Arborescence.{IsTree, cost}
+use Rattle.st_model.specs.Branch.{NoneIsCertain}
 use Rattle.cut_packing.specs.Packing.{weight}
 use Rattle.cut_packing.specs.Full.{IsFull}
 use Rattle.cut_packing.specs.ProofTree.{Closes}
@@ -12,7 +13,7 @@ use Rattle.split_search.specs.declared.step.Priced.{Priced}
 use Rattle.split_search.specs.declared.step.End.{End}
 use Rattle.split_search.specs.declared.step.End.TheVariants.{Close, Split}
 use Rattle.split_search.specs.declared.step.Step.{Step}
-use Rattle.split_search.specs.Node.{HasNoCertain, IsNoLighter, IsChoice}
+use Rattle.split_search.specs.Node.{IsNoLighter, IsChoice}
 
 -- a tree that costs this, which is less than the least cost known
 pub record IsBetter (I : Network) (least : ℕ) (p : Priced) : Type 0 where
@@ -32,7 +33,7 @@ best_after best (Some p) = p.tree
 
 -- where some vertex is certain, the node's packing is full, and weighs less than the least cost known
 abbrev pub IsBounded : Network → Node → ℕ → Type 0
-IsBounded I M least = HasNoCertain I M.branch ⊎ (IsFull I M.branch M.packing × (weight I M.branch M.packing < least))
+IsBounded I M least = NoneIsCertain I M.branch ⊎ (IsFull I M.branch M.packing × (weight I M.branch M.packing < least))
 
 -- a packing that closes the branch at the least cost known; or a vertex to split the branch at, with a packing
 -- that is no lighter, and that is full where it can be

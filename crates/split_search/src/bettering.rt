@@ -1,44 +1,41 @@
 ghost use Rattle.std.specs.Prelude.{◌≡◌, ℕ, ◌+◌, ◌<◌, ◌≤◌, All, IfOk, IfSome, IfNone, length};
 ghost use Rattle.st_model.specs.Arborescence.{IsTree, cost};
-ghost use Rattle.st_model.specs.Branch.{IsBranch};
+ghost use Rattle.st_model.specs.Branch.{AreThose, IsBranch};
+ghost use Rattle.st_model.specs.Led.{heads_at};
 ghost use Rattle.st_model.specs.Network.{IsVertex};
-ghost use Rattle.vertex_lists.specs.Led.{heads_at};
-ghost use Rattle.split_search.specs.Deciding.{AreThose, IsWholeOf, is_left_out};
+ghost use Rattle.split_search.specs.Deciding.{is_left_out};
 ghost use Rattle.split_search.specs.Step.{IsBetter};
 
-use crate::sides::Sides;
 use crate::step::Priced;
-use graph_store::Store;
-use st_model::{Branch, Instance, Listed, Tree, VertexSet, tree_cost};
+use graph_store::Whole;
+use st_model::{Branch, Instance, Listed, Sides, Tree, VertexLists, VertexSet, tree_cost, walk};
 use std::alloc::{AllocError, Global};
 use tree_heuristic::{first_tree, prune};
-use vertex_lists::{Lists, walk};
 
 /// A tree that costs less than the least cost known, if one is found: a first tree, pruned, over
 /// the vertices to which arcs with nothing left lead from a root, and those that have to be
 /// reached. `heads` lists the heads of those arcs at their tails.
 pub fn better_tree(
     alloc: Global,
-    instance: &Instance,
-    store: &Store,
-    branch: &Branch,
-    heads: &Lists<u32>,
+    whole: &Whole,
+    branch: &Sides,
+    heads: &VertexLists<u32>,
     root: u32,
     least: u64,
 ) -> Result<Option<Priced>, AllocError>
-    requires store { IsWholeOf instance.now store.now }
-    requires branch { IsBranch instance.now branch.now }
+    requires branch { IsBranch whole.now.instance branch.now }
     requires heads { (u : ℕ) → All (λ v. v < length heads.now) (heads_at heads.now u) }
     requires root { root < length heads.now }
-    ensures { IfOk result (λ better. IfSome better (IsBetter instance.now least)) }
+    ensures { IfOk result (λ better. IfSome better (IsBetter whole.now.instance least)) }
 {
     let reached = walk(alloc, heads, root)?;
-    let narrow = narrowed(alloc, instance, branch, &reached)?;
-    let Some(tree) = first_tree(alloc, store, &narrow)? else {
+    let narrow = narrowed(alloc, &whole.instance, branch, &reached)?;
+    let narrow = Sides::of(alloc, narrow)?;
+    let Some(tree) = first_tree(alloc, &whole.store, &narrow)? else {
         return Ok(None);
     };
-    let tree = prune(alloc, instance, &narrow, tree)?;
-    Ok(priced(instance, tree, least))
+    let tree = prune(alloc, &whole.instance, &narrow, tree)?;
+    Ok(priced(&whole.instance, tree, least))
 }
 
 /// A tree and its price, if that is less than the least cost known.
@@ -61,15 +58,15 @@ pub fn priced(instance: &Instance, tree: Tree, least: u64) -> Option<Priced>
 fn narrowed(
     alloc: Global,
     instance: &Instance,
-    branch: &Branch,
+    branch: &Sides,
     reached: &VertexSet,
 ) -> Result<Branch, AllocError>
     requires { IsBranch instance.now branch.now }
     ensures { IfOk result (IsBranch instance.now) }
 {
-    let sides = Sides::of(alloc, instance, branch)?;
-    let outside = left_out(alloc, instance, &sides, reached)?;
-    let inside = Vec::from_slice(alloc, branch.inside.as_slice())?;
+    let outside = left_out(alloc, instance, branch, reached)?;
+    let before = branch.branch();
+    let inside = Vec::from_slice(alloc, before.inside.as_slice())?;
     Ok(Branch {
         inside: Listed::of(inside),
         outside: Listed::of(outside),
@@ -81,15 +78,16 @@ fn narrowed(
 fn left_out(
     alloc: Global,
     instance: &Instance,
-    sides: &Sides,
+    branch: &Sides,
     reached: &VertexSet,
 ) -> Result<Vec<u32>, AllocError>
-    ensures { IfOk result (λ out. AreThose (is_left_out instance.now sides.now reached.now.members) instance.now.n out.items) }
+    ensures { IfOk result (λ out. AreThose
+        (is_left_out instance.now branch.now reached.now.members) instance.now.n out.items) }
 {
     let mut out = Vec::new(alloc);
     for before in 0..instance.vertices() {
         let vertex = before + 1;
-        if is_left_out(instance, sides, reached, vertex) {
+        if is_left_out(instance, branch, reached, vertex) {
             out.push(vertex)?;
         }
     }
@@ -97,9 +95,9 @@ fn left_out(
 }
 
 // Whether a vertex is outside, or is neither required nor inside nor in a set.
-fn is_left_out(instance: &Instance, sides: &Sides, reached: &VertexSet, vertex: u32) -> bool
+fn is_left_out(instance: &Instance, branch: &Sides, reached: &VertexSet, vertex: u32) -> bool
     requires { IsVertex instance.now.n vertex }
-    ensures { result ≡ is_left_out instance.now sides.now reached.now.members vertex }
+    ensures { result ≡ is_left_out instance.now branch.now reached.now.members vertex }
 {
-    sides.is_outside(vertex) || !(sides.is_certain(instance, vertex) || reached.contains(vertex))
+    branch.is_outside(vertex) || !(branch.is_certain(instance, vertex) || reached.contains(vertex))
 }

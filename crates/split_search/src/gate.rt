@@ -1,4 +1,4 @@
-/// Is told of each node of the search before it is worked on. It changes no answer.
+/// Learns of each node of the search before it is worked on. It changes no answer.
 pub trait Gate: Sync {
     /// The worker in this seat has taken the node; nodes are numbered from 0 as they are taken.
     fn at(&self, seat: u32, id: u64);

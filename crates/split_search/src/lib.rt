@@ -17,7 +17,6 @@ mod progress;
 mod raising;
 mod searched;
 mod searching;
-mod sides;
 mod step;
 #[cfg(test)]
 mod tests;

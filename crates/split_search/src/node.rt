@@ -1,5 +1,5 @@
-ghost use Rattle.std.specs.Prelude.{◌≡◌, ◌==◌, not, IfOk, [], None, filter};
-ghost use Rattle.st_model.specs.Branch.{with_vertex, with_inside, with_outside};
+ghost use Rattle.std.specs.Prelude.{◌≡◌, ◌==◌, not, IfOk, filter};
+ghost use Rattle.st_model.specs.Branch.{all_trees};
 ghost use Rattle.split_search.specs.Node.{no_cuts, without, inside_half, outside_half};
 
 use cut_packing::{Cut, Packing};
@@ -15,14 +15,11 @@ pub struct Node {
 
 // The branch of all trees, with no cut.
 pub fn root(alloc: Global) -> Node
-    ensures branch { result.branch ≡ record { inside = []; outside = [] } }
-    ensures packing { result.packing ≡ record { root = None; cuts = [] } }
+    ensures branch { result.branch ≡ all_trees }
+    ensures packing { result.packing ≡ no_cuts }
 {
     Node {
-        branch: Branch {
-            inside: Listed::of(Vec::new(alloc)),
-            outside: Listed::of(Vec::new(alloc)),
-        },
+        branch: Branch::all(alloc),
         packing: no_cuts(alloc),
     }
 }
@@ -44,54 +41,15 @@ pub fn halves(alloc: Global, node: Node, vertex: u32) -> Result<(Node, Node), Al
 {
     let Node { branch, packing } = node;
     let kept = without(alloc, &packing, vertex)?;
-    let (inside, outside) = split(alloc, branch, vertex)?;
     let inside_half = Node {
-        branch: inside,
+        branch: branch.with_inside(alloc, vertex)?,
         packing,
     };
     let outside_half = Node {
-        branch: outside,
+        branch: branch.with_outside(alloc, vertex)?,
         packing: kept,
     };
     Ok((inside_half, outside_half))
-}
-
-// The halves of a branch at a vertex, the one with the vertex inside first.
-fn split(alloc: Global, branch: Branch, vertex: u32) -> Result<(Branch, Branch), AllocError>
-    ensures inside { IfOk result (λ halves. halves.0 ≡ with_inside branch vertex) }
-    ensures outside { IfOk result (λ halves. halves.1 ≡ with_outside branch vertex) }
-{
-    let inside = with(alloc, branch.inside.as_slice(), vertex)?;
-    let outside = with(alloc, branch.outside.as_slice(), vertex)?;
-    let also_outside = Vec::from_slice(alloc, branch.outside.as_slice())?;
-    let with_inside = Branch {
-        inside: Listed::of(inside),
-        outside: Listed::of(also_outside),
-    };
-    let with_outside = Branch {
-        inside: branch.inside,
-        outside: Listed::of(outside),
-    };
-    Ok((with_inside, with_outside))
-}
-
-// The vertices of an ascending list and one more, in its place.
-fn with(alloc: Global, vertices: &[u32], vertex: u32) -> Result<Vec<u32>, AllocError>
-    ensures { IfOk result (λ more. more.items ≡ with_vertex vertices.now vertex) }
-{
-    let mut more = Vec::with_capacity(alloc, vertices.len() + 1)?;
-    let mut placed = false;
-    for next in vertices {
-        if !placed && *next >= vertex {
-            more.push(vertex)?;
-            placed = true;
-        }
-        more.push(*next)?;
-    }
-    if !placed {
-        more.push(vertex)?;
-    }
-    Ok(more)
 }
 
 // A packing without the cuts that name a vertex.

@@ -4,9 +4,8 @@ ghost use Rattle.st_model.specs.Network.{pays};
 ghost use Rattle.st_model.specs.Arborescence.{IsTree, cost};
 ghost use Rattle.log_format.specs.Accepts.{AcceptsFound};
 ghost use Rattle.log_format.specs.Text.{IsWritableFound};
-ghost use Rattle.split_search.specs.Deciding.{IsWholeOf};
 ghost use Rattle.split_search.specs.Node.{inside_half, outside_half};
-ghost use Rattle.split_search.specs.Progress.{IsUnderWay, IsClosing};
+ghost use Rattle.split_search.specs.Progress.{GoesOn, IsUnderWay, IsClosing};
 ghost use Rattle.split_search.specs.Searched.{IsGreatestBound, IsNobodyRequired, IsSpent};
 ghost use Rattle.split_search.specs.Step.{best_after, least_after};
 
@@ -15,7 +14,7 @@ use crate::node::{Node, halves, root};
 use crate::step::{End, Priced, Step};
 use crate::{Gate, Searched};
 use cut_packing::{Packing, weight};
-use graph_store::Store;
+use graph_store::Whole;
 use log_format::{Proof, ProofLine};
 use st_model::{Instance, MAX_VERTICES, Tree, tree_cost};
 use std::alloc::{AllocError, Global};
@@ -36,7 +35,7 @@ impl Progress {
         requires tree { IsTree instance.now start }
         requires cheap { IsNobodyRequired instance.now
             → cost instance.now start ≤ sum_to (pays instance.now) instance.now.n }
-        ensures under_way { IfOk result (λ p. IsUnderWay instance.now p.lines.items p.waiting.items p.best p.least) }
+        ensures under_way { IfOk result (GoesOn instance.now) }
         ensures lines { IfOk result (λ p. p.lines.items ≡ []) }
         ensures best { IfOk result (λ p. p.best ≡ start) }
     {
@@ -55,15 +54,13 @@ impl Progress {
     pub fn run<G: Gate>(
         &mut self,
         alloc: Global,
-        instance: &Instance,
-        store: &Store,
+        whole: &Whole,
         budget: u64,
         gate: &G,
     ) -> Result<(), AllocError>
-        requires store { IsWholeOf instance.now store.now }
-        requires under_way { IsUnderWay instance.now self.old.lines.items self.old.waiting.items self.old.best self.old.least }
+        requires under_way { GoesOn whole.now.instance self.old }
         requires lines { self.old.lines.items ≡ [] }
-        ensures under_way { OnOk result (IsUnderWay instance.now self.new.lines.items self.new.waiting.items self.new.best self.new.least) }
+        ensures under_way { OnOk result (GoesOn whole.now.instance self.new) }
         ensures no_worse { OnOk result (self.new.least ≤ self.old.least) }
         ensures within { OnOk result (length self.new.lines.items ≤ budget) }
         ensures spent { OnOk result ((self.new.waiting.items ≡ []) ⊎ (length self.new.lines.items ≡ budget)) }
@@ -73,26 +70,20 @@ impl Progress {
                 return Ok(());
             };
             gate.at(0, taken);
-            self.take(alloc, instance, store, node)?;
+            self.take(alloc, whole, node)?;
         }
         Ok(())
     }
 
     // Works on one node.
-    fn take(
-        &mut self,
-        alloc: Global,
-        instance: &Instance,
-        store: &Store,
-        node: Node,
-    ) -> Result<(), AllocError>
-        requires store { IsWholeOf instance.now store.now }
-        requires under_way { IsUnderWay instance.now self.old.lines.items (self.old.waiting.items ++ node ∷ []) self.old.best self.old.least }
-        ensures under_way { OnOk result (IsUnderWay instance.now self.new.lines.items self.new.waiting.items self.new.best self.new.least) }
+    fn take(&mut self, alloc: Global, whole: &Whole, node: Node) -> Result<(), AllocError>
+        requires under_way { IsUnderWay whole.now.instance self.old.lines.items
+            (self.old.waiting.items ++ node ∷ []) self.old.best self.old.least }
+        ensures under_way { OnOk result (GoesOn whole.now.instance self.new) }
         ensures no_worse { OnOk result (self.new.least ≤ self.old.least) }
         ensures line { OnOk result (length self.new.lines.items ≡ length self.old.lines.items + 1) }
     {
-        let Step { better, end } = expand(alloc, instance, store, node, self.least)?;
+        let Step { better, end } = expand(alloc, whole, node, self.least)?;
         self.adopt(better);
         match end {
             End::Close(packing) => self.close(packing),
@@ -127,7 +118,8 @@ impl Progress {
     // Writes a split, and has the halves wait, the one with the vertex inside as the next.
     fn split(&mut self, alloc: Global, node: Node, vertex: u32) -> Result<(), AllocError>
         ensures lines { OnOk result (self.new.lines.items ≡ self.old.lines.items ++ ProofLine.Split vertex ∷ []) }
-        ensures waiting { OnOk result (self.new.waiting.items ≡ self.old.waiting.items ++ outside_half node vertex ∷ inside_half node vertex ∷ []) }
+        ensures waiting { OnOk result (self.new.waiting.items
+            ≡ self.old.waiting.items ++ outside_half node vertex ∷ inside_half node vertex ∷ []) }
         ensures best { self.new.best ≡ self.old.best }
         ensures least { self.new.least ≡ self.old.least }
     {
@@ -140,7 +132,7 @@ impl Progress {
 
     /// Closes what is left by the packings that it has.
     pub fn finish(mut self, instance: &Instance) -> Result<Searched, AllocError>
-        requires { IsUnderWay instance.now self.lines.items self.waiting.items self.best self.least }
+        requires { GoesOn instance.now self }
         ensures accepted { IfOk result (λ s. AcceptsFound instance.now s.primal s.dual s.tree s.proof) }
         ensures primal { IfOk result (λ s. s.primal ≡ self.least) }
         ensures greatest { IfOk result (λ s. IsGreatestBound instance.now s.primal s.dual s.proof) }
@@ -163,8 +155,9 @@ impl Progress {
 
     // Closes the nodes that wait; the lesser of the least cost known and their weights.
     fn close_left(&mut self, instance: &Instance) -> Result<u64, AllocError>
-        requires { IsUnderWay instance.now self.old.lines.items self.old.waiting.items self.old.best self.old.least }
-        ensures closed { IfOk result (IsClosing instance.now self.old.least self.old.lines.items self.old.waiting.items self.new.lines.items []) }
+        requires { GoesOn instance.now self.old }
+        ensures closed { IfOk result (IsClosing instance.now self.old.least
+            self.old.lines.items self.old.waiting.items self.new.lines.items []) }
         ensures best { self.new.best ≡ self.old.best }
         ensures least { self.new.least ≡ self.old.least }
     {

@@ -2,16 +2,15 @@ ghost use Rattle.std.specs.Prelude.{◌≡◌, ◌⊎◌, ◌-◌, ◌<◌, IfOk
 ghost use Rattle.std.specs.Bool.{OnTrue};
 ghost use Rattle.st_model.specs.Branch.{IsBranch};
 ghost use Rattle.cut_packing.specs.Packing.{weight};
-ghost use Rattle.dual_ascent.specs.Extension.{IsExtension, IsRootFor, packing_of};
-ghost use Rattle.split_search.specs.Deciding.{IsWholeOf};
+ghost use Rattle.dual_ascent.specs.Extension.{IsRootFor};
 ghost use Rattle.split_search.specs.Node.{IsNode, no_cuts};
-ghost use Rattle.split_search.specs.Raising.{IsNoWorse};
+ghost use Rattle.split_search.specs.Raising.{IsNoWorse, IsExtendedTo};
 
 use crate::node::no_cuts;
 use cut_packing::{Packing, weight};
 use dual_ascent::{Ascent, Extension, extend};
-use graph_store::Store;
-use st_model::{Branch, Instance};
+use graph_store::Whole;
+use st_model::{Instance, Sides};
 use std::alloc::{AllocError, Global};
 
 /// Extends a packing of a branch for a root, so that it weighs `least` or is full. Where it is
@@ -19,56 +18,62 @@ use std::alloc::{AllocError, Global};
 /// given: the cuts of earlier branches leave little to raise.
 pub fn raise(
     alloc: Global,
-    instance: &Instance,
-    store: &Store,
-    branch: &Branch,
+    whole: &Whole,
+    branch: &Sides,
     packing: Packing,
     root: u32,
     least: u64,
 ) -> Result<Extension, AllocError>
-    requires store { IsWholeOf instance.now store.now }
-    requires node { IsNode instance.now (record { branch = branch.now; packing = packing }) }
-    requires root { IsRootFor instance.now branch.now packing root }
-    requires light { weight instance.now branch.now packing < least }
-    ensures extended { IfOk result (λ e. IsExtension instance.now branch.now packing root (least - weight instance.now branch.now packing) e.ascent) }
-    ensures count { IfOk result (λ e. e.arcs.n ≡ instance.now.n) }
+    requires node { IsNode whole.now.instance (record { branch = branch.now; packing = packing }) }
+    requires root { IsRootFor whole.now.instance branch.now packing root }
+    requires light { weight whole.now.instance branch.now packing < least }
+    ensures extended { IfOk result
+        (λ e. IsExtendedTo whole.now.instance branch.now packing root least e.ascent) }
+    ensures count { IfOk result (λ e. e.arcs.n ≡ whole.now.instance.n) }
 {
-    let start = weight(instance, branch, &packing) as u64;
     let has_cuts = !packing.cuts.as_slice().is_empty();
-    let first = extend(alloc, store, branch, packing, root, &[], least - start)?;
-    if has_cuts && !is_reached(&first.ascent) {
-        let second = raise_nothing(alloc, instance, store, branch, root, least)?;
-        return Ok(heavier(instance, branch, first, second));
+    let first = raise_from(alloc, whole, branch, packing, root, least)?;
+    if has_cuts && !first.ascent.is_reached() {
+        let second = raise_from(alloc, whole, branch, no_cuts(alloc), root, least)?;
+        return Ok(heavier(&whole.instance, branch, first, second));
     }
     Ok(first)
 }
 
-// Raises cuts for a root from nothing.
-fn raise_nothing(
+// Extends a packing for a root, so that it weighs `least` or is full.
+fn raise_from(
     alloc: Global,
-    instance: &Instance,
-    store: &Store,
-    branch: &Branch,
+    whole: &Whole,
+    branch: &Sides,
+    packing: Packing,
     root: u32,
     least: u64,
 ) -> Result<Extension, AllocError>
-    requires store { IsWholeOf instance.now store.now }
-    requires node { IsNode instance.now (record { branch = branch.now; packing = no_cuts }) }
-    requires root { IsRootFor instance.now branch.now no_cuts root }
-    requires light { weight instance.now branch.now no_cuts < least }
-    ensures extended { IfOk result (λ e. IsExtension instance.now branch.now no_cuts root (least - weight instance.now branch.now no_cuts) e.ascent) }
-    ensures count { IfOk result (λ e. e.arcs.n ≡ instance.now.n) }
+    requires node { IsNode whole.now.instance (record { branch = branch.now; packing = packing }) }
+    requires root { IsRootFor whole.now.instance branch.now packing root }
+    requires light { weight whole.now.instance branch.now packing < least }
+    ensures extended { IfOk result
+        (λ e. IsExtendedTo whole.now.instance branch.now packing root least e.ascent) }
+    ensures count { IfOk result (λ e. e.arcs.n ≡ whole.now.instance.n) }
 {
-    let nothing = no_cuts(alloc);
-    let start = weight(instance, branch, &nothing) as u64;
-    let second = extend(alloc, store, branch, nothing, root, &[], least - start)?;
-    Ok(second)
+    let start = weight(&whole.instance, branch.branch(), &packing) as u64;
+    let raised = extend(
+        alloc,
+        &whole.store,
+        branch,
+        packing,
+        root,
+        &[],
+        least - start,
+    )?;
+    Ok(raised)
 }
 
 // Of two extensions the second, where it weighs enough or more than the first.
-fn heavier(instance: &Instance, branch: &Branch, first: Extension, second: Extension) -> Extension
+fn heavier(instance: &Instance, branch: &Sides, first: Extension, second: Extension) -> Extension
     requires { IsBranch instance.now branch.now }
-    ensures { (result ≡ first) ⊎ ((result ≡ second) × IsNoWorse instance.now branch.now first.ascent second.ascent) }
+    ensures { (result ≡ first) ⊎ ((result ≡ second)
+        × IsNoWorse instance.now branch.now first.ascent second.ascent) }
 {
     if is_heavier(instance, branch, &first.ascent, &second.ascent) {
         second
@@ -78,31 +83,15 @@ fn heavier(instance: &Instance, branch: &Branch, first: Extension, second: Exten
 }
 
 // Whether the second weighs enough, or more than the first.
-fn is_heavier(instance: &Instance, branch: &Branch, first: &Ascent, second: &Ascent) -> bool
+fn is_heavier(instance: &Instance, branch: &Sides, first: &Ascent, second: &Ascent) -> bool
     requires { IsBranch instance.now branch.now }
     ensures { OnTrue result (IsNoWorse instance.now branch.now first.now second.now) }
 {
     match second {
         Ascent::Reached(_) => true,
         Ascent::Full(packing) => {
-            weight(instance, branch, packing) > weight(instance, branch, packing_in(first))
+            let branch = branch.branch();
+            weight(instance, branch, packing) > weight(instance, branch, first.packing())
         }
-    }
-}
-
-// Whether the cuts weigh what was asked for.
-fn is_reached(ascent: &Ascent) -> bool {
-    match ascent {
-        Ascent::Reached(_) => true,
-        Ascent::Full(_) => false,
-    }
-}
-
-// The packing of an ascent.
-fn packing_in(ascent: &Ascent) -> &Packing
-    ensures { result.now ≡ packing_of ascent.now }
-{
-    match ascent {
-        Ascent::Full(packing) | Ascent::Reached(packing) => packing,
     }
 }

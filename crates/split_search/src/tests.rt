@@ -1,4 +1,5 @@
 use crate::{Gate, OpenGate};
+use graph_store::Whole;
 use st_model::{Instance, Need};
 use starting::bounds;
 use std::test::Fail;
@@ -11,8 +12,9 @@ mod starting;
 #[test]
 fn goes_through_the_centre(rt: HostRuntime) -> Result<(), Fail> {
     let instance = triangle_with_centre(rt.alloc(), 4)?;
+    let whole = Whole::of(rt.alloc(), instance)?;
     for (budget, dual, primal) in [(0, 0, 6), (1, 6, 6)] {
-        let got = bounds(rt.alloc(), &instance, budget, &OpenGate)?;
+        let got = bounds(rt.alloc(), &whole, budget, &OpenGate)?;
         assert_eq!(rt; got, Some((dual, primal)), "with budget {budget}");
     }
     Ok(())
@@ -35,8 +37,9 @@ fn finds_the_centre(rt: HostRuntime) -> Result<(), Fail> {
         (3, Need::Required),
     ];
     let instance = Instance::build(rt.alloc(), 4, &links, &needs)?;
+    let whole = Whole::of(rt.alloc(), instance)?;
     for (budget, dual, primal) in [(0, 0, 12), (1, 6, 6)] {
-        let got = bounds(rt.alloc(), &instance, budget, &OpenGate)?;
+        let got = bounds(rt.alloc(), &whole, budget, &OpenGate)?;
         assert_eq!(rt; got, Some((dual, primal)), "with budget {budget}");
     }
     Ok(())
@@ -46,8 +49,9 @@ fn finds_the_centre(rt: HostRuntime) -> Result<(), Fail> {
 #[test]
 fn ties_with_the_sides(rt: HostRuntime) -> Result<(), Fail> {
     let instance = triangle_with_centre(rt.alloc(), 3)?;
+    let whole = Whole::of(rt.alloc(), instance)?;
     for (budget, dual, primal) in [(u64::MAX, 6, 6)] {
-        let got = bounds(rt.alloc(), &instance, budget, &OpenGate)?;
+        let got = bounds(rt.alloc(), &whole, budget, &OpenGate)?;
         assert_eq!(rt; got, Some((dual, primal)), "with budget {budget}");
     }
     Ok(())
@@ -59,8 +63,9 @@ fn takes_the_cheapest_parallel_link(rt: HostRuntime) -> Result<(), Fail> {
     let links = [link(1, 2, 5), link(1, 2, 3), link(2, 1, 7)];
     let needs = [(1, Need::Required), (2, Need::Required)];
     let instance = Instance::build(rt.alloc(), 2, &links, &needs)?;
+    let whole = Whole::of(rt.alloc(), instance)?;
     for (budget, dual, primal) in [(0, 0, 3), (1, 3, 3)] {
-        let got = bounds(rt.alloc(), &instance, budget, &OpenGate)?;
+        let got = bounds(rt.alloc(), &whole, budget, &OpenGate)?;
         assert_eq!(rt; got, Some((dual, primal)), "with budget {budget}");
     }
     Ok(())
@@ -89,13 +94,14 @@ fn crosses_an_odd_wheel(rt: HostRuntime) -> Result<(), Fail> {
         (7, Need::Required),
     ];
     let instance = Instance::build(rt.alloc(), 7, &links, &needs)?;
-    let got = bounds(rt.alloc(), &instance, 0, &OpenGate)?;
+    let whole = Whole::of(rt.alloc(), instance)?;
+    let got = bounds(rt.alloc(), &whole, 0, &OpenGate)?;
     assert_eq!(rt; got, Some((0, 12)));
-    let (dual, primal) = bounds(rt.alloc(), &instance, 1, &OpenGate)?.ok_or("no tree")?;
+    let (dual, primal) = bounds(rt.alloc(), &whole, 1, &OpenGate)?.ok_or("no tree")?;
     assert!(rt; dual <= 9);
     assert!(rt; primal >= 10);
     for budget in [16, u64::MAX] {
-        let got = bounds(rt.alloc(), &instance, budget, &OpenGate)?;
+        let got = bounds(rt.alloc(), &whole, budget, &OpenGate)?;
         assert_eq!(rt; got, Some((10, 10)), "with budget {budget}");
     }
     Ok(())
@@ -109,8 +115,9 @@ fn leaves_the_least(rt: HostRuntime) -> Result<(), Fail> {
     let links = [link(1, 2, 4), link(2, 3, 5)];
     let needs = [(1, Need::Pays(7)), (2, Need::Pays(9)), (3, Need::Pays(2))];
     let instance = Instance::build(rt.alloc(), 3, &links, &needs)?;
+    let whole = Whole::of(rt.alloc(), instance)?;
     for (budget, dual, primal) in [(0, 0, 11), (1, 0, 11), (2, 6, 6), (u64::MAX, 6, 6)] {
-        let got = bounds(rt.alloc(), &instance, budget, &OpenGate)?;
+        let got = bounds(rt.alloc(), &whole, budget, &OpenGate)?;
         assert_eq!(rt; got, Some((dual, primal)), "with budget {budget}");
     }
     Ok(())
@@ -128,13 +135,15 @@ fn passes_another_gate(rt: HostRuntime) -> Result<(), Fail> {
     let links = [link(1, 2, 3), link(2, 3, 0)];
     let needs = [(1, Need::Required), (3, Need::Required)];
     let instance = Instance::build(rt.alloc(), 3, &links, &needs)?;
-    assert_eq!(rt; bounds(rt.alloc(), &instance, 3, &Still)?, Some((3, 3)));
+    let whole = Whole::of(rt.alloc(), instance)?;
+    assert_eq!(rt; bounds(rt.alloc(), &whole, 3, &Still)?, Some((3, 3)));
     Ok(())
 }
 
 #[test]
 fn stays_at_one_vertex(rt: HostRuntime) -> Result<(), Fail> {
     let instance = Instance::build(rt.alloc(), 1, &[], &[(1, Need::Required)])?;
-    assert_eq!(rt; bounds(rt.alloc(), &instance, 1, &OpenGate)?, Some((0, 0)));
+    let whole = Whole::of(rt.alloc(), instance)?;
+    assert_eq!(rt; bounds(rt.alloc(), &whole, 1, &OpenGate)?, Some((0, 0)));
     Ok(())
 }

@@ -8,16 +8,16 @@ pub append_known-append_known : (before : Option (List ℕ)) (xs ys : List ℕ) 
 append_known-append_known None xs ys = refl
 append_known-append_known (Some taken) xs ys = ap Some (append_assoc taken xs ys)
 
--- what stands behind the first n bytes, as a slice to the end
+-- what stands after the first n bytes, as a slice to the end
 pub rest_of : (bytes : List ℕ) (n : ℕ) → take (length bytes - n) (drop n bytes) ≡ drop n bytes
 rest_of bytes n = ap (λ k. take k (drop n bytes)) (sym (length-drop n bytes)) ∙ take-length (drop n bytes)
 
--- after the first n bytes, m more of those behind them are the first n + m
+-- after the first n bytes, m more of those after them are the first n + m
 pub takes_on : (before mid after : Option (List ℕ)) (bytes rest : List ℕ) (n m : ℕ) → rest ≡ drop n bytes → mid ≡ append_known before (take n bytes) → after ≡ append_known mid (take m rest) → after ≡ append_known before (take (n + m) bytes)
 takes_on before mid after bytes rest n m is_rest at_mid at_after =
     at_after ∙ ap (λ o. append_known o (take m rest)) at_mid ∙ append_known-append_known before (take n bytes) (take m rest) ∙ ap (λ r. append_known before (take n bytes ++ take m r)) is_rest ∙ ap (append_known before) (sym (take-add n m bytes))
 
--- there are bytes behind the first n if there are more than n
+-- there are bytes after the first n if there are more than n
 pub rest-not_nil : (bytes rest : List ℕ) (n : ℕ) → rest ≡ drop n bytes → n < length bytes → rest ≢ []
 rest-not_nil bytes rest n is_rest short none = omega (arith, length-drop n bytes, ap length is_rest, ap length none)
 

@@ -1,4 +1,4 @@
--- The text under a name: where the first of that name stands, and after a text is put in its place or behind all.
+-- The text under a name: where the first of that name stands, and after a text is put in its place or after all.
 use Rattle.std.proofs.Common.{◌≡◌, ◌≢◌, ℕ, ◌<◌, Bool, true, false, not, cond, ltb, List, [], ◌∷◌, ◌++◌, length, get_or, set, position, string_bytes, None, Some, zero, suc, sym, refl, ap, ◌∙◌, arith}
 use Rattle.std.specs.List.{position_or_len}
 use Rattle.std.specs.Str.{bytes_eq}
@@ -37,7 +37,7 @@ pub position-None : (p : Text → Bool) (xs : List Text) (k : ℕ) (d : Text) �
 position-None p xs k d none within =
     elim (ltb (position_or_len p xs) (length xs)) as (λ b. ltb (position_or_len p xs) (length xs) ≡ b → cond b (Some (position_or_len p xs)) None ≡ None → p (get_or xs k d) ≡ false) [
       | true ↦ (λ _ found. cc)
-      | false ↦ (λ behind _. not-true (p (get_or xs k d)) (prefix_len_passes (λ x. not (p x)) xs k d (omega (arith, ltb-false _ _ behind))))
+      | false ↦ (λ after _. not-true (p (get_or xs k d)) (prefix_len_passes (λ x. not (p x)) xs k d (omega (arith, ltb-false _ _ after))))
     ] refl none
 
 -- the text under a name is the one at its first place
@@ -67,7 +67,7 @@ text_at-set_other (x ∷ xs) other zero d text was is = rw (was, is) refl
 text_at-set_other (x ∷ xs) other (suc i) d text was is =
     ap (λ rest. cond (is_named other x) (Some (x.1.items)) rest) (text_at-set_other xs other i d text was is)
 
--- a text put behind all others is the one under its name, if there was none
+-- a text put after all others is the one under its name, if there was none
 pub text_at-push : (xs : List Text) (name : List ℕ) (text : Text) → ((k : ℕ) (d : Text) → k < length xs → is_named name (get_or xs k d) ≡ false) → is_named name text ≡ true → text_at (texts_of (xs ++ text ∷ [])) name ≡ Some (text.1.items)
 text_at-push [] name text none named = rw named refl
 text_at-push (x ∷ xs) name text none named =
@@ -94,7 +94,7 @@ Puts-set xs name bytes place old copy found at_place copied =
       others = λ other apart. text_at-set_other xs other place old (old.0, copy) (is_named-other name other (get_or xs place old) first.1 apart) (is_named-other name other old named apart);
     }
 
--- and where a copy of both stands behind all texts, if there was none under the name
+-- and where a copy of both stands after all texts, if there was none under the name
 pub Puts-push : (xs : List Text) (name bytes : List ℕ) (title : String Global) (copy : Vec ℕ Global) → position (is_named name) xs ≡ None → string_bytes title ≡ name → copy.items ≡ bytes → Puts xs (xs ++ (title, copy) ∷ []) name bytes
 Puts-push xs name bytes title copy none titled copied =
     let named : is_named name (title, copy) ≡ true = (bytes_eq-Decides _ name).1 titled in

@@ -1,5 +1,5 @@
 -- What a load and a save of a shelf do to the texts under their names.
-use Rattle.std.specs.Prelude.{◌≡◌, ◌≢◌, ℕ, ◌<◌, ◌≤◌, List, length, Option, IfSome, Result, IfOk, IsErrOf}
+use Rattle.std.specs.Prelude.{◌≡◌, ◌≢◌, ℕ, ◌<◌, ◌≤◌, List, ◌++◌, length, take, Option, Some, IfSome, Result, IfOk, IsErrOf}
 use Rattle.std.specs.declared.alloc.Global.{Global}
 use Rattle.std.specs.declared.vec.Vec.{Vec}
 use Rattle.st_edge.specs.declared.shelf.LoadFault.{LoadFault}
@@ -19,3 +19,11 @@ SameTexts old new = (name : List ℕ) → new name ≡ old name
 -- every other name has the text that it had
 abbrev pub SameOtherTexts : List ℕ → (List ℕ → Option (List ℕ)) → (List ℕ → Option (List ℕ)) → Type 0
 SameOtherTexts name old new = (other : List ℕ) → other ≢ name → new other ≡ old other
+
+-- Of the names that a shelf was asked to load it tells those that it told before, and then these. It may stop telling.
+abbrev pub AsksFor : Option (List (List ℕ)) → Option (List (List ℕ)) → List (List ℕ) → Type 0
+AsksFor old new names = IfSome new (λ now. (before : List (List ℕ)) × (old ≡ Some before) × (now ≡ before ++ names))
+
+-- it was asked for these names, or a front of them
+abbrev pub AsksForFront : Option (List (List ℕ)) → Option (List (List ℕ)) → List (List ℕ) → Type 0
+AsksForFront old new names = (count : ℕ) × AsksFor old new (take count names)

@@ -8,10 +8,10 @@ ghost use Rattle.st_edge.specs.Shelf.{Loads};
 use crate::{LoadFault, SaveFault, Shelf};
 use std::alloc::{AllocError, Global};
 use std::fs::File;
-use std::io::{ErrorKind, Read};
+use std::io;
+use std::io::{ErrorKind, Read, Write};
 use std::marker::Model;
 use std::rt::Files;
-use std::{fs, io};
 
 /// How many bytes a load asks a file for at once.
 const PIECE: usize = 1 << 16;
@@ -50,6 +50,8 @@ impl<R: Files> Shelf for DiskShelf<R> {
 
     ghost text = { λ _ _. None };
 
+    ghost asked = { λ _. None };
+
     ghost read_faults = { λ s. s.read_faults };
 
     ghost write_faults = { λ s. s.write_faults };
@@ -72,7 +74,8 @@ impl<R: Files> Shelf for DiskShelf<R> {
         result
     }
 
-    /// The file is made, or emptied and written again: after `Failed` or `NoMemory` it may hold a front of the bytes.
+    /// The file is made, or emptied and written again. `NoMemory` comes before that, and whatever fails then is
+    /// `Failed`: the file may hold a front of the bytes.
     fn save(&mut self, name: &str, bytes: &[u8]) -> Result<(), SaveFault>
         ensures counted { IsErrOf result SaveFault.Failed
             → self.new ≡ record self.old { write_faults = one_more self.old.write_faults } }
@@ -82,7 +85,7 @@ impl<R: Files> Shelf for DiskShelf<R> {
         ensures cause { HasCause self.old.write_faults self.new.write_faults (IsErrOf result SaveFault.Failed) }
         ensures read_faults { self.new.read_faults ≡ self.old.read_faults }
     {
-        let result = fs::write(&self.files, name, bytes).map_err(save_fault_of);
+        let result = save_file(&self.files, name, bytes);
         if let Err(SaveFault::Failed) = result {
             self.write_faults = self.write_faults.saturating_add(1);
         }
@@ -101,6 +104,13 @@ fn load_file<R: Files>(
     let mut file = File::open(files, name).map_err(load_fault_of)?;
     let mut piece = zeros(alloc, PIECE)?;
     read_within(alloc, &mut file, &mut piece, limit)
+}
+
+// Makes or empties the file, and writes the bytes. Where the system has no memory for a write the old text is gone, so
+// that is a fault of writing.
+fn save_file<R: Files>(files: &R, name: &str, bytes: &[u8]) -> Result<(), SaveFault> {
+    let mut file = File::create(files, name).map_err(save_fault_of)?;
+    file.write_all(bytes).map_err(|_| SaveFault::Failed)
 }
 
 // A buffer of this length. A function of its own, so that no proof writes the zeros out.
@@ -122,11 +132,13 @@ fn read_within<S: Read>(
 {
     let mut text = Vec::new(alloc);
     loop {
-        let count = read_piece(source, piece)?;
+        let left = limit - text.len() as u64;
+        let most = piece.len().min(left.saturating_add(1) as usize);
+        let count = read_piece(source, &mut piece[..most])?;
         if count == 0 {
             return Ok(text);
         }
-        if limit - (text.len() as u64) < count as u64 {
+        if left < count as u64 {
             return Err(LoadFault::TooLong);
         }
         text.extend_from_slice(&piece[..count])?;
@@ -175,6 +187,27 @@ mod tests {
             }
             self.0 -= 1;
             Ok(buf.len().min(2))
+        }
+    }
+
+    /// Fills each buffer, and counts the bytes.
+    #[derive(Drop)]
+    struct Endless(u64);
+
+    impl Read for Endless {
+        fn read(&mut self, buf: &mut [u8]) -> io::Result<usize> {
+            self.0 = self.0.saturating_add(buf.len() as u64);
+            Ok(buf.len())
+        }
+    }
+
+    #[test]
+    fn one_byte_more_than_the_limit_is_read(rt: HostRuntime) {
+        for limit in [0, 3, 4, 9] {
+            let mut source = Endless(0);
+            let read = read_within(rt.alloc(), &mut source, &mut [0; 4], limit);
+            assert_eq!(rt; read.err(), Some(LoadFault::TooLong));
+            assert_eq!(rt; source.0, limit + 1);
         }
     }
 

@@ -1,8 +1,8 @@
-ghost use Rattle.std.specs.Prelude.{◌≡◌, ◌≢◌, ◌⊎◌, ◌<◌, ◌≤◌, ◌↔◌, Some, None, Err, length, position, string_bytes, IfOk, IfSome, OnOk, OnErr, IsErrOf, IsSomeAnd, option_copied};
+ghost use Rattle.std.specs.Prelude.{◌≡◌, ◌≢◌, ◌⊎◌, ◌<◌, ◌≤◌, ◌++◌, ◌↔◌, [], ◌∷◌, Some, None, Err, length, map, option_map, position, string_bytes, IfOk, IfSome, OnOk, OnErr, IsErrOf, IsSomeAnd, option_copied};
 ghost use Rattle.std.specs.Str.{bytes_eq};
 ghost use Rattle.st_edge.specs.Faults.{one_more, HasCause};
-ghost use Rattle.st_edge.specs.MemoryShelf.{texts_of, text_at, IsListed};
-ghost use Rattle.st_edge.specs.Shelf.{Loads, SameTexts, SameOtherTexts};
+ghost use Rattle.st_edge.specs.MemoryShelf.{texts_of, names_of, text_at, IsListed};
+ghost use Rattle.st_edge.specs.Shelf.{AsksFor, Loads, SameTexts, SameOtherTexts};
 
 use crate::{LoadFault, SaveFault, Shelf};
 use std::alloc::{AllocError, Global};
@@ -15,12 +15,13 @@ pub struct MemoryShelf {
     texts: Vec<(String, Vec<u8>)>,
     failing: Vec<u64>,
     calls: u64,
+    asked: Option<Vec<String>>,
     read_faults: u64,
     write_faults: u64,
 }
 
 impl Model for MemoryShelf {
-    ghost use Rattle.st_edge.specs.MemoryShelf.{Holding, texts_of};
+    ghost use Rattle.st_edge.specs.MemoryShelf.{Holding, names_of, texts_of};
 
     ghost Value = { Holding };
 
@@ -28,6 +29,7 @@ impl Model for MemoryShelf {
       texts = texts_of s.texts.items;
       failing = s.failing.items;
       calls = s.calls;
+      asked = names_of s.asked;
       read_faults = s.read_faults;
       write_faults = s.write_faults;
     } };
@@ -41,6 +43,7 @@ impl MemoryShelf {
           texts = texts_of texts.items;
           failing = failing.items;
           calls = 0;
+          asked = Some [];
           read_faults = 0;
           write_faults = 0;
         } }
@@ -50,6 +53,7 @@ impl MemoryShelf {
             texts,
             failing,
             calls: 0,
+            asked: Some(Vec::new(alloc)),
             read_faults: 0,
             write_faults: 0,
         }
@@ -61,10 +65,20 @@ impl MemoryShelf {
     {
         find_text(&self.texts, name)
     }
+
+    /// The names of all loads so far, in their order, unless memory ran out for them.
+    pub fn asked(&self) -> Option<&[String]>
+        ensures { option_map (λ names. map string_bytes names.now) result ≡ self.now.asked }
+    {
+        let names = self.asked.as_ref()?;
+        Some(names.as_slice())
+    }
 }
 
 impl Shelf for MemoryShelf {
     ghost text = { λ s name. text_at s.texts name };
+
+    ghost asked = { λ s. s.asked };
 
     ghost read_faults = { λ s. s.read_faults };
 
@@ -80,17 +94,23 @@ impl Shelf for MemoryShelf {
             → IsSomeAnd (text_at self.old.texts name.now) (λ text. length text ≤ limit) }
         ensures counted { IsErrOf result LoadFault.Failed → self.new ≡ record self.old {
           calls = one_more self.old.calls;
+          asked = self.new.asked;
           read_faults = one_more self.old.read_faults;
         } }
-        ensures kept { result ≢ Err LoadFault.Failed → self.new ≡ record self.old { calls = one_more self.old.calls } }
+        ensures kept { result ≢ Err LoadFault.Failed → self.new ≡ record self.old {
+          calls = one_more self.old.calls;
+          asked = self.new.asked;
+        } }
 
         // As of every shelf.
         ensures answer { Loads (text_at self.old.texts name.now) limit result }
+        ensures asked { AsksFor self.old.asked self.new.asked (name.now ∷ []) }
         ensures texts { SameTexts (text_at self.old.texts) (text_at self.new.texts) }
         ensures cause { HasCause self.old.read_faults self.new.read_faults (IsErrOf result LoadFault.Failed) }
         ensures write_faults { self.new.write_faults ≡ self.old.write_faults }
     {
         self.calls = self.calls.saturating_add(1);
+        note(self.alloc, &mut self.asked, name);
         if !self.failing.contains(&self.calls)
             && let Some(text) = find_text(&self.texts, name)
         {
@@ -116,6 +136,7 @@ impl Shelf for MemoryShelf {
         // As of every shelf.
         ensures saved { OnOk result (IfSome (text_at self.new.texts name.now) (λ text. text ≡ bytes.now)) }
         ensures others { SameOtherTexts name.now (text_at self.old.texts) (text_at self.new.texts) }
+        ensures asked { self.new.asked ≡ self.old.asked }
         ensures no_memory { IsErrOf result SaveFault.NoMemory
             → SameTexts (text_at self.old.texts) (text_at self.new.texts) }
         ensures cause { HasCause self.old.write_faults self.new.write_faults (IsErrOf result SaveFault.Failed) }
@@ -129,6 +150,25 @@ impl Shelf for MemoryShelf {
         put(self.alloc, &mut self.texts, name, bytes)?;
         Ok(())
     }
+}
+
+// Puts a name after those that were asked for. Where memory runs out, none of them is kept.
+fn note(alloc: Global, asked: &mut Option<Vec<String>>, name: &str)
+    ensures { AsksFor (names_of asked.old) (names_of asked.new) (name.now ∷ []) }
+{
+    let Some(mut names) = asked.take() else {
+        return;
+    };
+    if push_name(alloc, &mut names, name).is_ok() {
+        *asked = Some(names);
+    }
+}
+
+fn push_name(alloc: Global, names: &mut Vec<String>, name: &str) -> Result<(), AllocError>
+    ensures { OnOk result (map string_bytes names.new.items ≡ map string_bytes names.old.items ++ name.now ∷ []) }
+{
+    names.push(String::from_str(alloc, name)?)?;
+    Ok(())
 }
 
 // Where the text under a name stands.

@@ -1,6 +1,6 @@
-ghost use Rattle.std.specs.Prelude.{◌≡◌, ℕ, List, Option, IfSome, OnOk, IsErrOf};
+ghost use Rattle.std.specs.Prelude.{◌≡◌, ℕ, List, [], ◌∷◌, Option, IfSome, OnOk, IsErrOf};
 ghost use Rattle.st_edge.specs.Faults.{HasCause};
-ghost use Rattle.st_edge.specs.Shelf.{Loads, SameTexts, SameOtherTexts};
+ghost use Rattle.st_edge.specs.Shelf.{AsksFor, Loads, SameTexts, SameOtherTexts};
 
 use std::alloc::{AllocError, Global};
 
@@ -50,6 +50,9 @@ pub trait Shelf {
     /// The text under a name, both as bytes. `None` where there is none, or where the shelf doesn't tell.
     ghost text: { Self → List ℕ → Option (List ℕ) };
 
+    /// The names that it was asked to load, in that order. `None` where the shelf doesn't tell.
+    ghost asked: { Self → Option (List (List ℕ)) };
+
     /// How often a load failed.
     ghost read_faults: { Self → ℕ };
 
@@ -59,6 +62,7 @@ pub trait Shelf {
     /// The text under a name, if it has at most `limit` bytes. `Failed` is a fault of reading.
     fn load(&mut self, alloc: Global, name: &str, limit: u64) -> Result<Vec<u8>, LoadFault>
         ensures answer { Loads (text self.old name.now) limit result }
+        ensures asked { AsksFor (asked self.old) (asked self.new) (name.now ∷ []) }
         ensures texts { SameTexts (text self.old) (text self.new) }
         ensures cause { HasCause (read_faults self.old) (read_faults self.new) (IsErrOf result LoadFault.Failed) }
         ensures write_faults { write_faults self.new ≡ write_faults self.old };
@@ -68,6 +72,7 @@ pub trait Shelf {
     fn save(&mut self, name: &str, bytes: &[u8]) -> Result<(), SaveFault>
         ensures saved { OnOk result (IfSome (text self.new name.now) (λ text. text ≡ bytes.now)) }
         ensures others { SameOtherTexts name.now (text self.old) (text self.new) }
+        ensures asked { asked self.new ≡ asked self.old }
         ensures no_memory { IsErrOf result SaveFault.NoMemory → SameTexts (text self.old) (text self.new) }
         ensures cause { HasCause (write_faults self.old) (write_faults self.new) (IsErrOf result SaveFault.Failed) }
         ensures read_faults { read_faults self.new ≡ read_faults self.old };

@@ -33,6 +33,14 @@ fn holds(shelf: &MemoryShelf, name: &str, want: &[u8]) -> bool {
     shelf.text_of(name).is_some_and(|text| text == want)
 }
 
+/// Whether these are the names that were asked for.
+fn have_names(asked: Option<&[String]>, want: &[&str]) -> bool {
+    asked.is_some_and(|names| names
+        .iter()
+        .map(|name| name.as_str())
+        .eq(want.iter().copied()))
+}
+
 /// A shelf with `hello` under `a`, twice, and the empty text under `b`.
 fn shelf_of(alloc: Global, failing: &[u64]) -> Result<MemoryShelf, AllocError> {
     let mut texts = Vec::new(alloc);
@@ -77,6 +85,7 @@ fn loads_and_saves_are_counted_together(rt: HostRuntime) -> Result<(), Fail> {
     }
     assert!(rt; holds(&shelf, "b", b""));
     assert!(rt; shelf.text_of("d").is_none());
+    assert!(rt; have_names(shelf.asked(), &["a", "a", "c"]));
     Ok(())
 }
 

@@ -31,7 +31,7 @@ rises-cons x (y ∷ ys) first rest (suc k) lt =
     let e : suc (k + 1) ≡ suc k + 1 = omega arith in
     subst (λ (j : ℕ). slice_index (y ∷ ys) k < slice_index (x ∷ y ∷ ys) j) e (rest k (omega arith))
 
--- what stands behind the first rises too
+-- what stands after the first rises too
 rises-tail : (x : ℕ) (xs : List ℕ) → IsStrictlyIncreasing (x ∷ xs) → IsStrictlyIncreasing xs
 rises-tail x xs h k lt =
     let e : suc k + 1 ≡ suc (k + 1) = omega arith in

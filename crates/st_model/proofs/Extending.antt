@@ -1,12 +1,13 @@
 -- A list that takes in the vertices of another.
-use Rattle.std.proofs.Common.{◌≡◌, ℕ, ◌+◌, ◌<◌, Bool, true, false, List, [], ◌∷◌, ◌++◌, length, take, get_or, ◌⊎◌, inl, inr, refl, sym, ap, ◌∙◌, append_assoc}
+use Rattle.std.proofs.Common.{◌≡◌, ℕ, ◌+◌, ◌<◌, Bool, true, false, List, [], ◌∷◌, ◌++◌, length, take, get_or, ◌⊎◌, inl, inr, refl, sym, ap, subst, ◌∙◌, append_assoc}
 use Rattle.std.specs.Prelude.{◌==◌, if◌then◌else◌, IsTrue}
 use Rattle.std.proofs.lemmas.Bool.{false≢true, eqb-true, eq-eqb, or_cases, or_left, or_right}
 use Rattle.std.proofs.lemmas.List.{append-nil}
-use Rattle.std.proofs.lemmas.List.Elements.{All-nil, All-push, All-weaker}
+use Rattle.std.proofs.lemmas.List.Elements.{All-nil, All-push, All-weaker, recursion_from_All}
 use Rattle.st_model.specs.Lists.{has}
 use Rattle.st_model.specs.VertexSet.{Extends}
-use Rattle.st_model.proofs.Marked.{has-push, has_more}
+use Rattle.st_model.proofs.Booleans.{same_test}
+use Rattle.st_model.proofs.Marked.{has-push, has_more, at_member}
 
 -- nothing more
 pub Extends-none : (old : List ℕ) → Extends old old []
@@ -16,6 +17,10 @@ Extends-none old = record {
   only = All-nil (λ v. IsTrue (has [] v));
   covers = λ v h. absurd (false≢true h);
 }
+
+-- of a list that was empty the members are those vertices
+pub Extends-all : (new vertices : List ℕ) → Extends [] new vertices → (v : ℕ) → has new v ≡ has vertices v
+Extends-all new vertices h v = same_test (has new v) (has vertices v) (λ held. at_member (λ w. IsTrue (has vertices w)) h.more v (recursion_from_All _ h.more h.only) (subst (λ (xs : List ℕ). IsTrue (has xs v)) h.appended held)) (h.covers v)
 
 -- one vertex more, unless it is there
 module _ (old now new xs : List ℕ) (i : ℕ) (below : i < length xs) (h : Extends old now (take i xs)) where

@@ -7,7 +7,6 @@ pub mod Putting
 pub mod Judging
 pub mod Costs
 pub mod Distinct
-pub mod ThinLists
 pub mod ThinGrowth
 pub mod ThinSettled
 pub mod RegrowSteps
@@ -20,3 +19,6 @@ pub mod Booleans
 pub mod Members
 pub mod Reaching
 pub mod Branches
+pub mod VectorLists
+pub mod Walked
+pub mod Those

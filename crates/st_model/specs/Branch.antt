@@ -1,5 +1,5 @@
 -- A branch of the search: vertices that are to be reached, and vertices that are to be avoided.
-use Rattle.std.specs.Prelude.{ℕ, IsTrue, IsFalse, Bool, not, ◌&&◌, ◌||◌, if◌then◌else◌, nat_lt, List, [], ◌∷◌, All}
+use Rattle.std.specs.Prelude.{◌≡◌, ℕ, IsTrue, IsFalse, Bool, not, ◌&&◌, ◌||◌, if◌then◌else◌, nat_lt, List, [], ◌∷◌, All}
 use Rattle.std.specs.List.Sorted.{IsStrictlyIncreasing}
 use Rattle.st_model.specs.declared.branch.Branch.{Branch}
 use Rattle.st_model.specs.declared.tree.Tree.{Tree}
@@ -11,6 +11,11 @@ use Rattle.st_model.specs.Arborescence.{reached}
 pub record IsVertexSet (n : ℕ) (set : List ℕ) : Type 0 where
   pub ascending : IsStrictlyIncreasing set
   pub in_range : All (IsVertex n) set
+
+-- of the vertices up to the last, those that pass the test, ascending
+pub record AreThose (test : ℕ → Bool) (last : ℕ) (list : List ℕ) : Type 0 where
+  pub set : IsVertexSet last list
+  pub same : (v : ℕ) → IsVertex last v → has list v ≡ test v
 
 -- no vertex is both inside and outside
 pub record IsBranch (I : Network) (B : Branch) : Type 0 where
@@ -27,6 +32,10 @@ pub record Belongs (B : Branch) (t : Tree) : Type 0 where
   pub inside : (v : ℕ) → IsTrue (has B.inside v) → IsTrue (has (reached t) v)
   pub outside : (v : ℕ) → IsTrue (has B.outside v) → IsFalse (has (reached t) v)
 
+-- the branch of all trees
+abbrev pub all_trees : Branch
+all_trees = record { inside = []; outside = [] }
+
 abbrev pub is_present : Branch → ℕ → Bool
 is_present B v = not (has B.outside v)
 
@@ -36,6 +45,14 @@ is_undecided B v = not (has B.inside v) && not (has B.outside v)
 -- every tree of the branch reaches v: it is required or inside
 abbrev pub is_certain : Network → Branch → ℕ → Bool
 is_certain I B v = is_required I v || has B.inside v
+
+-- no vertex is required or inside
+abbrev pub NoneIsCertain : Network → Branch → Type 0
+NoneIsCertain I B = (v : ℕ) → IsVertex I.n v → IsFalse (is_certain I B v)
+
+-- v may be reached or not: it is neither required nor decided
+abbrev pub is_free : Network → Branch → ℕ → Bool
+is_free I B v = is_undecided B v && not (is_required I v)
 
 -- the set with v, in its place
 abbrev pub with_vertex : List ℕ → ℕ → List ℕ

@@ -9,5 +9,7 @@ pub mod Made
 pub mod Growth
 pub mod Regrown
 pub mod VertexSet
+pub mod Sides
+pub mod Led
 pub mod Wall
 pub mod Laws

@@ -1,4 +1,8 @@
+ghost use Rattle.std.specs.Prelude.{◌≡◌, IfOk};
+ghost use Rattle.st_model.specs.Branch.{all_trees, with_vertex, with_inside, with_outside};
+
 use crate::Listed;
+use std::alloc::{AllocError, Global};
 
 /// A part of the search: the trees that reach every vertex inside and none outside. Both are
 /// ascending lists without repeats.
@@ -6,4 +10,71 @@ use crate::Listed;
 pub struct Branch {
     pub inside: Listed<u32>,
     pub outside: Listed<u32>,
+}
+
+impl Branch {
+    /// The branch of all trees.
+    pub fn all(alloc: Global) -> Branch
+        ensures { result ≡ all_trees }
+    {
+        Branch {
+            inside: Listed::of(Vec::new(alloc)),
+            outside: Listed::of(Vec::new(alloc)),
+        }
+    }
+
+    /// The same branch again.
+    pub fn copied(&self, alloc: Global) -> Result<Branch, AllocError>
+        ensures { IfOk result (λ copy. copy ≡ self.now) }
+    {
+        let inside = Vec::from_slice(alloc, self.inside.as_slice())?;
+        let outside = Vec::from_slice(alloc, self.outside.as_slice())?;
+        Ok(Branch {
+            inside: Listed::of(inside),
+            outside: Listed::of(outside),
+        })
+    }
+
+    /// The branch with a vertex inside as well.
+    pub fn with_inside(&self, alloc: Global, vertex: u32) -> Result<Branch, AllocError>
+        ensures { IfOk result (λ half. half ≡ with_inside self.now vertex) }
+    {
+        let inside = with(alloc, self.inside.as_slice(), vertex)?;
+        let outside = Vec::from_slice(alloc, self.outside.as_slice())?;
+        Ok(Branch {
+            inside: Listed::of(inside),
+            outside: Listed::of(outside),
+        })
+    }
+
+    /// The branch with a vertex outside as well.
+    pub fn with_outside(&self, alloc: Global, vertex: u32) -> Result<Branch, AllocError>
+        ensures { IfOk result (λ half. half ≡ with_outside self.now vertex) }
+    {
+        let inside = Vec::from_slice(alloc, self.inside.as_slice())?;
+        let outside = with(alloc, self.outside.as_slice(), vertex)?;
+        Ok(Branch {
+            inside: Listed::of(inside),
+            outside: Listed::of(outside),
+        })
+    }
+}
+
+// The vertices of an ascending list and one more, in its place.
+fn with(alloc: Global, vertices: &[u32], vertex: u32) -> Result<Vec<u32>, AllocError>
+    ensures { IfOk result (λ more. more.items ≡ with_vertex vertices.now vertex) }
+{
+    let mut more = Vec::with_capacity(alloc, vertices.len() + 1)?;
+    let mut placed = false;
+    for next in vertices {
+        if !placed && *next >= vertex {
+            more.push(vertex)?;
+            placed = true;
+        }
+        more.push(*next)?;
+    }
+    if !placed {
+        more.push(vertex)?;
+    }
+    Ok(more)
 }

@@ -1,9 +1,9 @@
 ghost use Rattle.std.specs.Prelude.{◌≡◌};
 ghost use Rattle.st_model.specs.Arborescence.{IsArborescence, cost};
 ghost use Rattle.st_model.specs.Lists.{sum_to};
-ghost use Rattle.st_model.specs.Network.{IsInstance, IsVertex, pays};
+ghost use Rattle.st_model.specs.Network.{IsInstance, pays};
 
-use crate::{Instance, Need, Tree};
+use crate::{Instance, Tree};
 
 /// What a tree costs: its links, and the prizes of all vertices that it doesn't reach.
 pub fn tree_cost(instance: &Instance, tree: &Tree) -> u64
@@ -11,10 +11,10 @@ pub fn tree_cost(instance: &Instance, tree: &Tree) -> u64
     ensures { result ≡ cost instance.now tree.now }
 {
     let mut links = 0;
-    let mut missed = all_prizes(instance) - prize_of(instance, tree.start);
+    let mut missed = all_prizes(instance) - instance.prize(tree.start);
     for (tail, head) in tree.arcs.as_slice() {
         links += instance.link_cost(*tail, *head).unwrap_or(0);
-        missed -= prize_of(instance, *head);
+        missed -= instance.prize(*head);
     }
     links + missed
 }
@@ -26,18 +26,7 @@ fn all_prizes(instance: &Instance) -> u64
 {
     let mut sum = 0;
     for before in 0..instance.vertices() {
-        sum += prize_of(instance, before + 1);
+        sum += instance.prize(before + 1);
     }
     sum
-}
-
-// What a vertex pays where it isn't reached.
-fn prize_of(instance: &Instance, vertex: u32) -> u64
-    requires { IsVertex instance.now.n vertex }
-    ensures { result ≡ pays instance.now vertex }
-{
-    match instance.need(vertex) {
-        Need::Required => 0,
-        Need::Pays(prize) => prize,
-    }
 }

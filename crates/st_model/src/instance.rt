@@ -1,7 +1,7 @@
 ghost use Rattle.std.specs.Prelude.{◌≡◌, ◌+◌, ◌^◌, ◌<◌, ◌≤◌, IfOk, OnSome, All};
 ghost use Rattle.st_model.specs.declared.instance.TheConstants.{MAX_VERTICES};
 ghost use Rattle.st_model.specs.Lists.{total};
-ghost use Rattle.st_model.specs.Network.{IsInstance, IsVertex, link, need_of, prize};
+ghost use Rattle.st_model.specs.Network.{IsInstance, IsVertex, link, need_of, pays, prize};
 ghost use Rattle.st_model.specs.Stated.{network_of};
 
 use crate::build::{merge_links, merge_needs};
@@ -77,6 +77,14 @@ impl Instance {
         ensures { result ≡ need_of self.now vertex }
     {
         self.needs[vertex as usize - 1]
+    }
+
+    /// What a vertex pays where it is left out: 0 where it is required.
+    pub fn prize(&self, vertex: u32) -> u64
+        requires { IsVertex self.now.n vertex }
+        ensures { result ≡ pays self.now vertex }
+    {
+        self.need(vertex).prize()
     }
 
     /// The cost of the link between two vertices, in either order.

@@ -1,43 +1,27 @@
+ghost use Rattle.std.specs.Prelude.{◌≡◌};
+
 use crate::tree_tests::triangle;
 use crate::{Instance, Link, Listed, Need, Tree, is_tree, tree_cost};
 use std::alloc::{AllocError, Global};
 use std::test::Fail;
 
-#[test]
-fn builds_one_link_and_one_need_each(rt: HostRuntime) -> Result<(), Fail> {
-    let stated_links = [
-        Link {
-            a: 1,
-            b: 2,
-            cost: 5,
-        },
-        Link {
-            a: 3,
-            b: 2,
-            cost: 7,
-        },
-        Link {
-            a: 2,
-            b: 1,
-            cost: 3,
-        },
-        Link {
-            a: 4,
-            b: 4,
-            cost: 1,
-        },
-        Link {
-            a: 2,
-            b: 3,
-            cost: 9,
-        },
-        Link {
-            a: 1,
-            b: 2,
-            cost: 4,
-        },
+fn link(a: u32, b: u32, cost: u64) -> Link
+    ensures { result ≡ record { a = a; b = b; cost = cost } }
+{
+    Link { a, b, cost }
+}
+
+// Four vertices: of links between the same ends, and of needs of one vertex, the first, a middle or the last one counts.
+fn of_repeated_lines(alloc: Global) -> Result<Instance, AllocError> {
+    let links = [
+        link(1, 2, 5),
+        link(3, 2, 7),
+        link(2, 1, 3),
+        link(4, 4, 1),
+        link(2, 3, 9),
+        link(1, 2, 4),
     ];
-    let stated_needs = [
+    let needs = [
         (1, Need::Pays(3)),
         (2, Need::Pays(4)),
         (2, Need::Required),
@@ -46,19 +30,13 @@ fn builds_one_link_and_one_need_each(rt: HostRuntime) -> Result<(), Fail> {
         (3, Need::Pays(8)),
         (1, Need::Pays(2)),
     ];
-    let instance = Instance::build(rt.alloc(), 4, &stated_links, &stated_needs)?;
-    let links = [
-        Link {
-            a: 1,
-            b: 2,
-            cost: 3,
-        },
-        Link {
-            a: 2,
-            b: 3,
-            cost: 7,
-        },
-    ];
+    Instance::build(alloc, 4, &links, &needs)
+}
+
+#[test]
+fn builds_one_link_and_one_need_each(rt: HostRuntime) -> Result<(), Fail> {
+    let instance = of_repeated_lines(rt.alloc())?;
+    let links = [link(1, 2, 3), link(2, 3, 7)];
     assert_eq!(rt; instance.vertices(), 4);
     assert_eq!(rt; instance.links(), links.as_slice());
     for (vertex, need) in [
@@ -69,6 +47,12 @@ fn builds_one_link_and_one_need_each(rt: HostRuntime) -> Result<(), Fail> {
     ] {
         assert_eq!(rt; instance.need(vertex), need, "at {vertex}");
     }
+    Ok(())
+}
+
+#[test]
+fn tells_what_a_link_costs(rt: HostRuntime) -> Result<(), Fail> {
+    let instance = of_repeated_lines(rt.alloc())?;
     for (a, b, cost) in [
         (1, 2, Some(3)),
         (2, 1, Some(3)),
@@ -113,87 +97,66 @@ fn cost_of(
 }
 
 #[test]
-fn judges_trees_of_the_triangle(rt: HostRuntime) -> Result<(), Fail> {
+fn finds_trees_of_the_triangle(rt: HostRuntime) -> Result<(), Fail> {
     let instance = triangle(rt.alloc())?;
     for (start, arcs, cost, why) in [
-        (
-            1,
-            [(1, 4), (4, 2), (4, 3)].as_slice(),
-            Some(6),
-            "over the centre",
-        ),
-        (
-            4,
-            [(4, 2), (4, 1), (4, 3)].as_slice(),
-            Some(6),
-            "from the centre",
-        ),
-        (1, [(1, 2), (2, 3)].as_slice(), Some(8), "two sides"),
+        (1, [(1, 4), (4, 2), (4, 3)].as_slice(), 6, "over the centre"),
+        (4, [(4, 2), (4, 1), (4, 3)].as_slice(), 6, "from the centre"),
+        (1, [(1, 2), (2, 3)].as_slice(), 8, "two sides"),
         (
             1,
             [(1, 2), (1, 4), (4, 3)].as_slice(),
-            Some(8),
+            8,
             "a side and the centre",
         ),
+    ] {
+        assert_eq!(rt;
+            cost_of(rt.alloc(), &instance, start, arcs)?,
+            Some(cost),
+            "{why}"
+        );
+    }
+    Ok(())
+}
+
+#[test]
+fn finds_what_is_no_tree_of_the_triangle(rt: HostRuntime) -> Result<(), Fail> {
+    let instance = triangle(rt.alloc())?;
+    for (start, arcs, why) in [
         (
             1,
             [(1, 2), (2, 3), (1, 3)].as_slice(),
-            None,
             "a head that is reached",
         ),
         (
             1,
             [(1, 2), (2, 3), (2, 1)].as_slice(),
-            None,
             "the start as a head",
         ),
-        (
-            1,
-            [(1, 2), (4, 3)].as_slice(),
-            None,
-            "a tail that isn't reached",
-        ),
+        (1, [(1, 2), (4, 3)].as_slice(), "a tail that isn't reached"),
         (
             1,
             [(4, 2), (1, 4), (4, 3)].as_slice(),
-            None,
             "a tail that is reached later",
         ),
-        (
-            1,
-            [(1, 2), (2, 5), (2, 3)].as_slice(),
-            None,
-            "no such vertex",
-        ),
-        (1, [(1, 2), (2, 2), (2, 3)].as_slice(), None, "no such link"),
+        (1, [(1, 2), (2, 5), (2, 3)].as_slice(), "no such vertex"),
+        (1, [(1, 2), (2, 2), (2, 3)].as_slice(), "no such link"),
         (
             1,
             [(1, 4), (4, 2)].as_slice(),
-            None,
             "a required vertex that isn't reached",
         ),
-        (0, [].as_slice(), None, "the start is 0"),
-        (5, [].as_slice(), None, "the start is past the last vertex"),
+        (0, [].as_slice(), "the start is 0"),
+        (5, [].as_slice(), "the start is past the last vertex"),
     ] {
-        assert_eq!(rt; cost_of(rt.alloc(), &instance, start, arcs)?, cost, "{why}");
+        assert_eq!(rt; cost_of(rt.alloc(), &instance, start, arcs)?, None, "{why}");
     }
     Ok(())
 }
 
 #[test]
 fn prizes_that_are_missed_are_paid(rt: HostRuntime) -> Result<(), Fail> {
-    let links = [
-        Link {
-            a: 1,
-            b: 2,
-            cost: 2,
-        },
-        Link {
-            a: 2,
-            b: 3,
-            cost: 4,
-        },
-    ];
+    let links = [link(1, 2, 2), link(2, 3, 4)];
     let needs = [
         (1, Need::Required),
         (2, Need::Pays(50)),

@@ -21,8 +21,10 @@ pub fn marks_of(alloc: Global, vertices: u32, start: u32) -> Result<Vec<bool>, A
 // Whether the arcs grow from the marked vertices. Where they do, their heads are marked too.
 pub fn grows(instance: &Instance, arcs: &[(u32, u32)], marks: &mut Vec<bool>) -> bool
     requires { vec_len marks.old ≡ instance.now.n + 1 }
-    ensures answer { (r : List ℕ) → AreMarks instance.now.n marks.old.items r → IsTrue result ↔ Grows instance.now r arcs.now }
-    ensures marked { (r : List ℕ) → AreMarks instance.now.n marks.old.items r → OnTrue result (AreMarks instance.now.n marks.new.items (reached_from r arcs.now)) }
+    ensures answer { (r : List ℕ) → AreMarks instance.now.n marks.old.items r
+        → IsTrue result ↔ Grows instance.now r arcs.now }
+    ensures marked { (r : List ℕ) → AreMarks instance.now.n marks.old.items r
+        → OnTrue result (AreMarks instance.now.n marks.new.items (reached_from r arcs.now)) }
 {
     for arc in arcs {
         if !mark_arc(instance, *arc, marks) {
@@ -36,8 +38,10 @@ pub fn grows(instance: &Instance, arcs: &[(u32, u32)], marks: &mut Vec<bool>) ->
 fn mark_arc(instance: &Instance, arc: (u32, u32), marks: &mut Vec<bool>) -> bool
     requires { vec_len marks.old ≡ instance.now.n + 1 }
     ensures long { vec_len marks.new ≡ instance.now.n + 1 }
-    ensures answer { (r : List ℕ) → AreMarks instance.now.n marks.old.items r → IsTrue result ↔ IsNewArc instance.now r arc }
-    ensures marked { (r : List ℕ) → AreMarks instance.now.n marks.old.items r → OnTrue result (AreMarks instance.now.n marks.new.items (arc.1 ∷ r)) }
+    ensures answer { (r : List ℕ) → AreMarks instance.now.n marks.old.items r
+        → IsTrue result ↔ IsNewArc instance.now r arc }
+    ensures marked { (r : List ℕ) → AreMarks instance.now.n marks.old.items r
+        → OnTrue result (AreMarks instance.now.n marks.new.items (arc.1 ∷ r)) }
 {
     let (tail, head) = arc;
     if instance.link_cost(tail, head).is_none() {

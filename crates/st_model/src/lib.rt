@@ -7,6 +7,8 @@
 #![tactic(auto)]
 
 mod branch;
+#[cfg(test)]
+mod branch_tests;
 mod build;
 mod cost;
 mod instance;
@@ -18,13 +20,18 @@ mod link;
 mod listed;
 mod need;
 mod regrowing;
+mod sides;
 mod thinning;
 mod tree;
 #[cfg(test)]
 mod tree_tests;
+mod vertex_lists;
+#[cfg(test)]
+mod vertex_lists_tests;
 mod vertex_set;
 #[cfg(test)]
 mod vertex_set_tests;
+mod walking;
 
 pub use branch::Branch;
 pub use cost::tree_cost;
@@ -34,6 +41,9 @@ pub use link::Link;
 pub use listed::Listed;
 pub use need::Need;
 pub use regrowing::{RegrowError, regrow, regrowing_keeps_trees};
+pub use sides::Sides;
 pub use thinning::thin;
 pub use tree::{Tree, is_tree};
+pub use vertex_lists::VertexLists;
 pub use vertex_set::VertexSet;
+pub use walking::walk;

@@ -1,4 +1,5 @@
 ghost use Rattle.std.specs.Prelude.{◌≡◌};
+ghost use Rattle.st_model.specs.Network.{prize};
 ghost use Rattle.st_model.specs.Stated.{both};
 
 /// What a vertex needs: to be reached, or its prize to be paid where it isn't.
@@ -9,6 +10,16 @@ pub enum Need {
 }
 
 impl Need {
+    /// What a vertex of this need pays where it isn't reached: 0 where it is required.
+    pub fn prize(self) -> u64
+        ensures { result ≡ prize self }
+    {
+        match self {
+            Need::Required => 0,
+            Need::Pays(prize) => prize,
+        }
+    }
+
     /// Both needs at once: Required wins, and else the greater prize.
     pub fn and(self, other: Need) -> Need
         ensures { result ≡ both self other }

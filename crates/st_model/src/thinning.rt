@@ -1,4 +1,5 @@
-ghost use Rattle.std.specs.Prelude.{◌≡◌, ℕ, List, ◌+◌, ◌<◌, ◌≤◌, [], ◌∷◌, ◌++◌, IfOk, OnOk, IsTrue, IsSome, All, map, take, length, vec_len, slice_index_or, slice_set};
+ghost use Rattle.std.specs.Prelude.{◌≡◌, ℕ, List, ◌+◌, ◌<◌, ◌≤◌, [], ◌∷◌, IfOk, OnOk, IsTrue, IsSome, All, take, length};
+ghost use Rattle.st_model.specs.Led.{heads_at};
 ghost use Rattle.st_model.specs.Network.{IsVertex, IsInstance, link};
 ghost use Rattle.st_model.specs.Lists.{has};
 ghost use Rattle.st_model.specs.Arborescence.{IsArborescence, Grows, reached};
@@ -6,7 +7,7 @@ ghost use Rattle.st_model.specs.Made.{has_pair, IsMadeOf, AreConnectedFrom};
 ghost use Rattle.st_model.specs.Growth.{neighbours, reaches, IsGrowth, AreSettled};
 
 use crate::judge::marks_of;
-use crate::{Instance, Listed, Tree};
+use crate::{Instance, Listed, Tree, VertexLists};
 use std::alloc::{AllocError, Global};
 
 /// A tree of given links that reaches all their ends: those links, taken breadth first from the
@@ -23,7 +24,8 @@ pub fn thin(
     ensures start { IfOk result (λ tree. tree.start ≡ start) }
     ensures arborescence { IfOk result (IsArborescence instance.now) }
     ensures made { IfOk result (IsMadeOf links.now) }
-    ensures reached { IfOk result (λ tree. All (λ pair. IsTrue (has (reached tree) pair.0) × IsTrue (has (reached tree) pair.1)) links.now) }
+    ensures reached { IfOk result (λ tree. All
+        (λ pair. IsTrue (has (reached tree) pair.0) × IsTrue (has (reached tree) pair.1)) links.now) }
 {
     let lists = neighbours_of(alloc, instance.vertices(), links)?;
     let arcs = all_arcs(alloc, instance, links, start, &lists)?;
@@ -39,23 +41,25 @@ fn all_arcs(
     instance: &Instance,
     links: &[(u32, u32)],
     start: u32,
-    lists: &[Vec<u32>],
+    lists: &VertexLists<u32>,
 ) -> Result<Vec<(u32, u32)>, AllocError>
     requires instance { IsInstance instance.now }
     requires start { IsVertex instance.now.n start }
     requires links { All (λ pair. IsSome (link instance.now.links pair.0 pair.1)) links.now }
     requires length { length lists.now ≡ instance.now.n + 1 }
-    requires neighbours { (v : ℕ) → v ≤ instance.now.n → slice_index_or (map (λ list. list.items) lists.now) v [] ≡ neighbours links.now v }
+    requires neighbours { (v : ℕ) → v ≤ instance.now.n → heads_at lists.now v ≡ neighbours links.now v }
     ensures grows { IfOk result (λ arcs. Grows instance.now (start ∷ []) arcs.items) }
     ensures made { IfOk result (λ arcs. All (λ arc. IsTrue (has_pair links.now arc.0 arc.1)) arcs.items) }
     ensures settled { IfOk result (λ arcs. AreSettled links.now start arcs.items (length arcs.items)) }
 {
     let mut growth = Growth::at(alloc, instance, start)?;
-    growth.reach(instance, links, start, start, &lists[start as usize])?;
+    let first = lists.at(start);
+    growth.reach(instance, links, start, start, first)?;
     let mut next = 0;
     while next < growth.arcs.len() {
         let (_, tail) = growth.arcs[next];
-        growth.reach(instance, links, start, tail, &lists[tail as usize])?;
+        let heads = lists.at(tail);
+        growth.reach(instance, links, start, tail, heads)?;
         next += 1;
     }
     Ok(growth.arcs)
@@ -110,42 +114,21 @@ impl Growth {
     }
 }
 
-// Puts a vertex at the end of another one's list.
-fn add_neighbour(lists: &mut Vec<Vec<u32>>, at: u32, other: u32) -> Result<(), AllocError>
-    requires { at < vec_len lists.old }
-    ensures length { vec_len lists.new ≡ vec_len lists.old }
-    ensures added { OnOk result (map (λ list. list.items) lists.new.items ≡ (let old = map (λ list. list.items) lists.old.items in slice_set old at (slice_index_or old at [] ++ other ∷ []))) }
-{
-    lists[at as usize].push(other)?;
-    Ok(())
-}
-
 // For each vertex from 0 to `last` the other ends of the pairs that end there.
 fn neighbours_of(
     alloc: Global,
     last: u32,
     pairs: &[(u32, u32)],
-) -> Result<Vec<Vec<u32>>, AllocError>
+) -> Result<VertexLists<u32>, AllocError>
     requires { All (λ pair. (pair.0 ≤ last) × (pair.1 ≤ last)) pairs.now }
-    ensures length { IfOk result (λ lists. vec_len lists ≡ last + 1) }
-    ensures neighbours { IfOk result (λ lists. (v : ℕ) → v ≤ last → slice_index_or (map (λ list. list.items) lists.items) v [] ≡ neighbours pairs.now v) }
+    ensures length { IfOk result (λ lists. length lists ≡ last + 1) }
+    ensures neighbours { IfOk result
+        (λ lists. (v : ℕ) → v ≤ last → heads_at lists v ≡ neighbours pairs.now v) }
 {
-    let mut lists = no_neighbours(alloc, last)?;
+    let mut lists = VertexLists::new(alloc, last as usize + 1)?;
     for &(a, b) in pairs {
-        add_neighbour(&mut lists, a, b)?;
-        add_neighbour(&mut lists, b, a)?;
-    }
-    Ok(lists)
-}
-
-// An empty list for each vertex from 0 to `last`.
-fn no_neighbours(alloc: Global, last: u32) -> Result<Vec<Vec<u32>>, AllocError>
-    ensures length { IfOk result (λ lists. vec_len lists ≡ last + 1) }
-    ensures empty { IfOk result (λ lists. (v : ℕ) → slice_index_or (map (λ list. list.items) lists.items) v [] ≡ []) }
-{
-    let mut lists = Vec::new(alloc);
-    for _ in 0..=last {
-        lists.push(Vec::new(alloc))?;
+        lists.add(a, b)?;
+        lists.add(b, a)?;
     }
     Ok(lists)
 }

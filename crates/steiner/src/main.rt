@@ -4,21 +4,30 @@
 #![tactic(auto)]
 
 use st_edge::{DiskShelf, StdSink};
+use std::alloc::AllocError;
 use std::env;
+use std::env::Env;
+use std::io::ErrorKind;
 use std::process::ExitCode;
 use steiner_top::{OpenGate, Status, run};
 
 fn main(rt: HostRuntime) -> ExitCode {
-    let status = match env::args(&rt) {
-        Ok(all) => match all.skip(1).collect::<Vec<String>>(rt.alloc()) {
-            Ok(words) => {
-                let mut shelf = DiskShelf::new(&rt);
-                let mut out = StdSink::new(&rt);
-                run(rt.alloc(), &words, &mut shelf, &mut out, &OpenGate).status
-            }
-            Err(_) => Status::NoMemory,
-        },
+    let status = match words_of(&rt) {
+        Ok(words) => {
+            let mut shelf = DiskShelf::new(&rt);
+            let mut out = StdSink::new(&rt);
+            run(rt.alloc(), &words, &mut shelf, &mut out, &OpenGate).status
+        }
         Err(_) => Status::NoMemory,
     };
     ExitCode::from(status.code())
+}
+
+/// The words after the program's name, or none where one of them isn't UTF-8: no command either way.
+fn words_of<R: Env + AllocGlobal>(rt: &R) -> Result<Vec<String>, AllocError> {
+    match env::args(rt) {
+        Ok(all) => all.skip(1).collect(rt.alloc()),
+        Err(error) if error.kind() == ErrorKind::OutOfMemory => Err(AllocError),
+        Err(_) => Ok(Vec::new(rt.alloc())),
+    }
 }

@@ -22,6 +22,7 @@ use Rattle.steiner_top.specs.declared.status.Status.TheVariants.{Optimal, Usage,
 use Rattle.steiner_top.specs.Outcome.{IsFound}
 use Rattle.steiner_top.specs.Answer.{IsSolution, SolveAnswer, CheckAnswer, IsLineOf}
 use Rattle.steiner_top.specs.Causes.{Texts, EndsWith, IsLoaded, IsSaved}
+use Rattle.steiner_top.specs.Checked.{ChecksExactly, ChecksBothWays}
 use Rattle.steiner_top.specs.Headline.{Headline, NothingFails, SolvesFile, ChecksLog}
 use Rattle.steiner_top.specs.Output.{status_of_verdict}
 
@@ -166,30 +167,54 @@ long_log stp log taken now long = record {
   ];
 }
 
+-- a file and a log that are told are answered, or one of them is too long
+log_ends : (w : CheckWords) (stp log : List ℕ) (old : Texts) (status : Status) (outcome : Option Outcome) (sent : List ℕ)
+    → old w.file ≡ Some stp → old w.log_name ≡ Some log → (status ≡ ReadFault → ⊥) → (status ≡ NoMemory → ⊥) → EndsWith (Some (check w)) old status outcome sent
+    → ((length stp ≤ 2 ^ 34) × (length log ≤ 2 ^ 34) × CheckAnswer stp log status sent) ⊎ ((status ≡ TooLong) × ((2 ^ 34 < length stp) ⊎ (2 ^ 34 < length log)))
+log_ends w stp log old status outcome sent told told' read memory (inl h) =
+    let same = told_loaded (old w.file) h.0 stp told h.2 in
+    let same' = told_loaded (old w.log_name) h.1 log told' h.3 in
+    inl (same.1, same'.1, subst (λ l. CheckAnswer stp l status sent) same'.0 (subst (λ b. CheckAnswer b h.1 status sent) same.0 h.4))
+log_ends w stp log old TooLong outcome sent told told' read memory (inr h) = elim h.0 [
+  | inl long ↦ inr (refl, inl (subst (λ o. IfSome o (λ text. 2 ^ 34 < length text)) told long))
+  | inr rest ↦ elim rest [
+    | inl long ↦ inr (refl, inr (subst (λ o. IfSome o (λ text. 2 ^ 34 < length text)) told' long))
+    | inr none ↦ absurd none
+  ]
+]
+log_ends w stp log old ReadFault outcome sent told told' read memory (inr h) = absurd (read refl)
+log_ends w stp log old NoMemory outcome sent told told' read memory (inr h) = absurd (memory refl)
+log_ends w stp log old Optimal outcome sent told told' read memory (inr h) = absurd h.0
+log_ends w stp log old Usage outcome sent told told' read memory (inr h) = absurd h.0
+log_ends w stp log old Budget outcome sent told told' read memory (inr h) = absurd h.0
+log_ends w stp log old Infeasible outcome sent told told' read memory (inr h) = absurd h.0
+log_ends w stp log old RefusedFile outcome sent told told' read memory (inr h) = absurd h.0
+log_ends w stp log old RefusedLog outcome sent told told' read memory (inr h) = absurd h.0
+log_ends w stp log old WriteFault outcome sent told told' read memory (inr h) = absurd h.0
+
 -- how a run ends decides how a log is answered, where nothing fails
 pub checks_log : (w : CheckWords) (stp log : List ℕ) (old : Texts) (status : Status) (outcome : Option Outcome) (taken now : Option (List ℕ)) (sent : List ℕ)
     → old w.file ≡ Some stp → old w.log_name ≡ Some log → (status ≡ ReadFault → ⊥) → (status ≡ NoMemory → ⊥)
     → EndsWith (Some (check w)) old status outcome sent → now ≡ append_known taken sent → ChecksLog stp log status taken now
-checks_log w stp log old status outcome taken now sent told told' read memory (inl h) took =
-    let same = told_loaded (old w.file) h.0 stp told h.2 in
-    let same' = told_loaded (old w.log_name) h.1 log told' h.3 in
-    answered_log stp log status taken now sent same.1 same'.1 (subst (λ l. CheckAnswer stp l status sent) same'.0 (subst (λ b. CheckAnswer b h.1 status sent) same.0 h.4)) took
-checks_log w stp log old TooLong outcome taken now sent told told' read memory (inr h) took = elim h.0 [
-  | inl long ↦ long_log stp log taken now (inl (subst (λ o. IfSome o (λ text. 2 ^ 34 < length text)) told long))
-  | inr rest ↦ elim rest [
-    | inl long ↦ long_log stp log taken now (inr (subst (λ o. IfSome o (λ text. 2 ^ 34 < length text)) told' long))
-    | inr none ↦ absurd none
+checks_log w stp log old status outcome taken now sent told told' read memory ends took = elim (log_ends w stp log old status outcome sent told told' read memory ends) [
+  | inl h ↦ answered_log stp log status taken now sent h.0 h.1 h.2 took
+  | inr h ↦ subst (λ s. ChecksLog stp log s taken now) (sym h.0) (long_log stp log taken now h.1)
+]
+
+-- and gives the one answer that is right, where both are short enough
+pub checks_exactly : (w : CheckWords) (stp log : List ℕ) (old : Texts) (status : Status) (outcome : Option Outcome) (taken now : Option (List ℕ)) (sent : List ℕ)
+    → old w.file ≡ Some stp → old w.log_name ≡ Some log → (status ≡ ReadFault → ⊥) → (status ≡ NoMemory → ⊥) → length stp ≤ 2 ^ 34 → length log ≤ 2 ^ 34
+    → EndsWith (Some (check w)) old status outcome sent → now ≡ append_known taken sent → ChecksExactly stp log status taken now
+checks_exactly w stp log old status outcome taken now sent told told' read memory short short' ends took = elim (log_ends w stp log old status outcome sent told told' read memory ends) [
+  | inl h ↦ record {
+    some = (h.2.answer, h.2.exact, (sent, h.2.line, took));
+    each = λ answer is other. (sent, subst (λ a. IsLineOf a status sent) (h.2.only answer is other) h.2.line, took);
+  }
+  | inr h ↦ elim h.1 [
+    | inl long ↦ absurd (omega (arith, long, short))
+    | inr long ↦ absurd (omega (arith, long, short'))
   ]
 ]
-checks_log w stp log old ReadFault outcome taken now sent told told' read memory (inr h) took = absurd (read refl)
-checks_log w stp log old NoMemory outcome taken now sent told told' read memory (inr h) took = absurd (memory refl)
-checks_log w stp log old Optimal outcome taken now sent told told' read memory (inr h) took = absurd h.0
-checks_log w stp log old Usage outcome taken now sent told told' read memory (inr h) took = absurd h.0
-checks_log w stp log old Budget outcome taken now sent told told' read memory (inr h) took = absurd h.0
-checks_log w stp log old Infeasible outcome taken now sent told told' read memory (inr h) took = absurd h.0
-checks_log w stp log old RefusedFile outcome taken now sent told told' read memory (inr h) took = absurd h.0
-checks_log w stp log old RefusedLog outcome taken now sent told told' read memory (inr h) took = absurd h.0
-checks_log w stp log old WriteFault outcome taken now sent told told' read memory (inr h) took = absurd h.0
 
 -- words that are a command don't end with the usage line
 no_usage : (command : Command) (texts : Texts) (outcome : Option Outcome) (sent : List ℕ) → EndsWith (Some command) texts Usage outcome sent → ⊥
@@ -229,3 +254,13 @@ decides command old new reads reads_now saves saves_now writes writes_now status
 
   ended : NothingFails reads reads_now saves saves_now writes writes_now status → (bytes : List ℕ) × EndsWith command old status outcome bytes × (now ≡ append_known taken bytes)
   ended fine = sent (no_write fine)
+
+-- so too with the one answer of a check
+pub decides_checks : (command : Option Command) (old : Texts) (reads reads_now saves saves_now writes writes_now : ℕ) (status : Status) (outcome : Option Outcome) (taken now : Option (List ℕ))
+    → (status ≢ WriteFault → (sent : List ℕ) × EndsWith command old status outcome sent × (now ≡ append_known taken sent))
+    → (status ≡ ReadFault → Rose reads reads_now)
+    → (status ≡ WriteFault → Rose saves saves_now ⊎ Rose writes writes_now)
+    → NothingFails reads reads_now saves saves_now writes writes_now status → ChecksBothWays command old status taken now
+decides_checks command old reads reads_now saves saves_now writes writes_now status outcome taken now sent read write fine w stp log is told told' short short' =
+    let e = sent (λ failed. elim (write failed) [ inl rose ↦ fine.saved rose | inr rose ↦ fine.sent rose ]) in
+    checks_exactly w stp log old status outcome taken now e.0 told told' (λ r. fine.loaded (read r)) fine.memory short short' (subst (λ c. EndsWith c old status outcome e.0) is e.1) e.2

@@ -1,3 +1,4 @@
+mod Asking
 mod Reasons
 mod Certifying
 mod Deciding

@@ -1,5 +1,5 @@
 -- How answers follow from what was found, and stops from loads that failed.
-use Rattle.std.proofs.Common.{◌≡◌, ◌≢◌, ◌⊎◌, inl, inr, ℕ, List, [], ◌∷◌, Result, Ok, Err, Option, None, refl, subst, ap, ap₂, ◌∙◌}
+use Rattle.std.proofs.Common.{◌≡◌, ◌≢◌, ◌⊎◌, inl, inr, ℕ, List, [], ◌∷◌, Result, Ok, Err, Option, Some, None, refl, subst, ap, ap₂, ◌∙◌}
 use Rattle.std.specs.Prelude.{IfOk}
 use Rattle.st_edge.specs.Shelf.{SameTexts}
 use Rattle.st_model.specs.Network.{Network}
@@ -8,8 +8,9 @@ use Rattle.stp_reader.specs.Reads.{Reads, Refused}
 use Rattle.stp_reader.specs.Laws.{RefusedExactly}
 use Rattle.log_format.specs.declared.kind.Kind.{Kind}
 use Rattle.cert_checker.specs.declared.fault.CheckFault.{CheckFault}
-use Rattle.cert_checker.specs.declared.fault.CheckFault.TheVariants as check
+use Rattle.cert_checker.specs.declared.fault.CheckFault.TheVariants as check_fault
 use Rattle.cert_checker.specs.declared.verdict.Verdict.{Verdict}
+use Rattle.cert_checker.specs.declared.verdict.Verdict.TheVariants as verdict
 use Rattle.cert_checker.specs.Checking.{Answers, IsAnswer, IsAcceptedText, IsWrongText}
 use Rattle.cert_checker.specs.Verdict.{Concludes}
 use Rattle.steiner_top.specs.Answer.{CheckAnswer, IsLineOf}
@@ -20,7 +21,7 @@ use Rattle.steiner_top.specs.declared.status.Status.{Status}
 use Rattle.steiner_top.specs.declared.status.Status.TheVariants.{Optimal, Usage, Budget, Infeasible, RefusedFile, RefusedLog, ReadFault, WriteFault, NoMemory as Exhausted, TooLong}
 use Rattle.steiner_top.specs.Outcome.{Solves}
 use Rattle.st_edge.specs.Sink.{TakesFront}
-use Rattle.command_line.specs.Words.{Command}
+use Rattle.command_line.specs.Words.{Command, solve, check}
 use Rattle.steiner_top.specs.Output.{line_of}
 use Rattle.steiner_top.specs.Causes.{Texts, IsAnswered, IsCutShort, IsStopped, IsUnanswered}
 
@@ -66,8 +67,8 @@ pub check_answered : (stp log : List ℕ) (found : Result Verdict CheckFault) (s
     → ((I : Network) → Reads stp I → IfOk found (Concludes I))
     → IsAnswer stp log found
     → ((I : Network) (verdict : Verdict) → Reads stp I → IsAcceptedText I log verdict → Answers found (Ok verdict))
-    → ((line : ℕ) (reason : Reason) → Refused stp line reason → Answers found (Err (check.Stp (record { line = line; reason = reason }))))
-    → ((I : Network) (line : ℕ) (kind : Kind) → Reads stp I → IsWrongText I log line kind → Answers found (Err (check.Log (record { line = line; kind = kind }))))
+    → ((line : ℕ) (reason : Reason) → Refused stp line reason → Answers found (Err (check_fault.Stp (record { line = line; reason = reason }))))
+    → ((I : Network) (line : ℕ) (kind : Kind) → Reads stp I → IsWrongText I log line kind → Answers found (Err (check_fault.Log (record { line = line; kind = kind }))))
     → IsLineOf found status sent → CheckAnswer stp log status sent
 check_answered stp log found status sent concludes exact accepted file text line = record {
   answer = found;
@@ -82,11 +83,11 @@ check_answered stp log found status sent concludes exact accepted file text line
     | inr memory ↦ absurd (subst (λ f. IsLineOf f status sent) memory line)
   ]
 
-  only : (other : Result Verdict CheckFault) → IsAnswer stp log other → other ≢ Err check.NoMemory → found ≡ other
+  only : (other : Result Verdict CheckFault) → IsAnswer stp log other → other ≢ Err check_fault.NoMemory → found ≡ other
   only (Ok v) h other = settled (Ok v) (accepted h.0 v h.1 h.2)
-  only (Err (check.Stp f)) h other = settled (Err (check.Stp f)) (file f.line f.reason h)
-  only (Err (check.Log f)) h other = settled (Err (check.Log f)) (text h.0 f.line f.kind h.1 h.2)
-  only (Err check.NoMemory) h other = absurd (other refl)
+  only (Err (check_fault.Stp f)) h other = settled (Err (check_fault.Stp f)) (file f.line f.reason h)
+  only (Err (check_fault.Log f)) h other = settled (Err (check_fault.Log f)) (text h.0 f.line f.kind h.1 h.2)
+  only (Err check_fault.NoMemory) h other = absurd (other refl)
 
 -- whether a write failed
 write_or_not : (status : Status) → (status ≡ WriteFault) ⊎ (status ≢ WriteFault)
@@ -100,6 +101,27 @@ write_or_not RefusedLog = inr (λ e. absurd cc)
 write_or_not ReadFault = inr (λ e. absurd cc)
 write_or_not Exhausted = inr (λ e. absurd cc)
 write_or_not TooLong = inr (λ e. absurd cc)
+
+-- no answer ends a run with a write fault
+no_write : (command : Option Command) (texts : Texts) (outcome : Option Outcome) (sent : List ℕ) → IsAnswered command texts WriteFault outcome sent → ⊥
+no_write None texts outcome sent h = h
+no_write (Some (solve w)) texts outcome sent h = h.2
+no_write (Some (check w)) texts outcome sent h = by_answer h.4.answer h.4.line
+  where
+    by_answer : (answer : Result Verdict CheckFault) → IsLineOf answer WriteFault sent → ⊥
+    by_answer (Ok (verdict.Optimal primal)) line = let bad : WriteFault ≡ Optimal = line.0 in absurd cc
+    by_answer (Ok (verdict.Bound dual primal)) line = let bad : WriteFault ≡ Budget = line.0 in absurd cc
+    by_answer (Ok verdict.NoTree) line = let bad : WriteFault ≡ Infeasible = line.0 in absurd cc
+    by_answer (Err (check_fault.Stp f)) line = let bad : WriteFault ≡ RefusedFile = line.0 in absurd cc
+    by_answer (Err (check_fault.Log f)) line = let bad : WriteFault ≡ RefusedLog = line.0 in absurd cc
+    by_answer (Err check_fault.NoMemory) line = line
+
+-- where an answer is cut short, its outcome isn't given out
+pub lost_outcome : (command : Option Command) (texts : Texts) (status : Status) (outcome given : Option Outcome) (sent : List ℕ) → IsAnswered command texts status outcome sent → (status ≢ WriteFault → given ≡ None) → given ≡ None
+lost_outcome command texts status outcome given sent answered lost = elim (write_or_not status) [
+  | inl failed ↦ absurd (no_write command texts outcome sent (subst (λ s. IsAnswered command texts s outcome sent) failed answered))
+  | inr other ↦ lost other
+]
 
 -- a run without an answer that ends with a write fault: its line was cut short, or its log wasn't saved and nothing was sent
 pub stop_cut_short : (command : Option Command) (texts : Texts) (taken now : Option (List ℕ)) (status : Status) (bytes : List ℕ)

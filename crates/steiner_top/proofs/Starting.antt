@@ -8,18 +8,18 @@ use Rattle.st_model.specs.declared.tree.Tree.{Tree}
 use Rattle.st_model.specs.Lists.{sum_to}
 use Rattle.st_model.specs.Network.{Network, IsInstance, IsVertex, pays}
 use Rattle.st_model.specs.Arborescence.{IsTree, cost}
-use Rattle.st_model.specs.Branch.{Belongs, IsVertexSet}
+use Rattle.st_model.specs.Branch.{Belongs, IsVertexSet, all_trees, NoneIsCertain}
 use Rattle.st_model.specs.Laws.{LoneStartsMissTheRest}
 use Rattle.st_model.specs.Wall.{IsWall}
 use Rattle.st_model.proofs.Members.{length-has}
 use Rattle.st_model.proofs.Reaching.{tree-vertex}
 use Rattle.log_format.proofs.AllTrees.{belongs_to_all}
-use Rattle.log_format.specs.Accepts.{all_trees}
 use Rattle.log_format.specs.Text.{IsWritableSet}
-use Rattle.graph_store.specs.Graph.{Graph, is_in}
+use Rattle.graph_store.specs.Graph.{Graph}
+use Rattle.graph_store.specs.Whole.{IsWholeOf}
 use Rattle.split_search.specs.Searched.{IsNobodyRequired}
 use Rattle.split_search.proofs.Writing.{any_vertex}
-use Rattle.tree_heuristic.specs.Reaching.{ReachesPresent, NoneIsCertain}
+use Rattle.tree_heuristic.specs.Reaching.{ReachesPresent}
 
 -- a wall can be written
 pub writable_wall : (I : Network) (wall : List ℕ) → IsInstance I → IsVertexSet I.n wall → IsWall I wall → IsWritableSet wall
@@ -28,24 +28,15 @@ writable_wall I wall is set h = record {
   vertices = record { ascending = set.ascending; in_range = λ i d lt. any_vertex I _ is (set.in_range i d lt) };
 }
 
--- the graph of an instance, all of whose vertices are present
-abbrev whole : Network → Graph
-whole I = record { network = I; present = replicate I.n true }
-
-present_in_range : (I : Network) (v : ℕ) → IsVertex I.n v → IsTrue (is_in (whole I) v)
-present_in_range I v h =
-    let some : eqb v 0 ≡ false = grind (arith, nat_tests, h.0) in
-    rw (some, get_or-replicate I.n (v - 1) true false (omega (arith, h.0, h.1))) refl
-
 -- each tree of the instance reaches present vertices alone
-pub reaches_present : (I : Network) (t : Tree) → IsInstance I → IsTree I t → ReachesPresent (whole I) t
-reaches_present I t is h v r = present_in_range I v (tree-vertex I t v is h.arborescence r)
+pub reaches_present : (I : Network) (g : Graph) (t : Tree) → IsWholeOf I g → IsInstance I → IsTree I t → ReachesPresent g t
+reaches_present I g t of is h v r = of.whole v (subst (λ (N : Network). IsVertex N.n v) (sym of.network) (tree-vertex I t v is h.arborescence r))
 
 -- a tree no dearer than the first vertex alone costs at most all prizes
-pub cheap_start : (I : Network) (t : Tree) → IsInstance I → LoneStartsMissTheRest
-    → (NoneIsCertain I all_trees → (s : Tree) → s.arcs ≡ [] → Belongs all_trees s → ReachesPresent (whole I) s → cost I t ≤ cost I s)
+pub cheap_start : (I : Network) (g : Graph) (t : Tree) → IsWholeOf I g → IsInstance I → LoneStartsMissTheRest
+    → (NoneIsCertain I all_trees → (s : Tree) → s.arcs ≡ [] → Belongs all_trees s → ReachesPresent g s → cost I t ≤ cost I s)
     → IsNobodyRequired I → cost I t ≤ sum_to (pays I) I.n
-cheap_start I t is law least nobody = omega (arith, least none first refl (belongs_to_all first) alone, law I first vertex refl)
+cheap_start I g t of is law least nobody = omega (arith, least none first refl (belongs_to_all first) alone, law I first vertex refl)
   where
     vertex : IsVertex I.n 1
     vertex = (omega arith, is.some_vertex)
@@ -53,8 +44,8 @@ cheap_start I t is law least nobody = omega (arith, least none first refl (belon
     first : Tree
     first = record { start = 1; arcs = [] }
 
-    alone : ReachesPresent (whole I) first
-    alone v h = present_in_range I v (tree-vertex I first v is (record { start = vertex; grows = tt }) h)
+    alone : ReachesPresent g first
+    alone v h = of.whole v (subst (λ (N : Network). IsVertex N.n v) (sym of.network) (tree-vertex I first v is (record { start = vertex; grows = tt }) h))
 
     none : NoneIsCertain I all_trees
     none v h = rw (nobody v h) refl
@@ -64,22 +55,26 @@ all_of : (B : Branch) → B.inside ≡ [] → B.outside ≡ [] → B ≡ all_tre
 all_of B inside outside = ap₂ (λ i o. record { inside = i; outside = o }) inside outside
 
 -- an instance that has a tree has a first tree
-pub some_first : (I : Network) (g : Graph) (B : Branch) (found : Option Tree) (t : Tree) → IsInstance I → g ≡ whole I → B.inside ≡ [] → B.outside ≡ [] → IsTree I t
+pub some_first : (I : Network) (g : Graph) (B : Branch) (found : Option Tree) (t : Tree) → IsInstance I → IsWholeOf I g → B.inside ≡ [] → B.outside ≡ [] → IsTree I t
     → IfNone found ((t : Tree) → IsTree g.network t → Belongs B t → ReachesPresent g t → ⊥) → found ≡ None → ⊥
-some_first I g B found t is same inside outside tree none missing =
+some_first I g B found t is of inside outside tree none missing =
     let nothing : (t : Tree) → IsTree g.network t → Belongs B t → ReachesPresent g t → ⊥ = subst (λ o. IfNone o ((t : Tree) → IsTree g.network t → Belongs B t → ReachesPresent g t → ⊥)) missing none in
-    nothing t (subst (λ h. IsTree h.network t) (sym same) tree) (subst (λ C. Belongs C t) (sym (all_of B inside outside)) (belongs_to_all t)) (subst (λ h. ReachesPresent h t) (sym same) (reaches_present I t is tree))
+    nothing t (subst (λ (N : Network). IsTree N t) (sym of.network) tree) (subst (λ C. Belongs C t) (sym (all_of B inside outside)) (belongs_to_all t)) (reaches_present I g t of is tree)
+
+-- that a tree costs no more than each vertex alone, in a network
+abbrev IsLow : Graph → Tree → Network → Branch → Type 0
+IsLow g t N C = NoneIsCertain N C → (s : Tree) → s.arcs ≡ [] → Belongs C s → ReachesPresent g s → cost N t ≤ cost N s
 
 -- and that is one to start from
-pub first_start : (I : Network) (g : Graph) (B : Branch) (found : Option Tree) (t : Tree) → IsInstance I → LoneStartsMissTheRest → g ≡ whole I → B.inside ≡ [] → B.outside ≡ []
+pub first_start : (I : Network) (g : Graph) (B : Branch) (found : Option Tree) (t : Tree) → IsInstance I → LoneStartsMissTheRest → IsWholeOf I g → B.inside ≡ [] → B.outside ≡ []
     → IfSome found (IsTree g.network)
     → IfSome found (λ t. NoneIsCertain g.network B → (s : Tree) → s.arcs ≡ [] → Belongs B s → ReachesPresent g s → cost g.network t ≤ cost g.network s)
     → found ≡ Some t → IsTree I t × (IsNobodyRequired I → cost I t ≤ sum_to (pays I) I.n)
-first_start I g B found t is law same inside outside tree lone here =
+first_start I g B found t is law of inside outside tree lone here =
     let tree' : IsTree g.network t = subst (λ o. IfSome o (IsTree g.network)) here tree in
-    let lone' : NoneIsCertain g.network B → (s : Tree) → s.arcs ≡ [] → Belongs B s → ReachesPresent g s → cost g.network t ≤ cost g.network s = subst (λ o. IfSome o (λ t. NoneIsCertain g.network B → (s : Tree) → s.arcs ≡ [] → Belongs B s → ReachesPresent g s → cost g.network t ≤ cost g.network s)) here lone in
-    let lone'' : NoneIsCertain I all_trees → (s : Tree) → s.arcs ≡ [] → Belongs all_trees s → ReachesPresent (whole I) s → cost I t ≤ cost I s = subst (λ (C : Branch). NoneIsCertain I C → (s : Tree) → s.arcs ≡ [] → Belongs C s → ReachesPresent (whole I) s → cost I t ≤ cost I s) (all_of B inside outside) (subst (λ (h : Graph). NoneIsCertain h.network B → (s : Tree) → s.arcs ≡ [] → Belongs B s → ReachesPresent h s → cost h.network t ≤ cost h.network s) same lone') in
-    (subst (λ (h : Graph). IsTree h.network t) same tree', cheap_start I t is law lone'')
+    let lone' : IsLow g t g.network B = subst (λ o. IfSome o (λ t. IsLow g t g.network B)) here lone in
+    let low : IsLow g t I all_trees = subst (IsLow g t I) (all_of B inside outside) (subst (λ (N : Network). IsLow g t N B) of.network lone') in
+    (subst (λ (N : Network). IsTree N t) of.network tree', cheap_start I g t of is law low)
 
 -- and so is one that costs no more
 pub pruned_start : (I : Network) (t new : Tree) → IsTree I new → cost I new ≤ cost I t → IsTree I t × (IsNobodyRequired I → cost I t ≤ sum_to (pays I) I.n) → IsTree I new × (IsNobodyRequired I → cost I new ≤ sum_to (pays I) I.n)

@@ -70,6 +70,11 @@ abbrev pub names_of : Command → List (List ℕ)
 names_of (solve w) = w.file ∷ []
 names_of (check w) = w.file ∷ w.log_name ∷ []
 
+-- the names of the texts that are loaded, in this order
+abbrev pub loads_of : Option Command → List (List ℕ)
+loads_of None = []
+loads_of (Some command) = names_of command
+
 -- what the words ask for has no answer, or they ask for nothing
 abbrev pub IsUnanswered : Option Command → Texts → Status → Type 0
 IsUnanswered None texts status = (status ≡ Usage) ⊎ (status ≡ NoMemory)

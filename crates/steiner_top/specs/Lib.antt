@@ -3,4 +3,5 @@ pub mod Outcome
 pub mod Answer
 pub mod Start
 pub mod Causes
+pub mod Checked
 pub mod Headline

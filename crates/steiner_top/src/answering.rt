@@ -1,8 +1,8 @@
 ghost use Rattle.std.specs.Prelude.{◌≡◌, ◌≢◌, ℕ, List, Option, IfOk, IfErr, IsErrOf, None, map, string_bytes};
 ghost use Rattle.st_edge.specs.Faults.{HasCause};
-ghost use Rattle.st_edge.specs.Shelf.{SameTexts};
+ghost use Rattle.st_edge.specs.Shelf.{AsksForFront, SameTexts};
 ghost use Rattle.command_line.specs.Words.{command_of};
-ghost use Rattle.steiner_top.specs.Causes.{IsAnswered, IsUnanswered, IsSaved, SameBut, log_name_of};
+ghost use Rattle.steiner_top.specs.Causes.{IsAnswered, IsUnanswered, IsSaved, SameBut, loads_of, log_name_of};
 ghost use Rattle.steiner_top.specs.declared.outcome.Outcome.{Outcome as Given};
 ghost use Rattle.steiner_top.specs.declared.status.Status.{Status as Ending};
 ghost use Rattle.steiner_top.specs.declared.status.Status.TheVariants.{WriteFault};
@@ -24,15 +24,25 @@ pub fn answer<F: Shelf, G: Gate>(
     shelf: &mut F,
     gate: &G,
 ) -> Result<Answer, Status>
-    ensures answered { IfOk result (λ a. IsAnswered (command_of (map string_bytes words.now)) (F.text shelf.old) a.status a.outcome a.text.items) }
-    ensures unanswered { IfErr result (λ status. status ≢ WriteFault → IsUnanswered (command_of (map string_bytes words.now)) (F.text shelf.old) status) }
-    ensures unsaved { IsErrOf result Status.WriteFault → (status : Ending) × (outcome : Option Given) × (sent : List ℕ) × IsAnswered (command_of (map string_bytes words.now)) (F.text shelf.old) status outcome sent }
+    ensures answered { IfOk result (λ a.
+        IsAnswered (command_of (map string_bytes words.now)) (F.text shelf.old) a.status a.outcome a.text.items) }
+    ensures unanswered { IfErr result (λ status. status ≢ WriteFault
+        → IsUnanswered (command_of (map string_bytes words.now)) (F.text shelf.old) status) }
+    ensures unsaved { IsErrOf result Status.WriteFault
+        → (status : Ending) × (outcome : Option Given) × (sent : List ℕ)
+        × IsAnswered (command_of (map string_bytes words.now)) (F.text shelf.old) status outcome sent }
+    ensures asked { AsksForFront (F.asked shelf.old) (F.asked shelf.new)
+        (loads_of (command_of (map string_bytes words.now))) }
     ensures saved { IfOk result (λ a. IsSaved (command_of (map string_bytes words.now)) (F.text shelf.new) a.outcome) }
-    ensures others { SameBut (log_name_of (command_of (map string_bytes words.now))) (F.text shelf.old) (F.text shelf.new) }
+    ensures others { SameBut (log_name_of (command_of (map string_bytes words.now)))
+        (F.text shelf.old) (F.text shelf.new) }
     ensures none { IfOk result (λ a. a.outcome ≡ None → SameTexts (F.text shelf.old) (F.text shelf.new)) }
-    ensures kept { IfErr result (λ status. status ≢ WriteFault → SameTexts (F.text shelf.old) (F.text shelf.new)) }
-    ensures read_cause { HasCause (F.read_faults shelf.old) (F.read_faults shelf.new) (IsErrOf result Status.ReadFault) }
-    ensures write_cause { HasCause (F.write_faults shelf.old) (F.write_faults shelf.new) (IsErrOf result Status.WriteFault) }
+    ensures kept { IfErr result (λ status. status ≢ WriteFault
+        → SameTexts (F.text shelf.old) (F.text shelf.new)) }
+    ensures read_cause { HasCause (F.read_faults shelf.old) (F.read_faults shelf.new)
+        (IsErrOf result Status.ReadFault) }
+    ensures write_cause { HasCause (F.write_faults shelf.old) (F.write_faults shelf.new)
+        (IsErrOf result Status.WriteFault) }
 {
     match read_words(alloc, words) {
         Ok(Cmd::Solve(words)) => solve_command(alloc, &words, shelf, gate),

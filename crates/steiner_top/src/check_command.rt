@@ -1,6 +1,6 @@
 ghost use Rattle.std.specs.Prelude.{◌≡◌, [], ◌∷◌, IfOk, IfErr, IsErrOf, None, string_bytes};
 ghost use Rattle.st_edge.specs.Faults.{HasCause};
-ghost use Rattle.st_edge.specs.Shelf.{SameTexts};
+ghost use Rattle.st_edge.specs.Shelf.{AsksForFront, SameTexts};
 ghost use Rattle.command_line.specs.Seen.{check_words};
 ghost use Rattle.steiner_top.specs.Answer.{CheckAnswer, IsLineOf};
 ghost use Rattle.steiner_top.specs.Causes.{IsCheckAnswered, IsStopped};
@@ -15,7 +15,7 @@ use st_edge::Shelf;
 use std::alloc::{AllocError, Global};
 
 // An answer of one line.
-fn told(status: Status, line: String) -> Answer
+fn line_answer(status: Status, line: String) -> Answer
     ensures status { result.status ≡ status }
     ensures outcome { result.outcome ≡ None }
     ensures text { result.text.items ≡ string_bytes line }
@@ -33,9 +33,15 @@ fn answer_to(alloc: Global, found: Result<Verdict, CheckFault>) -> Result<Answer
     ensures outcome { IfOk result (λ a. a.outcome ≡ None) }
 {
     match found {
-        Ok(concluded) => Ok(told(Status::of(concluded), verdict(alloc, concluded)?)),
-        Err(CheckFault::Stp(fault)) => Ok(told(Status::RefusedFile, refused_stp(alloc, fault)?)),
-        Err(CheckFault::Log(fault)) => Ok(told(Status::RefusedLog, refused_log(alloc, fault)?)),
+        Ok(concluded) => Ok(line_answer(Status::of(concluded), verdict(alloc, concluded)?)),
+        Err(CheckFault::Stp(fault)) => Ok(line_answer(
+            Status::RefusedFile,
+            refused_stp(alloc, fault)?,
+        )),
+        Err(CheckFault::Log(fault)) => Ok(line_answer(
+            Status::RefusedLog,
+            refused_log(alloc, fault)?,
+        )),
         Err(CheckFault::NoMemory) => Err(AllocError),
     }
 }
@@ -55,10 +61,15 @@ pub fn check_command<F: Shelf>(
     words: &CheckWords<'_>,
     shelf: &mut F,
 ) -> Result<Answer, Status>
-    ensures answered { IfOk result (λ a. IsCheckAnswered (check_words words.now) (F.text shelf.old) a.status a.outcome a.text.items) }
-    ensures stopped { IfErr result (IsStopped (words.now.file.now ∷ words.now.log_name.now ∷ []) (F.text shelf.old)) }
+    ensures answered { IfOk result (λ a.
+        IsCheckAnswered (check_words words.now) (F.text shelf.old) a.status a.outcome a.text.items) }
+    ensures stopped { IfErr result
+        (IsStopped (words.now.file.now ∷ words.now.log_name.now ∷ []) (F.text shelf.old)) }
+    ensures asked { AsksForFront (F.asked shelf.old) (F.asked shelf.new)
+        (words.now.file.now ∷ words.now.log_name.now ∷ []) }
     ensures texts { SameTexts (F.text shelf.old) (F.text shelf.new) }
-    ensures read_cause { HasCause (F.read_faults shelf.old) (F.read_faults shelf.new) (IsErrOf result Status.ReadFault) }
+    ensures read_cause { HasCause (F.read_faults shelf.old) (F.read_faults shelf.new)
+        (IsErrOf result Status.ReadFault) }
     ensures write_faults { F.write_faults shelf.new ≡ F.write_faults shelf.old }
 {
     let stp = match load(alloc, words.file, shelf) {

@@ -1,10 +1,12 @@
 ghost use Rattle.std.specs.Prelude.{◌≡◌, ◌≢◌, ◌≤◌, ◌⊎◌, ℕ, List, [], None, map, string_bytes};
 ghost use Rattle.std.specs.Io.KnownBytes.{append_known};
 ghost use Rattle.st_edge.specs.Faults.{HasCause, Rose};
+ghost use Rattle.st_edge.specs.Shelf.{AsksForFront};
 ghost use Rattle.st_edge.specs.Sink.{TakesFront};
 ghost use Rattle.command_line.specs.Words.{command_of};
-ghost use Rattle.steiner_top.specs.Headline.{Headline};
-ghost use Rattle.steiner_top.specs.Causes.{EndsWith, IsCutShort, IsSaved, KeepsTexts, log_name_of};
+ghost use Rattle.steiner_top.specs.Headline.{Headline, NothingFails};
+ghost use Rattle.steiner_top.specs.Checked.{ChecksBothWays};
+ghost use Rattle.steiner_top.specs.Causes.{EndsWith, IsCutShort, IsSaved, KeepsTexts, loads_of};
 ghost use Rattle.steiner_top.specs.declared.status.Status.TheVariants.{ReadFault, WriteFault};
 
 use crate::answering::answer;
@@ -37,45 +39,33 @@ pub fn run<F: Shelf, K: Sink, G: Gate>(
     ensures headline { Headline (command_of (map string_bytes words.now)) (F.text shelf.old) (F.text shelf.new)
         (F.read_faults shelf.old) (F.read_faults shelf.new) (F.write_faults shelf.old) (F.write_faults shelf.new)
         (K.faults out.old) (K.faults out.new) result.status result.outcome (K.taken out.old) (K.taken out.new) }
+    ensures checks { NothingFails (F.read_faults shelf.old) (F.read_faults shelf.new)
+        (F.write_faults shelf.old) (F.write_faults shelf.new) (K.faults out.old) (K.faults out.new) result.status
+        → ChecksBothWays (command_of (map string_bytes words.now)) (F.text shelf.old) result.status
+        (K.taken out.old) (K.taken out.new) }
     // Why each status came, and what was sent.
     ensures sent { result.status ≢ WriteFault → (sent : List ℕ)
         × EndsWith (command_of (map string_bytes words.now)) (F.text shelf.old) result.status result.outcome sent
         × (K.taken out.new ≡ append_known (K.taken out.old) sent) }
     ensures cut_short { result.status ≡ WriteFault
         → IsCutShort (command_of (map string_bytes words.now)) (F.text shelf.old) (K.taken out.old) (K.taken out.new) }
+    ensures no_outcome { result.status ≡ WriteFault → result.outcome ≡ None }
+    // The file is loaded, and then the log that is to be checked, and no other text.
+    ensures asked { AsksForFront (F.asked shelf.old) (F.asked shelf.new)
+        (loads_of (command_of (map string_bytes words.now))) }
     // A log that was asked for stands where an outcome was sent, and nothing is sent where it doesn't.
     ensures saved { IsSaved (command_of (map string_bytes words.now)) (F.text shelf.new) result.outcome }
-    ensures unsaved { result.status ≡ WriteFault → (Rose (K.faults out.old) (K.faults out.new) → ⊥) → K.taken out.new ≡ K.taken out.old }
-    ensures texts { KeepsTexts (command_of (map string_bytes words.now)) result.status result.outcome (F.text shelf.old) (F.text shelf.new) }
+    ensures unsaved { result.status ≡ WriteFault → (Rose (K.faults out.old) (K.faults out.new) → ⊥)
+        → K.taken out.new ≡ K.taken out.old }
+    ensures texts { KeepsTexts (command_of (map string_bytes words.now)) result.status result.outcome
+        (F.text shelf.old) (F.text shelf.new) }
     // Each fault was counted.
     ensures read_cause { HasCause (F.read_faults shelf.old) (F.read_faults shelf.new) (result.status ≡ ReadFault) }
-    ensures write_cause { result.status ≡ WriteFault → Rose (F.write_faults shelf.old) (F.write_faults shelf.new) ⊎ Rose (K.faults out.old) (K.faults out.new) }
+    ensures write_cause { result.status ≡ WriteFault
+        → Rose (F.write_faults shelf.old) (F.write_faults shelf.new) ⊎ Rose (K.faults out.old) (K.faults out.new) }
     ensures counts { (F.write_faults shelf.old ≤ F.write_faults shelf.new) × (K.faults out.old ≤ K.faults out.new) }
 {
     stp_reader::refused_exactly();
-    serve(alloc, words, shelf, out, gate)
-}
-
-// Does what the words say, and hands out the answer.
-fn serve<F: Shelf, K: Sink, G: Gate>(
-    alloc: Global,
-    words: &[String],
-    shelf: &mut F,
-    out: &mut K,
-    gate: &G,
-) -> Ended
-    ensures sent { result.status ≢ WriteFault → (sent : List ℕ)
-        × EndsWith (command_of (map string_bytes words.now)) (F.text shelf.old) result.status result.outcome sent
-        × (K.taken out.new ≡ append_known (K.taken out.old) sent) }
-    ensures cut_short { result.status ≡ WriteFault
-        → IsCutShort (command_of (map string_bytes words.now)) (F.text shelf.old) (K.taken out.old) (K.taken out.new) }
-    ensures saved { IsSaved (command_of (map string_bytes words.now)) (F.text shelf.new) result.outcome }
-    ensures unsaved { result.status ≡ WriteFault → (Rose (K.faults out.old) (K.faults out.new) → ⊥) → K.taken out.new ≡ K.taken out.old }
-    ensures texts { KeepsTexts (command_of (map string_bytes words.now)) result.status result.outcome (F.text shelf.old) (F.text shelf.new) }
-    ensures read_cause { HasCause (F.read_faults shelf.old) (F.read_faults shelf.new) (result.status ≡ ReadFault) }
-    ensures write_cause { result.status ≡ WriteFault → Rose (F.write_faults shelf.old) (F.write_faults shelf.new) ⊎ Rose (K.faults out.old) (K.faults out.new) }
-    ensures counts { (F.write_faults shelf.old ≤ F.write_faults shelf.new) × (K.faults out.old ≤ K.faults out.new) }
-{
     match answer(alloc, words, shelf, gate) {
         Ok(answer) => send(out, answer.status, answer.outcome, &answer.text),
         Err(status) => send(out, status, None, status.line().as_bytes()),
@@ -85,10 +75,14 @@ fn serve<F: Shelf, K: Sink, G: Gate>(
 // Sends the last bytes of a run that ends so, if they are taken.
 fn send<K: Sink>(out: &mut K, status: Status, outcome: Option<Outcome>, bytes: &[u8]) -> Ended
     ensures sent { result.status ≢ WriteFault
-        → (result.status ≡ status) × (result.outcome ≡ outcome) × (K.taken out.new ≡ append_known (K.taken out.old) bytes.now) }
+        → (result.status ≡ status) × (result.outcome ≡ outcome)
+        × (K.taken out.new ≡ append_known (K.taken out.old) bytes.now) }
     ensures outcome { (result.outcome ≡ outcome) ⊎ (result.outcome ≡ None) }
-    ensures cut_short { result.status ≡ WriteFault → status ≢ WriteFault → TakesFront (K.taken out.old) (K.taken out.new) bytes.now }
-    ensures cause { HasCause (K.faults out.old) (K.faults out.new) ((result.status ≡ WriteFault) × (status ≢ WriteFault)) }
+    ensures lost { result.status ≡ WriteFault → status ≢ WriteFault → result.outcome ≡ None }
+    ensures cut_short { result.status ≡ WriteFault → status ≢ WriteFault
+        → TakesFront (K.taken out.old) (K.taken out.new) bytes.now }
+    ensures cause { HasCause (K.faults out.old) (K.faults out.new)
+        ((result.status ≡ WriteFault) × (status ≢ WriteFault)) }
     ensures nothing { bytes.now ≡ [] → K.taken out.new ≡ K.taken out.old }
 {
     match send_all(out, bytes) {

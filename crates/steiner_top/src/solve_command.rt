@@ -1,6 +1,6 @@
 ghost use Rattle.std.specs.Prelude.{◌≡◌, ◌≢◌, ◌⊎◌, ℕ, List, [], ◌∷◌, Option, IfOk, IfErr, IfSome, OnOk, IsErrOf, None, Some};
 ghost use Rattle.st_edge.specs.Faults.{HasCause};
-ghost use Rattle.st_edge.specs.Shelf.{SameTexts};
+ghost use Rattle.st_edge.specs.Shelf.{AsksForFront, SameTexts};
 ghost use Rattle.log_format.specs.Text.{IsLog};
 ghost use Rattle.command_line.specs.Seen.{solve_words};
 ghost use Rattle.command_line.specs.Words.{solve};
@@ -61,7 +61,8 @@ fn answer_bytes<G: Gate>(
     bytes: &[u8],
     gate: &G,
 ) -> Result<Answer, AllocError>
-    ensures { IfOk result (λ a. SolveAnswer (solve_words words.now) bytes.now a.status a.outcome a.text.items) }
+    ensures { IfOk result (λ a.
+        SolveAnswer (solve_words words.now) bytes.now a.status a.outcome a.text.items) }
 {
     match solve_bytes(alloc, bytes, words.nodes, gate) {
         Ok(outcome) => {
@@ -94,11 +95,14 @@ fn save<F: Shelf>(
 ) -> Result<(), Status>
     requires { IfSome outcome.now (λ o. IsLog (certificate_of o)) }
     ensures saved { OnOk result (IsSaved (Some (solve (solve_words words.now))) (F.text shelf.new) outcome.now) }
-    ensures others { SameBut (log_name_of (Some (solve (solve_words words.now)))) (F.text shelf.old) (F.text shelf.new) }
+    ensures others { SameBut (log_name_of (Some (solve (solve_words words.now))))
+        (F.text shelf.old) (F.text shelf.new) }
+    ensures asked { F.asked shelf.new ≡ F.asked shelf.old }
     ensures none { outcome.now ≡ None → SameTexts (F.text shelf.old) (F.text shelf.new) }
     ensures fault { IfErr result (λ status. (status ≡ WriteFault) ⊎ (status ≡ NoMemory)) }
     ensures no_memory { IsErrOf result Status.NoMemory → SameTexts (F.text shelf.old) (F.text shelf.new) }
-    ensures cause { HasCause (F.write_faults shelf.old) (F.write_faults shelf.new) (IsErrOf result Status.WriteFault) }
+    ensures cause { HasCause (F.write_faults shelf.old) (F.write_faults shelf.new)
+        (IsErrOf result Status.WriteFault) }
     ensures read_faults { F.read_faults shelf.new ≡ F.read_faults shelf.old }
 {
     let (Some(name), Some(outcome)) = (words.log_name, outcome) else {
@@ -117,15 +121,23 @@ pub fn solve_command<F: Shelf, G: Gate>(
     shelf: &mut F,
     gate: &G,
 ) -> Result<Answer, Status>
-    ensures answered { IfOk result (λ a. IsSolveAnswered (solve_words words.now) (F.text shelf.old) a.status a.outcome a.text.items) }
-    ensures stopped { IfErr result (λ status. status ≢ WriteFault → IsStopped (words.now.file.now ∷ []) (F.text shelf.old) status) }
-    ensures unsaved { IsErrOf result Status.WriteFault → (status : Ending) × (outcome : Option Given) × (sent : List ℕ) × IsSolveAnswered (solve_words words.now) (F.text shelf.old) status outcome sent }
+    ensures answered { IfOk result (λ a.
+        IsSolveAnswered (solve_words words.now) (F.text shelf.old) a.status a.outcome a.text.items) }
+    ensures stopped { IfErr result (λ status. status ≢ WriteFault
+        → IsStopped (words.now.file.now ∷ []) (F.text shelf.old) status) }
+    ensures unsaved { IsErrOf result Status.WriteFault → (status : Ending) × (outcome : Option Given)
+        × (sent : List ℕ) × IsSolveAnswered (solve_words words.now) (F.text shelf.old) status outcome sent }
+    ensures asked { AsksForFront (F.asked shelf.old) (F.asked shelf.new) (words.now.file.now ∷ []) }
     ensures saved { IfOk result (λ a. IsSaved (Some (solve (solve_words words.now))) (F.text shelf.new) a.outcome) }
-    ensures others { SameBut (log_name_of (Some (solve (solve_words words.now)))) (F.text shelf.old) (F.text shelf.new) }
+    ensures others { SameBut (log_name_of (Some (solve (solve_words words.now))))
+        (F.text shelf.old) (F.text shelf.new) }
     ensures none { IfOk result (λ a. a.outcome ≡ None → SameTexts (F.text shelf.old) (F.text shelf.new)) }
-    ensures kept { IfErr result (λ status. status ≢ WriteFault → SameTexts (F.text shelf.old) (F.text shelf.new)) }
-    ensures read_cause { HasCause (F.read_faults shelf.old) (F.read_faults shelf.new) (IsErrOf result Status.ReadFault) }
-    ensures write_cause { HasCause (F.write_faults shelf.old) (F.write_faults shelf.new) (IsErrOf result Status.WriteFault) }
+    ensures kept { IfErr result (λ status. status ≢ WriteFault
+        → SameTexts (F.text shelf.old) (F.text shelf.new)) }
+    ensures read_cause { HasCause (F.read_faults shelf.old) (F.read_faults shelf.new)
+        (IsErrOf result Status.ReadFault) }
+    ensures write_cause { HasCause (F.write_faults shelf.old) (F.write_faults shelf.new)
+        (IsErrOf result Status.WriteFault) }
 {
     let bytes = match load(alloc, words.file, shelf) {
         Ok(bytes) => bytes,

@@ -10,6 +10,7 @@ ghost use Rattle.steiner_top.specs.Outcome.{IsOutcome, Solves};
 
 use crate::outcome::{Outcome, SolveFault};
 use crate::start::{Start, begin};
+use graph_store::Whole;
 use log_format::{Claim, Log};
 use split_search::{Gate, Searched, search};
 use st_model::{Instance, Listed, Tree};
@@ -18,7 +19,7 @@ use stp_reader::read_stp;
 
 /// Solves an STP file, all of the bytes, expanding so many nodes at most: a tree and a bound with
 /// a certificate, the bound being the tree's cost unless the budget was spent; or a certificate
-/// that there is no tree. The gate is told of seat 0 alone.
+/// that there is no tree. The gate learns of seat 0 alone.
 pub fn solve_bytes<G: Gate>(
     alloc: Global,
     stp: &[u8],
@@ -40,25 +41,26 @@ fn solve<G: Gate>(alloc: Global, stp: &[u8], nodes: u64, gate: &G) -> Result<Out
     ensures { Solves nodes stp.now result }
 {
     let instance = read_stp(alloc, stp)?;
-    let outcome = outcome_of(alloc, &instance, nodes, gate)?;
+    let whole = Whole::of(alloc, instance)?;
+    let outcome = outcome_of(alloc, &whole, nodes, gate)?;
     Ok(outcome)
 }
 
 // Searches for a least tree, or says why there is none.
 fn outcome_of<G: Gate>(
     alloc: Global,
-    instance: &Instance,
+    whole: &Whole,
     nodes: u64,
     gate: &G,
 ) -> Result<Outcome, AllocError>
-    ensures { IfOk result (IsOutcome nodes instance.now) }
+    ensures { IfOk result (IsOutcome nodes whole.now.instance) }
 {
-    match begin(alloc, instance)? {
+    match begin(alloc, whole)? {
         Start::Tree(tree) => {
-            let searched = search(alloc, instance, tree, nodes, gate)?;
-            found(alloc, instance, nodes, searched)
+            let searched = search(alloc, whole, tree, nodes, gate)?;
+            found(alloc, &whole.instance, nodes, searched)
         }
-        Start::Wall(wall) => Ok(without_tree(instance, wall)),
+        Start::Wall(wall) => Ok(without_tree(&whole.instance, wall)),
     }
 }
 

@@ -7,8 +7,10 @@ use std::test::Fail;
 mod checks;
 mod drawn;
 mod faults;
+mod gates;
 mod lines;
 mod solves;
+mod worked;
 
 const USAGE: &str =
     "usage: steiner solve FILE [--workers W] [--nodes N] [--log NAME] [--plain] | check FILE LOG | gen SEED N M T [--prizes] | trial SEED N M T [--workers W]\n";

@@ -1,4 +1,4 @@
--- What a line says at its place, by the least of its reasons and the place behind it.
+-- What a line says at its place, by the least of its reasons and the place after it.
 use Rattle.std.proofs.Common.{◌≡◌, ℕ, Bool, true, false, cond, not, List, [], ◌∷◌, ◌++◌, length, Option, Some, None, Ok, Err, refl, ap}
 use Rattle.std.specs.Prelude.{◌==◌}
 use Rattle.std.specs.List.{list_any}
@@ -12,15 +12,16 @@ use Rattle.stp_reader.specs.Reason.{least, when}
 use Rattle.stp_reader.specs.Lines.{is_remark}
 use Rattle.stp_reader.specs.Words.{is_magic, section_of}
 use Rattle.stp_reader.specs.Forms.{Form, section_line, nameless_line, eof_line, end_line, nodes_line, edges_line, edge_line, arcs_line, count_line, terminal_line, prize_line, root_line, form}
-use Rattle.stp_reader.specs.Amounts.{value, amount_value, count_reasons, nodes_reasons, vertex_reasons, amount_reasons}
-use Rattle.stp_reader.specs.Place.{Graph, Stated, nothing, graph, whole, Place, at_header, outside, passed_over, at_nodes, at_edges, at_links, at_count, at_needs, behind_end, link_said, behind_opening, behind_eof, behind_outside, behind_no_header, behind_passed, behind_nodes, behind_edges, behind_link, behind_count, behind_need, behind_said, behind}
+use Rattle.plain_text.specs.Numbers.{value}
+use Rattle.stp_reader.specs.Amounts.{amount_value, count_reasons, nodes_reasons, vertex_reasons, amount_reasons}
+use Rattle.stp_reader.specs.Place.{Graph, Stated, nothing, graph, whole, Place, at_header, outside, passed_over, at_nodes, at_edges, at_links, at_count, at_needs, after_end, link_said, after_opening, after_eof, after_outside, after_no_header, after_passed, after_nodes, after_edges, after_link, after_count, after_need, after_said, after}
 use Rattle.stp_reader.specs.Reasons.{opening_reasons, missing, outside_reasons, no_header_reasons, at_nodes_reasons, at_edges_reasons, at_links_reasons, root_reasons, at_count_reasons, is_stray, at_needs_reasons, said_reasons, reasons}
 use Rattle.stp_reader.specs.Judged.{◌>>=◌}
 use Rattle.stp_reader.specs.Judging.{file_of, judge_opening, judge_outside, judge_no_header, judge_passed, judge_nodes, judge_edges, judge_link, root_of, judge_count, judge_need, judge_line, judge}
 use Rattle.stp_reader.proofs.Least.{answer, then_answer}
 use Rattle.stp_reader.proofs.WordReasons.{count_answer, nodes_answer, vertex_answer, link_answer, prize_answer}
 
-opening_answer : (s : Stated) (k : SectionName) → judge_opening s k ≡ answer (least (opening_reasons s k)) (behind_opening s k)
+opening_answer : (s : Stated) (k : SectionName) → judge_opening s k ≡ answer (least (opening_reasons s k)) (after_opening s k)
 opening_answer nothing name.Passed = refl
 opening_answer nothing name.Unknown = refl
 opening_answer nothing name.Graph = refl
@@ -34,26 +35,26 @@ opening_answer (whole f) name.Unknown = refl
 opening_answer (whole f) name.Graph = refl
 opening_answer (whole f) name.Terminals = refl
 
-eof_answer : (s : Stated) → (file_of s >>= λ f. Ok (behind_end f)) ≡ answer (least (missing s)) (behind_eof s)
+eof_answer : (s : Stated) → (file_of s >>= λ f. Ok (after_end f)) ≡ answer (least (missing s)) (after_eof s)
 eof_answer nothing = refl
 eof_answer (graph g) = refl
 eof_answer (whole f) = refl
 
-outside_answer : (s : Stated) (f : Form) → judge_outside s f ≡ answer (least (outside_reasons s f)) (behind_outside s f)
+outside_answer : (s : Stated) (f : Form) → judge_outside s f ≡ answer (least (outside_reasons s f)) (after_outside s f)
 outside_answer s (section_line word) = opening_answer s (section_of word)
 outside_answer s eof_line = eof_answer s
 outside_answer s f = refl
 
-no_header_answer : (f : Form) → judge_no_header f ≡ answer (least (no_header_reasons f)) (behind_no_header f)
+no_header_answer : (f : Form) → judge_no_header f ≡ answer (least (no_header_reasons f)) (after_no_header f)
 no_header_answer (section_line word) = opening_answer nothing (section_of word)
 no_header_answer nameless_line = refl
 no_header_answer f = refl
 
-passed_answer : (s : Stated) (f : Form) → judge_passed s f ≡ behind_passed s f
+passed_answer : (s : Stated) (f : Form) → judge_passed s f ≡ after_passed s f
 passed_answer s end_line = refl
 passed_answer s f = refl
 
-nodes_line_answer : (f : Form) → judge_nodes f ≡ answer (least (at_nodes_reasons f)) (behind_nodes f)
+nodes_line_answer : (f : Form) → judge_nodes f ≡ answer (least (at_nodes_reasons f)) (after_nodes f)
 nodes_line_answer (nodes_line word) = rw (nodes_answer word) (then_answer (least (nodes_reasons word)) (value word) at_edges)
 nodes_line_answer (section_line word) = refl
 nodes_line_answer nameless_line = refl
@@ -61,7 +62,7 @@ nodes_line_answer eof_line = refl
 nodes_line_answer arcs_line = refl
 nodes_line_answer f = refl
 
-edges_line_answer : (n : ℕ) (f : Form) → judge_edges n f ≡ answer (least (at_edges_reasons f)) (behind_edges n f)
+edges_line_answer : (n : ℕ) (f : Form) → judge_edges n f ≡ answer (least (at_edges_reasons f)) (after_edges n f)
 edges_line_answer n (edges_line word) = rw (count_answer 4000000 word) (then_answer (least (count_reasons 4000000 word)) (value word) (λ m. at_links n m []))
 edges_line_answer n (section_line word) = refl
 edges_line_answer n nameless_line = refl
@@ -69,7 +70,7 @@ edges_line_answer n eof_line = refl
 edges_line_answer n arcs_line = refl
 edges_line_answer n f = refl
 
-link_line_answer : (n m : ℕ) (links : List Link) (f : Form) → judge_link n m links f ≡ answer (least (at_links_reasons n m links f)) (behind_link n m links f)
+link_line_answer : (n m : ℕ) (links : List Link) (f : Form) → judge_link n m links f ≡ answer (least (at_links_reasons n m links f)) (after_link n m links f)
 link_line_answer n m links (edge_line u v c) = rw (link_answer n u v c) (then_answer (least (vertex_reasons n u ++ vertex_reasons n v ++ amount_reasons c)) (link_said u v c) (λ l. at_links n m (links ++ l ∷ [])))
 link_line_answer n m links end_line = by_case (outside (graph (record { n = n; links = links }))) (length links == m)
   where
@@ -86,7 +87,7 @@ root_answer : (n : ℕ) (root : Option ℕ) (word : List ℕ) (f : ℕ → Place
 root_answer n None word f = rw (vertex_answer n word) (then_answer (least (vertex_reasons n word)) (value word) f)
 root_answer n (Some r) word f = refl
 
-count_line_answer : (g : Graph) (root : Option ℕ) (f : Form) → judge_count g root f ≡ answer (least (at_count_reasons g root f)) (behind_count g root f)
+count_line_answer : (g : Graph) (root : Option ℕ) (f : Form) → judge_count g root f ≡ answer (least (at_count_reasons g root f)) (after_count g root f)
 count_line_answer g root (count_line word) = rw (count_answer 2000000 word) (then_answer (least (count_reasons 2000000 word)) (value word) (λ t. at_needs g t [] root))
 count_line_answer g root (root_line word) = root_answer g.n root word (λ r. at_count g (Some r))
 count_line_answer g root (section_line word) = refl
@@ -94,7 +95,7 @@ count_line_answer g root nameless_line = refl
 count_line_answer g root eof_line = refl
 count_line_answer g root f = refl
 
-need_line_answer : (g : Graph) (t : ℕ) (needs : List (ℕ × Need)) (root : Option ℕ) (f : Form) → judge_need g t needs root f ≡ answer (least (at_needs_reasons g t needs root f)) (behind_need g t needs root f)
+need_line_answer : (g : Graph) (t : ℕ) (needs : List (ℕ × Need)) (root : Option ℕ) (f : Form) → judge_need g t needs root f ≡ answer (least (at_needs_reasons g t needs root f)) (after_need g t needs root f)
 need_line_answer g t needs root (terminal_line word) = rw (vertex_answer g.n word) (then_answer (least (vertex_reasons g.n word)) (value word) (λ v. at_needs g t (needs ++ (v, Required) ∷ []) root))
 need_line_answer g t needs root (prize_line v p) = rw (prize_answer g.n needs v p) (then_answer (least (at_needs_reasons g t needs root (prize_line v p))) (value v, Pays (amount_value p)) (λ e. at_needs g t (needs ++ e ∷ []) root))
 need_line_answer g t needs root (root_line word) = root_answer g.n root word (λ r. at_needs g t needs (Some r))
@@ -114,11 +115,11 @@ need_line_answer g t needs root nameless_line = refl
 need_line_answer g t needs root eof_line = refl
 need_line_answer g t needs root f = refl
 
-header_answer : (b : Bool) (f : Form) → cond b (Ok (outside nothing)) (judge_no_header f) ≡ answer (least (cond b [] (no_header_reasons f))) (cond b (outside nothing) (behind_no_header f))
+header_answer : (b : Bool) (f : Form) → cond b (Ok (outside nothing)) (judge_no_header f) ≡ answer (least (cond b [] (no_header_reasons f))) (cond b (outside nothing) (after_no_header f))
 header_answer true f = refl
 header_answer false f = no_header_answer f
 
-said_answer : (place : Place) (line : List (List ℕ)) → judge_line place line ≡ answer (least (said_reasons place line)) (behind_said place line)
+said_answer : (place : Place) (line : List (List ℕ)) → judge_line place line ≡ answer (least (said_reasons place line)) (after_said place line)
 unfolding judge_line
 said_answer at_header line = header_answer (list_any is_magic line) (form line)
 said_answer (outside stated) line = outside_answer stated (form line)
@@ -128,14 +129,14 @@ said_answer (at_edges n) line = edges_line_answer n (form line)
 said_answer (at_links n m links) line = link_line_answer n m links (form line)
 said_answer (at_count g root) line = count_line_answer g root (form line)
 said_answer (at_needs g t needs root) line = need_line_answer g t needs root (form line)
-said_answer (behind_end f) line = refl
+said_answer (after_end f) line = refl
 
 -- a line is judged by the least of its reasons
-pub judge_answer : (place : Place) (line : List (List ℕ)) → judge place line ≡ answer (least (reasons place line)) (behind place line)
+pub judge_answer : (place : Place) (line : List (List ℕ)) → judge place line ≡ answer (least (reasons place line)) (after place line)
 unfolding judge
 judge_answer place [] = refl
 judge_answer place (word ∷ args) = by_case (is_remark word)
   where
-    by_case : (b : Bool) → cond b (Ok place) (judge_line place (word ∷ args)) ≡ answer (least (cond b [] (said_reasons place (word ∷ args)))) (cond b place (behind_said place (word ∷ args)))
+    by_case : (b : Bool) → cond b (Ok place) (judge_line place (word ∷ args)) ≡ answer (least (cond b [] (said_reasons place (word ∷ args)))) (cond b place (after_said place (word ∷ args)))
     by_case true = refl
     by_case false = said_answer place (word ∷ args)

@@ -27,7 +27,7 @@ words-start (b ∷ bytes) = rw (position-cons (λ x. not (is_blank x)) b bytes) 
 abbrev pub sides : List ℕ → Option ℕ → List ℕ × List ℕ
 sides bytes o = let i = unwrap_or o (length bytes) in (take i bytes, drop i bytes)
 
--- a word, and the words behind it
+-- a word, and the words after it
 abbrev pub word_and : List ℕ × List ℕ → List (List ℕ)
 word_and x = x.0 ∷ words x.1
 
@@ -68,7 +68,7 @@ word_begins (b ∷ bytes) i e = by_case (is_blank b) refl (position (λ x. not (
         let next : suc j ≡ i = cc in
         rw (← next) (again j refl)
 
--- the first word, and what stands behind it
+-- the first word, and what stands after it
 pub first_word : (line rest front back : List ℕ) (i mid : ℕ) → position (λ x. not (is_blank x)) line ≡ Some i → rest ≡ drop i line → mid ≡ unwrap_or (position (λ x. is_blank x) rest) (length rest) → front ≡ take mid rest → back ≡ drop mid rest → words line ≡ front ∷ words back
 first_word line rest front back i mid start rest_is mid_is front_is back_is =
     let begun : words line ≡ words (drop i line) = words-start line ∙ ap (from_start line) start in

@@ -8,16 +8,16 @@ use Rattle.stp_reader.specs.Place.{File, Place}
 use Rattle.stp_reader.specs.Judging.{judge, at_end, at_line, stated_from}
 use Rattle.stp_reader.specs.Reached.{Fails, error_at, IsFaultOf}
 
--- the lines behind the first
-lines_behind : (rest piece others : List ℕ) → pieces rest ≡ piece ∷ pieces others → word_lines rest ≡ words (without_cr piece) ∷ word_lines others
-lines_behind rest piece others e = ap (map (λ (p : List ℕ). words (without_cr p))) e
+-- the lines after the first
+lines_after : (rest piece others : List ℕ) → pieces rest ≡ piece ∷ pieces others → word_lines rest ≡ words (without_cr piece) ∷ word_lines others
+lines_after rest piece others e = ap (map (λ (p : List ℕ). words (without_cr p))) e
 
 -- one more line was taken
-pub goes_on : (number : ℕ) (place behind : Place) (rest piece others : List ℕ) (all : Result File (ℕ × Reason)) → pieces rest ≡ piece ∷ pieces others → judge place (words (without_cr piece)) ≡ Ok behind
-    → stated_from number place (word_lines rest) ≡ all → stated_from (number + 1) behind (word_lines others) ≡ all
-goes_on number place behind rest piece others all e judged so_far =
-    let lines = lines_behind rest piece others e in
-    let one : stated_from number place (word_lines rest) ≡ stated_from (suc number) behind (word_lines others) = rw (lines, judged) refl in
+pub goes_on : (number : ℕ) (place after : Place) (rest piece others : List ℕ) (all : Result File (ℕ × Reason)) → pieces rest ≡ piece ∷ pieces others → judge place (words (without_cr piece)) ≡ Ok after
+    → stated_from number place (word_lines rest) ≡ all → stated_from (number + 1) after (word_lines others) ≡ all
+goes_on number place after rest piece others all e judged so_far =
+    let lines = lines_after rest piece others e in
+    let one : stated_from number place (word_lines rest) ≡ stated_from (suc number) after (word_lines others) = rw (lines, judged) refl in
     rw add-one (sym one ∙ so_far)
 
 -- a line was refused, or memory ran out
@@ -25,7 +25,7 @@ pub is_refused : (number : ℕ) (place : Place) (rest piece others : List ℕ) (
     → stated_from number place (word_lines rest) ≡ all → IsFaultOf all (error_at number e)
 is_refused number place rest piece others NoMemory all e failed so_far = tt
 is_refused number place rest piece others (Refused r) all e failed so_far =
-    let lines = lines_behind rest piece others e in
+    let lines = lines_after rest piece others e in
     let one : stated_from number place (word_lines rest) ≡ Err (number, r) = rw (lines, failed) refl in
     sym so_far ∙ one
 

@@ -1,6 +1,5 @@
 pub mod Pieces
 pub mod Blanks
-pub mod Values
 pub mod Going
 pub mod Totals
 pub mod Least

@@ -1,7 +1,7 @@
 -- What the first cut of a text tells of its lines.
 use Rattle.std.proofs.Common.{◌≡◌, ℕ, Bool, true, false, cond, List, [], ◌∷◌, length, take, get_or, suc, zero, Option, Some, None, option_map, refl, arith}
 use Rattle.std.specs.Prelude.{◌==◌}
-use Rattle.byte_pieces.specs.Pieces.{cut}
+use Rattle.plain_text.specs.Pieces.{cut}
 use Rattle.stp_reader.specs.Lines.{with_byte, pieces, without_cr}
 
 -- the pieces as the first cut of bytes tells them

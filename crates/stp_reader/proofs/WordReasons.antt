@@ -8,7 +8,8 @@ use Rattle.st_model.specs.declared.need.Need.TheVariants.{Pays}
 use Rattle.stp_reader.specs.declared.reason.Reason.{Reason}
 use Rattle.stp_reader.specs.declared.reason.Reason.TheVariants.{BadNumber, Fraction, OutOfRange, VertexRange, NoVertices, RepeatedPrize}
 use Rattle.stp_reader.specs.Reason.{code_of, lesser_of, least, when}
-use Rattle.stp_reader.specs.Amounts.{is_number, value, parts, is_amount, amount_value, count_reasons, nodes_reasons, vertex_reasons, amount_reasons}
+use Rattle.plain_text.specs.Numbers.{is_number, value}
+use Rattle.stp_reader.specs.Amounts.{parts, is_amount, amount_value, count_reasons, nodes_reasons, vertex_reasons, amount_reasons}
 use Rattle.stp_reader.specs.Judged.{◌>>=◌, both, count, nodes, vertex, amount}
 use Rattle.stp_reader.specs.Judging.{link_of, prize_of}
 use Rattle.stp_reader.specs.Place.{link_said}
@@ -105,7 +106,7 @@ amount_low word = by_case (is_amount word) (list_all (λ c. c == 48) (parts word
 abbrev prize_from : ℕ × ℕ → ℕ × Need
 prize_from e = (e.0, Pays e.1)
 
--- behind what a vertex and an amount say
+-- after what a vertex and an amount say
 second_prize : (o : Option Reason) (e : ℕ × ℕ) (test : ℕ → Bool) (h : Bool) → IsLow o → test e.0 ≡ h → (answer o e >>= λ d. cond (test d.0) (Err RepeatedPrize) (Ok (prize_from d))) ≡ answer (lesser_of o (least (when (test e.0) RepeatedPrize))) (prize_from e)
 second_prize None e test true low is = rw is refl
 second_prize None e test false low is = rw is refl

@@ -1,24 +1,12 @@
 -- What a word says as a count, a vertex or an amount, and the reasons why it says none.
-use Rattle.std.specs.Prelude.{ℕ, ◌+◌, ◌-◌, ◌*◌, ◌&&◌, ◌==◌, not, Bool, if◌then◌else◌, List, [], ◌∷◌, ◌++◌, length, unwrap_or, nat_le}
+use Rattle.std.specs.Prelude.{ℕ, ◌&&◌, ◌==◌, not, Bool, if◌then◌else◌, List, [], ◌∷◌, ◌++◌, unwrap_or, nat_le}
 use Rattle.std.specs.List.{list_all}
 use Rattle.std.specs.Char.{is_ascii_digit}
-use Rattle.byte_pieces.specs.Pieces.{cut}
+use Rattle.plain_text.specs.Numbers.{is_number, value}
+use Rattle.plain_text.specs.Pieces.{cut}
 use Rattle.stp_reader.specs.declared.reason.Reason.{Reason}
 use Rattle.stp_reader.specs.declared.reason.Reason.TheVariants.{BadNumber, Fraction, OutOfRange, VertexRange, NoVertices}
 use Rattle.stp_reader.specs.Reason.{when}
-
--- one or more decimal digits
-abbrev pub is_number : List ℕ → Bool
-is_number word = not (length word == 0) && list_all is_ascii_digit word
-
--- the number that has the digits of n and then these
-abbrev pub value_after : ℕ → List ℕ → ℕ
-value_after n [] = n
-value_after n (c ∷ cs) = value_after (10 * n + (c - 48)) cs
-
--- the number that has these digits, however many there are
-abbrev pub value : List ℕ → ℕ
-value word = value_after 0 word
 
 -- why a word is no count up to a limit
 abbrev pub count_reasons : ℕ → List ℕ → List Reason
@@ -32,11 +20,11 @@ nodes_reasons word = count_reasons 1000000 word ++ when (is_number word && (valu
 abbrev pub vertex_reasons : ℕ → List ℕ → List Reason
 vertex_reasons n word = if is_number word then when (not (nat_le 1 (value word) && nat_le (value word) n)) VertexRange else BadNumber ∷ []
 
--- the whole part of an amount, and what stands behind its point
+-- the whole part of an amount, and what stands after its point
 abbrev pub parts : List ℕ → List ℕ × List ℕ
 parts word = unwrap_or (cut 46 word) (word, [])
 
--- digits, and then, if there is a point, any number of digits behind it
+-- digits, and then, if there is a point, any number of digits after it
 abbrev pub is_amount : List ℕ → Bool
 is_amount word = is_number (parts word).0 && list_all is_ascii_digit (parts word).1
 

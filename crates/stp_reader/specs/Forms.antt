@@ -25,7 +25,7 @@ pub data Form : Type 0 where
   -- any other line, also one of these keywords with another number of words
   other_line : Form
 
--- the words behind a keyword, where there are exactly so many
+-- the words after a keyword, where there are exactly so many
 abbrev pub none : List (List ℕ) → Bool
 none [] = true
 none _ = false
@@ -42,7 +42,7 @@ abbrev pub three : List (List ℕ) → Option (List ℕ × List ℕ × List ℕ)
 three (u ∷ v ∷ w ∷ []) = Some (u, v, w)
 three _ = None
 
--- the form of a line by what its first word announces, and the words behind it
+-- the form of a line by what its first word announces, and the words after it
 unfoldable pub form_of : Keyword → List (List ℕ) → Form
 form_of Section args = unwrap_or (option_map section_line (one args)) nameless_line
 form_of Eof args = if none args then eof_line else other_line

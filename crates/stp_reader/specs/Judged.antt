@@ -5,7 +5,8 @@ use Rattle.std.specs.Char.{is_ascii_digit}
 use Rattle.stp_reader.specs.declared.reason.Reason.{Reason}
 use Rattle.stp_reader.specs.declared.reason.Reason.TheVariants.{BadNumber, Fraction, OutOfRange, VertexRange, NoVertices}
 use Rattle.stp_reader.specs.Reason.{lesser}
-use Rattle.stp_reader.specs.Amounts.{is_number, value, parts}
+use Rattle.plain_text.specs.Numbers.{is_number, value}
+use Rattle.stp_reader.specs.Amounts.{parts}
 
 -- what is said, and what is said next of it; a reason of the first ends it
 infixl 10 ◌>>=◌
@@ -36,7 +37,7 @@ nodes word = count 1000000 word >>= λ n. if n == 0 then Err NoVertices else Ok 
 unfoldable pub vertex : ℕ → List ℕ → Result ℕ Reason
 vertex n word = if is_number word then (if nat_le 1 (value word) && nat_le (value word) n then Ok (value word) else Err VertexRange) else Err BadNumber
 
--- a cost or a prize: digits, and then a point with no more than zeros behind it, if there is one
+-- a cost or a prize: digits, and then a point with no more than zeros after it, if there is one
 unfoldable pub amount : List ℕ → Result ℕ Reason
 amount word =
     if is_number (parts word).0 && list_all is_ascii_digit (parts word).1

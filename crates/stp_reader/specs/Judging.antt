@@ -1,4 +1,4 @@
--- What a line says at its place: the place behind it, or the least reason why it may not stand there. Helpers' clauses cite this, and no public one.
+-- What a line says at its place: the place after it, or the least reason why it may not stand there. Helpers' clauses cite this, and no public one.
 use Rattle.std.specs.Prelude.{ℕ, suc, ◌==◌, not, if◌then◌else◌, List, [], ◌∷◌, ◌++◌, length, Option, Some, None, Result, Ok, Err}
 use Rattle.std.specs.List.{list_any}
 use Rattle.st_model.specs.declared.link.Link.{Link}
@@ -11,7 +11,7 @@ use Rattle.stp_reader.specs.declared.reason.Reason.TheVariants.{NoHeader, BadLin
 use Rattle.stp_reader.specs.Lines.{is_remark, word_lines}
 use Rattle.stp_reader.specs.Words.{is_magic, section_of}
 use Rattle.stp_reader.specs.Forms.{Form, section_line, nameless_line, eof_line, end_line, nodes_line, edges_line, edge_line, arcs_line, count_line, terminal_line, prize_line, root_line, form}
-use Rattle.stp_reader.specs.Place.{Graph, File, Stated, nothing, graph, whole, Place, at_header, outside, passed_over, at_nodes, at_edges, at_links, at_count, at_needs, behind_end}
+use Rattle.stp_reader.specs.Place.{Graph, File, Stated, nothing, graph, whole, Place, at_header, outside, passed_over, at_nodes, at_edges, at_links, at_count, at_needs, after_end}
 use Rattle.stp_reader.specs.Reasons.{has_prize, is_stray}
 use Rattle.stp_reader.specs.Judged.{◌>>=◌, both, count, nodes, vertex, amount}
 
@@ -34,7 +34,7 @@ judge_opening (whole f) name.Terminals = Err RepeatedSection
 
 abbrev pub judge_outside : Stated → Form → Result Place Reason
 judge_outside stated (section_line name) = judge_opening stated (section_of name)
-judge_outside stated eof_line = file_of stated >>= λ f. Ok (behind_end f)
+judge_outside stated eof_line = file_of stated >>= λ f. Ok (after_end f)
 judge_outside stated _ = Err BadLine
 
 abbrev pub judge_no_header : Form → Result Place Reason
@@ -89,7 +89,7 @@ judge_count g root f = Err (reason_in_section f)
 abbrev pub prize_of : ℕ → List (ℕ × Need) → List ℕ → List ℕ → Result (ℕ × Need) Reason
 prize_of n needs v p = both (vertex n v) (amount p) >>= λ e. if has_prize needs e.0 then Err RepeatedPrize else Ok (e.0, Pays e.1)
 
--- behind the END of Terminals
+-- after the END of Terminals
 abbrev pub terminals_end : Graph → ℕ → List (ℕ × Need) → Option ℕ → Result Place Reason
 terminals_end g t needs root =
     if not (length needs == t) then Err CountMismatch else
@@ -116,18 +116,18 @@ judge_line (at_edges n) line = judge_edges n (form line)
 judge_line (at_links n m links) line = judge_link n m links (form line)
 judge_line (at_count g root) line = judge_count g root (form line)
 judge_line (at_needs g t needs root) line = judge_need g t needs root (form line)
-judge_line (behind_end f) line = Ok (behind_end f)
+judge_line (after_end f) line = Ok (after_end f)
 
 -- any line, as its words
 unfoldable pub judge : Place → List (List ℕ) → Result Place Reason
 judge place [] = Ok place
 judge place (word ∷ args) = if is_remark word then Ok place else judge_line place (word ∷ args)
 
--- behind the last line: all that is stated, or the least reason why that is no whole file
+-- after the last line: all that is stated, or the least reason why that is no whole file
 abbrev pub at_end : Place → Result File Reason
 at_end at_header = Err NoHeader
 at_end (outside stated) = file_of stated
-at_end (behind_end f) = Ok f
+at_end (after_end f) = Ok f
 at_end _ = Err Unclosed
 
 -- what is said, or the line at which it is refused, and why
@@ -143,7 +143,7 @@ then_on (Err fault) f = Err fault
 -- what these lines state from this place on, the first of them being line `number`; or the first of them that has a reason, and the least of its reasons
 abbrev pub stated_from : ℕ → Place → List (List (List ℕ)) → Result File (ℕ × Reason)
 stated_from number place [] = at_line number (at_end place)
-stated_from number place (line ∷ lines) = then_on (at_line number (judge place line)) (λ behind. stated_from (suc number) behind lines)
+stated_from number place (line ∷ lines) = then_on (at_line number (judge place line)) (λ after. stated_from (suc number) after lines)
 
 -- what all lines of a text state
 unfoldable pub stated : List ℕ → Result File (ℕ × Reason)

@@ -6,7 +6,7 @@ abbrev pub with_byte : ℕ → List (List ℕ) → List (List ℕ)
 with_byte b [] = (b ∷ []) ∷ []
 with_byte b (piece ∷ pieces) = (b ∷ piece) ∷ pieces
 
--- what LF cuts the bytes into; an empty piece behind the last LF is none
+-- what LF cuts the bytes into; an empty piece after the last LF is none
 abbrev pub pieces : List ℕ → List (List ℕ)
 pieces [] = []
 pieces (b ∷ bytes) = if b == 10 then [] ∷ pieces bytes else with_byte b (pieces bytes)

@@ -9,7 +9,8 @@ use Rattle.stp_reader.specs.declared.keyword.SectionName.TheVariants as name
 use Rattle.stp_reader.specs.Lines.{is_skipped}
 use Rattle.stp_reader.specs.Words.{is_magic, section_of}
 use Rattle.stp_reader.specs.Forms.{Form, section_line, eof_line, end_line, nodes_line, edges_line, edge_line, count_line, terminal_line, prize_line, root_line, form}
-use Rattle.stp_reader.specs.Amounts.{value, amount_value}
+use Rattle.plain_text.specs.Numbers.{value}
+use Rattle.stp_reader.specs.Amounts.{amount_value}
 
 -- what a section Graph states: how many vertices there are, and the links of its E lines
 pub record Graph : Type 0 where
@@ -29,95 +30,95 @@ pub data Stated : Type 0 where
   whole : File → Stated
 
 pub data Place : Type 0 where
-  -- behind skipped lines alone
+  -- after skipped lines alone
   at_header : Place
   -- between sections
   outside : Stated → Place
   -- in a section that is passed over
   passed_over : Stated → Place
-  -- in Graph: before its line Nodes; behind `Nodes n`; behind `Edges m` and the E lines of these links
+  -- in Graph: before its line Nodes; after `Nodes n`; after `Edges m` and the E lines of these links
   at_nodes : Place
   at_edges : ℕ → Place
   at_links : ℕ → ℕ → List Link → Place
-  -- in Terminals: before its line Terminals; behind `Terminals t` and the T and TP lines that say these needs; with the vertex of the line Root, if it has come
+  -- in Terminals: before its line Terminals; after `Terminals t` and the T and TP lines that say these needs; with the vertex of the line Root, if it has come
   at_count : Graph → Option ℕ → Place
   at_needs : Graph → ℕ → List (ℕ × Need) → Option ℕ → Place
-  -- behind the line EOF
-  behind_end : File → Place
+  -- after the line EOF
+  after_end : File → Place
 
 -- the link that three words say
 abbrev pub link_said : List ℕ → List ℕ → List ℕ → Link
 link_said u v c = record { a = value u; b = value v; cost = amount_value c }
 
--- ---- behind a line that has no reason; one that has one leaves all as it is
+-- ---- after a line that has no reason; one that has one leaves all as it is
 
--- behind the line that opens a section
-abbrev pub behind_opening : Stated → SectionName → Place
-behind_opening stated name.Passed = passed_over stated
-behind_opening nothing name.Graph = at_nodes
-behind_opening (graph g) name.Terminals = at_count g None
-behind_opening stated _ = outside stated
+-- after the line that opens a section
+abbrev pub after_opening : Stated → SectionName → Place
+after_opening stated name.Passed = passed_over stated
+after_opening nothing name.Graph = at_nodes
+after_opening (graph g) name.Terminals = at_count g None
+after_opening stated _ = outside stated
 
--- behind the line EOF
-abbrev pub behind_eof : Stated → Place
-behind_eof (whole f) = behind_end f
-behind_eof stated = outside stated
+-- after the line EOF
+abbrev pub after_eof : Stated → Place
+after_eof (whole f) = after_end f
+after_eof stated = outside stated
 
-abbrev pub behind_outside : Stated → Form → Place
-behind_outside stated (section_line name) = behind_opening stated (section_of name)
-behind_outside stated eof_line = behind_eof stated
-behind_outside stated _ = outside stated
+abbrev pub after_outside : Stated → Form → Place
+after_outside stated (section_line name) = after_opening stated (section_of name)
+after_outside stated eof_line = after_eof stated
+after_outside stated _ = outside stated
 
 -- where the header is missing, only a section can begin
-abbrev pub behind_no_header : Form → Place
-behind_no_header (section_line name) = behind_opening nothing (section_of name)
-behind_no_header _ = outside nothing
+abbrev pub after_no_header : Form → Place
+after_no_header (section_line name) = after_opening nothing (section_of name)
+after_no_header _ = outside nothing
 
-abbrev pub behind_passed : Stated → Form → Place
-behind_passed stated end_line = outside stated
-behind_passed stated _ = passed_over stated
+abbrev pub after_passed : Stated → Form → Place
+after_passed stated end_line = outside stated
+after_passed stated _ = passed_over stated
 
-abbrev pub behind_nodes : Form → Place
-behind_nodes (nodes_line n) = at_edges (value n)
-behind_nodes _ = at_nodes
+abbrev pub after_nodes : Form → Place
+after_nodes (nodes_line n) = at_edges (value n)
+after_nodes _ = at_nodes
 
-abbrev pub behind_edges : ℕ → Form → Place
-behind_edges n (edges_line m) = at_links n (value m) []
-behind_edges n _ = at_edges n
+abbrev pub after_edges : ℕ → Form → Place
+after_edges n (edges_line m) = at_links n (value m) []
+after_edges n _ = at_edges n
 
-abbrev pub behind_link : ℕ → ℕ → List Link → Form → Place
-behind_link n m links (edge_line u v c) = at_links n m (links ++ link_said u v c ∷ [])
-behind_link n m links end_line = outside (graph (record { n = n; links = links }))
-behind_link n m links _ = at_links n m links
+abbrev pub after_link : ℕ → ℕ → List Link → Form → Place
+after_link n m links (edge_line u v c) = at_links n m (links ++ link_said u v c ∷ [])
+after_link n m links end_line = outside (graph (record { n = n; links = links }))
+after_link n m links _ = at_links n m links
 
-abbrev pub behind_count : Graph → Option ℕ → Form → Place
-behind_count g root (count_line t) = at_needs g (value t) [] root
-behind_count g root (root_line r) = at_count g (Some (value r))
-behind_count g root _ = at_count g root
+abbrev pub after_count : Graph → Option ℕ → Form → Place
+after_count g root (count_line t) = at_needs g (value t) [] root
+after_count g root (root_line r) = at_count g (Some (value r))
+after_count g root _ = at_count g root
 
-abbrev pub behind_need : Graph → ℕ → List (ℕ × Need) → Option ℕ → Form → Place
-behind_need g t needs root (terminal_line v) = at_needs g t (needs ++ (value v, Required) ∷ []) root
-behind_need g t needs root (prize_line v p) = at_needs g t (needs ++ (value v, Pays (amount_value p)) ∷ []) root
-behind_need g t needs root (root_line r) = at_needs g t needs (Some (value r))
-behind_need g t needs root end_line = outside (whole (record { n = g.n; links = g.links; needs = needs }))
-behind_need g t needs root _ = at_needs g t needs root
+abbrev pub after_need : Graph → ℕ → List (ℕ × Need) → Option ℕ → Form → Place
+after_need g t needs root (terminal_line v) = at_needs g t (needs ++ (value v, Required) ∷ []) root
+after_need g t needs root (prize_line v p) = at_needs g t (needs ++ (value v, Pays (amount_value p)) ∷ []) root
+after_need g t needs root (root_line r) = at_needs g t needs (Some (value r))
+after_need g t needs root end_line = outside (whole (record { n = g.n; links = g.links; needs = needs }))
+after_need g t needs root _ = at_needs g t needs root
 
-abbrev pub behind_said : Place → List (List ℕ) → Place
-behind_said at_header line = if list_any is_magic line then outside nothing else behind_no_header (form line)
-behind_said (outside stated) line = behind_outside stated (form line)
-behind_said (passed_over stated) line = behind_passed stated (form line)
-behind_said at_nodes line = behind_nodes (form line)
-behind_said (at_edges n) line = behind_edges n (form line)
-behind_said (at_links n m links) line = behind_link n m links (form line)
-behind_said (at_count g root) line = behind_count g root (form line)
-behind_said (at_needs g t needs root) line = behind_need g t needs root (form line)
-behind_said (behind_end f) line = behind_end f
+abbrev pub after_said : Place → List (List ℕ) → Place
+after_said at_header line = if list_any is_magic line then outside nothing else after_no_header (form line)
+after_said (outside stated) line = after_outside stated (form line)
+after_said (passed_over stated) line = after_passed stated (form line)
+after_said at_nodes line = after_nodes (form line)
+after_said (at_edges n) line = after_edges n (form line)
+after_said (at_links n m links) line = after_link n m links (form line)
+after_said (at_count g root) line = after_count g root (form line)
+after_said (at_needs g t needs root) line = after_need g t needs root (form line)
+after_said (after_end f) line = after_end f
 
--- the place behind a line at a place
-abbrev pub behind : Place → List (List ℕ) → Place
-behind place line = if is_skipped line then place else behind_said place line
+-- the place after a line at a place
+abbrev pub after : Place → List (List ℕ) → Place
+after place line = if is_skipped line then place else after_said place line
 
--- the place behind lines that begin at a place
-abbrev pub behind_all : Place → List (List (List ℕ)) → Place
-behind_all place [] = place
-behind_all place (line ∷ lines) = behind_all (behind place line) lines
+-- the place after lines that begin at a place
+abbrev pub after_all : Place → List (List (List ℕ)) → Place
+after_all place [] = place
+after_all place (line ∷ lines) = after_all (after place line) lines

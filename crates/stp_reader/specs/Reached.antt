@@ -17,9 +17,9 @@ use Rattle.stp_reader.specs.declared.stage.FilePart.{FilePart}
 use Rattle.stp_reader.specs.declared.stage.Ended.{Ended}
 use Rattle.stp_reader.specs.declared.stage.Ended.TheVariants.{Nothing, OneGraph, Whole}
 use Rattle.stp_reader.specs.declared.stage.Stage.{Stage}
-use Rattle.stp_reader.specs.declared.stage.Stage.TheVariants.{AtHeader, Outside, PassedOver, AtNodes, AtEdges, AtLinks, AtCount, AtNeeds, BehindEnd}
+use Rattle.stp_reader.specs.declared.stage.Stage.TheVariants.{AtHeader, Outside, PassedOver, AtNodes, AtEdges, AtLinks, AtCount, AtNeeds, AfterEnd}
 use Rattle.stp_reader.specs.Forms.{Form, section_line, nameless_line, eof_line, end_line, nodes_line, edges_line, edge_line, arcs_line, count_line, terminal_line, prize_line, root_line, other_line}
-use Rattle.stp_reader.specs.Place.{Graph, File, Stated, nothing, graph, whole, Place, at_header, outside, passed_over, at_nodes, at_edges, at_links, at_count, at_needs, behind_end}
+use Rattle.stp_reader.specs.Place.{Graph, File, Stated, nothing, graph, whole, Place, at_header, outside, passed_over, at_nodes, at_edges, at_links, at_count, at_needs, after_end}
 use Rattle.stp_reader.specs.Reasons.{has_prize}
 
 -- what a function returned, seen by view, is what is said
@@ -84,7 +84,7 @@ place_of (AtEdges n) = at_edges n
 place_of (AtLinks g m) = at_links g.vertices m g.links.items
 place_of (AtCount g root) = at_count (graph_of g) root
 place_of (AtNeeds p) = at_needs (graph_of p.graph) p.count p.needs.items p.root
-place_of (BehindEnd f) = behind_end (file_from f)
+place_of (AfterEnd f) = after_end (file_from f)
 
 -- ---- what holds of what was read
 
@@ -141,4 +141,4 @@ IsReached (AtEdges n) = IsCount n
 IsReached (AtLinks g m) = AreLinks g.vertices g.links.items × (m ≤ 4000000)
 IsReached (AtCount g root) = IsGraph g.vertices g.links.items
 IsReached (AtNeeds p) = AreNeedsReached p
-IsReached (BehindEnd f) = IsFile f
+IsReached (AfterEnd f) = IsFile f

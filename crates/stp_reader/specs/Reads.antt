@@ -7,24 +7,24 @@ use Rattle.stp_reader.specs.declared.fault.ReadError.{ReadError}
 use Rattle.stp_reader.specs.declared.fault.ReadError.TheVariants.{Fault, NoMemory}
 use Rattle.stp_reader.specs.Reason.{least}
 use Rattle.stp_reader.specs.Lines.{word_lines}
-use Rattle.stp_reader.specs.Place.{File, whole, Place, at_header, outside, behind_end, behind, behind_all}
+use Rattle.stp_reader.specs.Place.{File, whole, Place, at_header, outside, after_end, after, after_all}
 use Rattle.stp_reader.specs.Reasons.{reasons, end_reasons}
 
 -- no line of these has a reason, the first of them standing at this place
 abbrev pub AllRight : Place → List (List (List ℕ)) → Type 0
 AllRight place [] = Unit {0}
-AllRight place (line ∷ lines) = (reasons place line ≡ []) × AllRight (behind place line) lines
+AllRight place (line ∷ lines) = (reasons place line ≡ []) × AllRight (after place line) lines
 
--- what a whole file states, at the place behind it
+-- what a whole file states, at the place after it
 abbrev pub file_at : Place → Option File
 file_at (outside (whole f)) = Some f
-file_at (behind_end f) = Some f
+file_at (after_end f) = Some f
 file_at _ = None
 
 -- no line has a reason, and the text ends where all is stated: this
 pub record IsRead (lines : List (List (List ℕ))) (f : File) : Type 0 where
   pub right : AllRight at_header lines
-  pub file : file_at (behind_all at_header lines) ≡ Some f
+  pub file : file_at (after_all at_header lines) ≡ Some f
 
 -- the bytes are the text of this instance
 abbrev pub Reads : List ℕ → Network → Type 0
@@ -38,13 +38,13 @@ pub record IsFirstBad (lines : List (List (List ℕ))) (line : ℕ) (reason : Re
   pub split : lines ≡ before ++ bad ∷ others
   pub number : line ≡ length before + 1
   pub right : AllRight at_header before
-  pub why : least (reasons (behind_all at_header before) bad) ≡ Some reason
+  pub why : least (reasons (after_all at_header before) bad) ≡ Some reason
 
--- no line has a reason, but the text may not end behind the last, and this is the least reason for that; it counts as one line more
+-- no line has a reason, but the text may not end after the last, and this is the least reason for that; it counts as one line more
 pub record IsBadEnd (lines : List (List (List ℕ))) (line : ℕ) (reason : Reason) : Type 0 where
   pub number : line ≡ length lines + 1
   pub right : AllRight at_header lines
-  pub why : least (end_reasons (behind_all at_header lines)) ≡ Some reason
+  pub why : least (end_reasons (after_all at_header lines)) ≡ Some reason
 
 -- the bytes are the text of no instance: the first line with a reason, and the least of its reasons
 abbrev pub Refused : List ℕ → ℕ → Reason → Type 0

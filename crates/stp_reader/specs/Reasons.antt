@@ -12,8 +12,9 @@ use Rattle.stp_reader.specs.Reason.{when}
 use Rattle.stp_reader.specs.Lines.{is_skipped}
 use Rattle.stp_reader.specs.Words.{is_magic, section_of}
 use Rattle.stp_reader.specs.Forms.{Form, section_line, nameless_line, eof_line, end_line, nodes_line, edges_line, edge_line, arcs_line, count_line, terminal_line, prize_line, root_line, form}
-use Rattle.stp_reader.specs.Amounts.{value, count_reasons, nodes_reasons, vertex_reasons, amount_reasons}
-use Rattle.stp_reader.specs.Place.{Graph, Stated, nothing, graph, whole, Place, at_header, outside, passed_over, at_nodes, at_edges, at_links, at_count, at_needs, behind_end}
+use Rattle.plain_text.specs.Numbers.{value}
+use Rattle.stp_reader.specs.Amounts.{count_reasons, nodes_reasons, vertex_reasons, amount_reasons}
+use Rattle.stp_reader.specs.Place.{Graph, Stated, nothing, graph, whole, Place, at_header, outside, passed_over, at_nodes, at_edges, at_links, at_count, at_needs, after_end}
 
 -- ---- between sections
 
@@ -69,7 +70,7 @@ abbrev pub at_edges_reasons : Form → List Reason
 at_edges_reasons (edges_line m) = count_reasons 4000000 m
 at_edges_reasons f = misplaced_in_graph f
 
--- then E lines, and END behind m of them
+-- then E lines, and END after m of them
 abbrev pub at_links_reasons : ℕ → ℕ → List Link → Form → List Reason
 at_links_reasons n m links (edge_line u v c) = vertex_reasons n u ++ vertex_reasons n v ++ amount_reasons c
 at_links_reasons n m links end_line = when (not (length links == m)) CountMismatch
@@ -99,7 +100,7 @@ abbrev pub is_stray : List (ℕ × Need) → Option ℕ → Bool
 is_stray needs None = false
 is_stray needs (Some r) = not (has_terminal needs r)
 
--- then T and TP lines, of which no second TP line for a vertex, and END behind t of them: at least one, and one T line for the root
+-- then T and TP lines, of which no second TP line for a vertex, and END after t of them: at least one, and one T line for the root
 abbrev pub at_needs_reasons : Graph → ℕ → List (ℕ × Need) → Option ℕ → Form → List Reason
 at_needs_reasons g t needs root (terminal_line v) = vertex_reasons g.n v
 at_needs_reasons g t needs root (prize_line v p) = vertex_reasons g.n v ++ amount_reasons p ++ when (has_prize needs (value v)) RepeatedPrize
@@ -118,7 +119,7 @@ said_reasons (at_edges n) line = at_edges_reasons (form line)
 said_reasons (at_links n m links) line = at_links_reasons n m links (form line)
 said_reasons (at_count g root) line = at_count_reasons g root (form line)
 said_reasons (at_needs g t needs root) line = at_needs_reasons g t needs root (form line)
-said_reasons (behind_end f) line = []
+said_reasons (after_end f) line = []
 
 -- all reasons why a line may not stand at a place
 abbrev pub reasons : Place → List (List ℕ) → List Reason
@@ -128,5 +129,5 @@ reasons place line = if is_skipped line then [] else said_reasons place line
 abbrev pub end_reasons : Place → List Reason
 end_reasons at_header = NoHeader ∷ []
 end_reasons (outside stated) = missing stated
-end_reasons (behind_end f) = []
+end_reasons (after_end f) = []
 end_reasons _ = Unclosed ∷ []

@@ -11,7 +11,7 @@ use crate::words::next_word;
 #[derive(Clone, Copy)]
 pub enum Form<'a> {
     Section(&'a [u8]),
-    /// `SECTION` with no word behind it, or more than one.
+    /// `SECTION` with no word after it, or more than one.
     Nameless,
     Eof,
     End,

@@ -35,7 +35,7 @@ fn misplaced_in_graph(form: Form) -> Reason
     }
 }
 
-/// Behind the first line of Graph.
+/// After the first line of Graph.
 pub fn nodes_line(form: Form) -> Result<Stage, Reason>
     ensures place { Says place_of result (judge_nodes (form_seen form.entry)) }
     ensures reached { IfOk result IsReached }
@@ -46,7 +46,7 @@ pub fn nodes_line(form: Form) -> Result<Stage, Reason>
     }
 }
 
-/// Behind the second line of Graph.
+/// After the second line of Graph.
 pub fn edges_line(alloc: Global, vertices: u32, form: Form) -> Result<Stage, Reason>
     requires { IsCount vertices }
     ensures place { Says place_of result (judge_edges vertices (form_seen form.entry)) }
@@ -91,7 +91,7 @@ fn with_link(
     Ok(Stage::AtLinks(graph, count))
 }
 
-// Behind the END of Graph.
+// After the END of Graph.
 fn graph_end(graph: GraphPart, count: u64) -> Result<Stage, Reason>
     requires links { AreLinks graph.vertices graph.links.items }
     requires few { count ≤ 4000000 }
@@ -105,7 +105,7 @@ fn graph_end(graph: GraphPart, count: u64) -> Result<Stage, Reason>
     Ok(Stage::Outside(Ended::OneGraph(graph)))
 }
 
-/// Behind a further line of Graph.
+/// After a further line of Graph.
 pub fn link_line(graph: GraphPart, count: u64, form: Form) -> Result<Stage, LineError>
     requires links { AreLinks graph.vertices graph.links.items }
     requires few { count ≤ 4000000 }

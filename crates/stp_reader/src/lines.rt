@@ -1,9 +1,9 @@
 ghost use Rattle.std.specs.Prelude.{◌≡◌, ◌<◌, [], ◌∷◌, length, MatchOption, IfSome};
 ghost use Rattle.stp_reader.specs.Lines.{pieces, without_cr};
 
-use byte_pieces::cut_at;
+use plain_text::cut_at;
 
-/// The first line, without its LF, and what stands behind it.
+/// The first line, without its LF, and what stands after it.
 pub fn next_piece(bytes: &[u8]) -> Option<(&[u8], &[u8])>
     ensures piece { MatchOption result (pieces bytes.now ≡ [])
         (λ x. pieces bytes.now ≡ x.0.now ∷ pieces x.1.now) }
@@ -12,10 +12,10 @@ pub fn next_piece(bytes: &[u8]) -> Option<(&[u8], &[u8])>
     if bytes.is_empty() {
         return None;
     }
-    let Some((piece, behind)) = cut_at(bytes, b'\n') else {
+    let Some((piece, after)) = cut_at(bytes, b'\n') else {
         return Some((bytes, &bytes[..0]));
     };
-    Some((piece, behind))
+    Some((piece, after))
 }
 
 /// The line without the CR that ends it, if one does.

@@ -1,12 +1,13 @@
-ghost use Rattle.std.specs.Prelude.{◌≡◌, ◌^◌, ◌<◌, ◌≤◌, ◌==◌, IfOk};
+ghost use Rattle.std.specs.Prelude.{◌≡◌, ◌≤◌, ◌==◌, IsTrue, IfOk};
 ghost use Rattle.std.specs.Char.{is_ascii_digit};
 ghost use Rattle.std.specs.List.{list_all};
 ghost use Rattle.st_model.specs.Network.{IsVertex};
-ghost use Rattle.stp_reader.specs.Amounts.{is_number, value, parts};
+ghost use Rattle.plain_text.specs.Numbers.{is_number, value};
+ghost use Rattle.stp_reader.specs.Amounts.{parts};
 ghost use Rattle.stp_reader.specs.Judged.{within, count, nodes, vertex, amount};
 
 use crate::Reason;
-use byte_pieces::cut_at;
+use plain_text::{cut_at, number_within};
 use st_model::MAX_VERTICES;
 
 /// The greatest cost or prize.
@@ -33,26 +34,19 @@ fn is_number(word: &[u8]) -> bool
     !word.is_empty() && are_digits(word)
 }
 
-// The value of decimal digits, if it is at most the limit.
-fn within(digits: &[u8], limit: u64) -> Result<u64, Reason>
-    requires { limit < 2 ^ 60 }
-    ensures value { result ≡ within limit (value digits.now) }
+// The number that a word says, if it is at most the limit.
+#[tactic(auto, unfolding(plain_text::specs::Numbers::number_within))]
+fn within(word: &[u8], limit: u64) -> Result<u64, Reason>
+    requires { IsTrue (is_number word.now) }
+    ensures value { result ≡ within limit (value word.now) }
     ensures in_range { IfOk result (λ n. n ≤ limit) }
 {
-    let mut value: u64 = 0;
-    for digit in digits {
-        value = 10 * value + u64::from(digit.saturating_sub(b'0'));
-        if value > limit {
-            return Err(Reason::OutOfRange);
-        }
-    }
-    Ok(value)
+    number_within(word, limit).ok_or(Reason::OutOfRange)
 }
 
 /// The count that a word says, which is at most the limit.
 #[tactic(auto, unfolding(crate::specs::Judged::count))]
 pub fn count(word: &[u8], limit: u64) -> Result<u64, Reason>
-    requires { limit < 2 ^ 60 }
     ensures value { result ≡ count limit word.now }
     ensures in_range { IfOk result (λ n. n ≤ limit) }
 {
@@ -90,7 +84,7 @@ pub fn vertex(word: &[u8], vertices: u32) -> Result<u32, Reason>
     }
 }
 
-// The whole part of an amount, and what stands behind its point.
+// The whole part of an amount, and what stands after its point.
 fn parts(word: &[u8]) -> (&[u8], &[u8])
     ensures { (result.0.now, result.1.now) ≡ parts word.now }
 {

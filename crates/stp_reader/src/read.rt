@@ -4,7 +4,7 @@ ghost use Rattle.stp_reader.specs.Reached.{file_from, IsFile, IsFaultOf};
 
 use crate::fault::{LineError, ReadError};
 use crate::lines::{next_piece, without_cr};
-use crate::stage::{FilePart, Stage, at_end, behind};
+use crate::stage::{FilePart, Stage, after, at_end};
 use std::alloc::Global;
 
 /// What all lines of a text state.
@@ -18,7 +18,7 @@ pub fn file_in(alloc: Global, bytes: &[u8]) -> Result<FilePart, ReadError>
     let mut rest = bytes;
     let mut number: u64 = 1;
     while let Some((piece, others)) = next_piece(rest) {
-        match behind(alloc, stage, without_cr(piece)) {
+        match after(alloc, stage, without_cr(piece)) {
             Ok(next) => stage = next,
             Err(e) => return Err(e.at(number)),
         }

@@ -61,10 +61,10 @@ pub enum Stage {
     AtLinks(GraphPart, u64),
     AtCount(GraphPart, Option<u32>),
     AtNeeds(NeedsPart),
-    BehindEnd(FilePart),
+    AfterEnd(FilePart),
 }
 
-// Behind the line that opens a section.
+// After the line that opens a section.
 fn opened(ended: Ended, name: SectionName) -> Result<Stage, Reason>
     requires { IsEnded ended }
     ensures place { Says place_of result (judge_opening (stated_of ended) name) }
@@ -98,7 +98,7 @@ fn file_of(ended: Ended) -> Result<FilePart, Reason>
     }
 }
 
-// Behind a line between sections.
+// After a line between sections.
 fn outside_line(ended: Ended, form: Form) -> Result<Stage, Reason>
     requires { IsEnded ended }
     ensures place { Says place_of result (judge_outside (stated_of ended) (form_seen form.entry)) }
@@ -106,12 +106,12 @@ fn outside_line(ended: Ended, form: Form) -> Result<Stage, Reason>
 {
     match form {
         Form::Section(name) => opened(ended, section_of(name)),
-        Form::Eof => Ok(Stage::BehindEnd(file_of(ended)?)),
+        Form::Eof => Ok(Stage::AfterEnd(file_of(ended)?)),
         _ => Err(Reason::BadLine),
     }
 }
 
-// Behind the first line that says something, where it is no header.
+// After the first line that says something, where it is no header.
 fn no_header(form: Form) -> Result<Stage, Reason>
     ensures place { Says place_of result (judge_no_header (form_seen form.entry)) }
     ensures reached { IfOk result IsReached }
@@ -123,7 +123,7 @@ fn no_header(form: Form) -> Result<Stage, Reason>
     }
 }
 
-// Behind a line of a section that is passed over.
+// After a line of a section that is passed over.
 fn passed_line(ended: Ended, form: Form) -> Stage
     requires { IsEnded ended }
     ensures place { place_of result ≡ judge_passed (stated_of ended) (form_seen form.entry) }
@@ -135,9 +135,9 @@ fn passed_line(ended: Ended, form: Form) -> Stage
     }
 }
 
-// Behind a line that isn't skipped.
+// After a line that isn't skipped.
 #[tactic(auto, unfolding(crate::specs::Judging::judge_line))]
-fn behind_said(
+fn after_said(
     alloc: Global,
     stage: Stage,
     line: &[u8],
@@ -160,13 +160,13 @@ fn behind_said(
         Stage::AtLinks(graph, count) => link_line(graph, count, form),
         Stage::AtCount(graph, root) => count_line(alloc, graph, root, form),
         Stage::AtNeeds(needs) => need_line(needs, form),
-        Stage::BehindEnd(file) => Ok(Stage::BehindEnd(file)),
+        Stage::AfterEnd(file) => Ok(Stage::AfterEnd(file)),
     }
 }
 
 /// What has been read with one more line.
 #[tactic(auto, unfolding(crate::specs::Judging::judge))]
-pub fn behind(alloc: Global, stage: Stage, line: &[u8]) -> Result<Stage, LineError>
+pub fn after(alloc: Global, stage: Stage, line: &[u8]) -> Result<Stage, LineError>
     requires { IsReached stage }
     ensures place { Gives place_of result (judge (place_of stage) (words line.now)) }
     ensures reached { IfOk result IsReached }
@@ -177,10 +177,10 @@ pub fn behind(alloc: Global, stage: Stage, line: &[u8]) -> Result<Stage, LineErr
     if is_remark(word) {
         return Ok(stage);
     }
-    behind_said(alloc, stage, line, word, args)
+    after_said(alloc, stage, line, word, args)
 }
 
-/// All that is stated, behind the last line.
+/// All that is stated, after the last line.
 pub fn at_end(stage: Stage) -> Result<FilePart, Reason>
     requires { IsReached stage }
     ensures file { Says file_from result (at_end (place_of stage)) }
@@ -189,7 +189,7 @@ pub fn at_end(stage: Stage) -> Result<FilePart, Reason>
     match stage {
         Stage::AtHeader => Err(Reason::NoHeader),
         Stage::Outside(ended) => file_of(ended),
-        Stage::BehindEnd(file) => Ok(file),
+        Stage::AfterEnd(file) => Ok(file),
         _ => Err(Reason::Unclosed),
     }
 }

@@ -30,7 +30,7 @@ fn root_of(vertices: u32, root: Option<u32>, word: &[u8]) -> Result<u32, Reason>
     }
 }
 
-// Behind the line that says how many terminals there are.
+// After the line that says how many terminals there are.
 fn with_count(
     alloc: Global,
     graph: GraphPart,
@@ -52,7 +52,7 @@ fn with_count(
     }))
 }
 
-/// Behind a line of Terminals before it says how many there are.
+/// After a line of Terminals before it says how many there are.
 pub fn count_line(
     alloc: Global,
     graph: GraphPart,
@@ -92,7 +92,7 @@ fn is_stray(needs: &[(u32, Need)], root: Option<u32>) -> bool
     }
 }
 
-// Behind the END of Terminals.
+// After the END of Terminals.
 fn terminals_end(part: NeedsPart) -> Result<Stage, Reason>
     requires { AreNeedsReached part }
     ensures place { Says place_of result
@@ -170,7 +170,7 @@ fn with_root(mut part: NeedsPart, word: &[u8]) -> Result<Stage, Reason>
     Ok(Stage::AtNeeds(part))
 }
 
-/// Behind a further line of Terminals.
+/// After a further line of Terminals.
 pub fn need_line(part: NeedsPart, form: Form) -> Result<Stage, LineError>
     requires { AreNeedsReached part }
     ensures place { Gives place_of result

@@ -10,7 +10,7 @@ const STAR: &str = "33D32945 STP File, STP Format Version 1.0\nSECTION Graph\nNo
     E 1 4 2\nE 2 4 2\nE 3 4 2\nE 1 2 4\nE 2 3 4\nE 1 3 4\nEND\n\
     SECTION Terminals\nTerminals 3\nT 1\nT 2\nT 3\nEND\nEOF\n";
 
-/// What stands behind the first words of a file, and the instance that is meant by it.
+/// What stands after the first words of a file, and the instance that is meant by it.
 #[derive(Drop)]
 struct Case {
     text: &'static str,
@@ -405,11 +405,11 @@ const CHANGES: [(&str, &[u8], u64, Reason); 76] = [
 
 /// The star's file with this in the place of that.
 fn changed(rt: &impl AllocGlobal, from: &str, to: &[u8]) -> Result<Vec<u8>, Fail> {
-    let (before, behind) = STAR.split_once(from).ok_or("the file has no such part")?;
+    let (before, after) = STAR.split_once(from).ok_or("the file has no such part")?;
     let mut text = Vec::new(rt.alloc());
     text.extend_from_slice(before.as_bytes())?;
     text.extend_from_slice(to)?;
-    text.extend_from_slice(behind.as_bytes())?;
+    text.extend_from_slice(after.as_bytes())?;
     Ok(text)
 }
 
@@ -423,7 +423,7 @@ fn refuses_one_change(rt: HostRuntime) -> Result<(), Fail> {
 }
 
 #[test]
-fn reads_a_file_cut_behind_its_end(rt: HostRuntime) -> Result<(), Fail> {
+fn reads_a_file_cut_after_its_end(rt: HostRuntime) -> Result<(), Fail> {
     for to in [
         b"T 3\nEND".as_slice(),
         b"T 3\nEND\nEOF\nE 1\n\xff",

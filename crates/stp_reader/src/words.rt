@@ -26,7 +26,7 @@ fn blank_index(bytes: &[u8]) -> Option<usize>
     bytes.iter().position(|byte| is_blank(*byte))
 }
 
-/// The first word of a line, and what stands behind it.
+/// The first word of a line, and what stands after it.
 pub fn next_word(line: &[u8]) -> Option<(&[u8], &[u8])>
     ensures word { MatchOption result (words line.now ≡ [])
         (λ x. words line.now ≡ x.0.now ∷ words x.1.now) }
@@ -50,11 +50,11 @@ pub fn has_magic(line: &[u8]) -> bool
     ensures { result ≡ list_any is_magic (words line.now) }
 {
     let mut rest = line;
-    while let Some((word, behind)) = next_word(rest) {
+    while let Some((word, after)) = next_word(rest) {
         if is_word(word, b"33D32945") {
             return true;
         }
-        rest = behind;
+        rest = after;
     }
     false
 }

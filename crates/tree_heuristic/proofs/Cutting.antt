@@ -13,7 +13,7 @@ use Rattle.st_model.proofs.RegrowLaws.{missed-same}
 use Rattle.st_model.proofs.Sums.{total-append}
 use Rattle.st_model.proofs.ThinGrowth.{linked-vertices}
 use Rattle.tree_heuristic.specs.declared.kept.Kept.{Kept}
-use Rattle.tree_heuristic.specs.Keeping.{AreWorth, IsJudging, IsPruned, is_cut, is_fork, is_spare, is_tail, must, tree_of}
+use Rattle.tree_heuristic.specs.Keeping.{AreWorth, IsJudging, KeepsArc, IsPruned, is_cut, is_fork, is_spare, is_tail, must, tree_of}
 use Rattle.tree_heuristic.proofs.Found.{clash}
 
 pub turned : (a b : ℕ) → (a == b) ≡ false → (b == a) ≡ false
@@ -125,29 +125,20 @@ judged_cut I inside t left first arc old new instance j is cut same = subst (λ 
         let rest = total-append (arc_cost I) first (reverse old.arcs.items) in
         pruned_more I inside t mid (record { start = t.start; arcs = first ++ reverse old.arcs.items }) arc.1 (arc_cost I arc) vertices.1 before.arborescence.start before loses (omega (arith, whole, rest)) (let less = spare.1 in omega arith) spare.0
 
--- what a call of judge makes
-pub record Judged (I : Network) (inside : List ℕ) (old : Kept) (arc : ℕ × ℕ) (new : Kept) : Type 0 where
-  pub cut : IsTrue (is_cut I inside old.tails.members arc) → new ≡ old
-  pub start : new.start ≡ old.start
-  pub arcs : IsFalse (is_cut I inside old.tails.members arc) → new.arcs.items ≡ old.arcs.items ++ arc ∷ []
-  pub tails : IsFalse (is_cut I inside old.tails.members arc) → (v : ℕ) → has new.tails.members v ≡ ((arc.0 == v) || has old.tails.members v)
-  pub forks : IsFalse (is_cut I inside old.tails.members arc) → (v : ℕ) → has new.forks.members v ≡ (((arc.0 == v) && has old.tails.members v) || has old.forks.members v)
-  pub counts : (new.tails.count ≡ old.tails.count) × (new.forks.count ≡ old.forks.count)
-
 -- it is kept
-judged_kept : (I : Network) (inside : List ℕ) (t : Tree) (left first : List (ℕ × ℕ)) (arc : ℕ × ℕ) (old new : Kept) → IsJudging I inside t left old → left ≡ first ++ arc ∷ [] → IsFalse (is_cut I inside old.tails.members arc) → Judged I inside old arc new → IsJudging I inside t first new
+judged_kept : (I : Network) (inside : List ℕ) (t : Tree) (left first : List (ℕ × ℕ)) (arc : ℕ × ℕ) (old new : Kept) → IsJudging I inside t left old → left ≡ first ++ arc ∷ [] → IsFalse (is_cut I inside old.tails.members arc) → KeepsArc old arc new → IsJudging I inside t first new
 judged_kept I inside t left first arc old new j is stays made = record {
   start = made.start ∙ j.start;
   pruned = subst (λ arcs. IsPruned I inside t (record { start = t.start; arcs = arcs })) (split_arcs left first arc old is ∙ ap (λ l. first ++ l) (sym turned_round)) j.pruned;
   worth = subst (AreWorth I inside) (sym turned_round) (worth, j.worth);
-  tails = λ v. made.tails stays v ∙ (ap (λ b. (arc.0 == v) || b) (j.tails v) ∙ ap (λ l. is_tail l v) (sym turned_round));
-  forks = λ v. made.forks stays v ∙ (both v (j.tails v) (j.forks v) ∙ ap (λ l. is_fork l v) (sym turned_round));
+  tails = λ v. made.tails v ∙ (ap (λ b. (arc.0 == v) || b) (j.tails v) ∙ ap (λ l. is_tail l v) (sym turned_round));
+  forks = λ v. made.forks v ∙ (both v (j.tails v) (j.forks v) ∙ ap (λ l. is_fork l v) (sym turned_round));
   tails_count = made.counts.0 ∙ j.tails_count;
   forks_count = made.counts.1 ∙ j.forks_count;
 }
   where
     turned_round : reverse new.arcs.items ≡ arc ∷ reverse old.arcs.items
-    turned_round = ap reverse (made.arcs stays) ∙ reverse-append old.arcs.items (arc ∷ [])
+    turned_round = ap reverse made.arcs ∙ reverse-append old.arcs.items (arc ∷ [])
 
     worth : IsFalse (is_tail (reverse old.arcs.items) arc.1) → IsFalse (is_spare I inside arc.1 arc)
     worth leaf = second (has old.tails.members arc.1) (is_spare I inside arc.1 arc) (j.tails arc.1 ∙ leaf) stays
@@ -160,12 +151,12 @@ judged_kept I inside t left first arc old new j is stays made = record {
     both v p q = rw (p, q) refl
 
 -- one arc is judged
-pub judged : (I : Network) (inside : List ℕ) (t : Tree) (left first : List (ℕ × ℕ)) (arc : ℕ × ℕ) (old new : Kept) → IsInstance I → IsJudging I inside t left old → left ≡ first ++ arc ∷ [] → Judged I inside old arc new → IsJudging I inside t first new
-judged I inside t left first arc old new instance j is made = by_case (is_cut I inside old.tails.members arc) refl
+pub judged : (I : Network) (inside : List ℕ) (t : Tree) (left first : List (ℕ × ℕ)) (arc : ℕ × ℕ) (old new : Kept) → IsInstance I → IsJudging I inside t left old → left ≡ first ++ arc ∷ [] → (IsTrue (is_cut I inside old.tails.members arc) → new ≡ old) → (IsFalse (is_cut I inside old.tails.members arc) → KeepsArc old arc new) → IsJudging I inside t first new
+judged I inside t left first arc old new instance j is cut_as kept_as = by_case (is_cut I inside old.tails.members arc) refl
   where
     by_case : (b : Bool) → is_cut I inside old.tails.members arc ≡ b → IsJudging I inside t first new
-    by_case true cut = judged_cut I inside t left first arc old new instance j is cut (made.cut cut)
-    by_case false stays = judged_kept I inside t left first arc old new j is stays made
+    by_case true cut = judged_cut I inside t left first arc old new instance j is cut (cut_as cut)
+    by_case false stays = judged_kept I inside t left first arc old new j is stays (kept_as stays)
 
 -- at first nothing is kept
 pub judging_none : (I : Network) (inside : List ℕ) (t : Tree) (left : List (ℕ × ℕ)) (k : Kept) → IsArborescence I t → left ≡ t.arcs → k.start ≡ t.start → k.arcs.items ≡ [] → (k.tails.members ≡ []) × (k.tails.count ≡ I.n + 1) → (k.forks.members ≡ []) × (k.forks.count ≡ I.n + 1) → IsJudging I inside t left k

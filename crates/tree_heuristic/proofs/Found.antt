@@ -6,7 +6,7 @@ use Rattle.std.proofs.lemmas.Bool.{or_cases, false≢true, false_from_ne_true}
 use Rattle.st_model.specs.declared.branch.Branch.{Branch}
 use Rattle.st_model.specs.declared.tree.Tree.{Tree}
 use Rattle.st_model.specs.Arborescence.{IsArborescence, IsTree, reached, cost}
-use Rattle.st_model.specs.Branch.{Belongs, IsBranch, IsVertexSet, is_certain}
+use Rattle.st_model.specs.Branch.{Belongs, IsBranch, IsVertexSet, is_certain, NoneIsCertain}
 use Rattle.st_model.specs.Laws.{LoneStartsMissTheRest}
 use Rattle.st_model.specs.Lists.{has}
 use Rattle.st_model.specs.Network.{Network, IsInstance, IsVertex, link, is_required, pays}
@@ -17,10 +17,10 @@ use Rattle.st_model.proofs.Branches.{IsVertexSet-member, certain_reached}
 use Rattle.st_model.proofs.Members.{has-one}
 use Rattle.st_model.proofs.Reaching.{one_side}
 use Rattle.st_model.proofs.ThinGrowth.{has-reached_from, linked-vertices}
-use Rattle.graph_store.specs.Graph.{Graph, IsGraph}
+use Rattle.graph_store.specs.Graph.{Graph, IsGraph, is_in}
 use Rattle.graph_store.proofs.PutLinks.{in_range}
 use Rattle.tree_heuristic.specs.declared.spread.Spread.{Spread}
-use Rattle.tree_heuristic.specs.Reaching.{NoneIsCertain, ReachesPresent}
+use Rattle.tree_heuristic.specs.Reaching.{IsTreeOf, ReachesPresent}
 use Rattle.tree_heuristic.specs.Spreading.{IsOpen, IsSpread, IsClosed}
 
 -- a test that holds is not refused
@@ -41,7 +41,7 @@ spread_arborescence g out s t graph is start arcs = record {
   grows = rw (start, arcs) is.grows;
 }
 
-pub spread_reached : (g : Graph) (out : List ℕ) (s : Spread) (t : Tree) (v : ℕ) → IsSpread g out s → t.start ≡ s.start → t.arcs ≡ s.arcs.items → has (reached t) v ≡ has s.reached.members v
+spread_reached : (g : Graph) (out : List ℕ) (s : Spread) (t : Tree) (v : ℕ) → IsSpread g out s → t.start ≡ s.start → t.arcs ≡ s.arcs.items → has (reached t) v ≡ has s.reached.members v
 spread_reached g out s t v is start arcs = rw (start, arcs) (sym (is.same v))
 
 pub spread_tree : (g : Graph) (B : Branch) (out : List ℕ) (s : Spread) (t : Tree) → IsGraph g → IsSpread g out s → t.start ≡ s.start → t.arcs ≡ s.arcs.items → ((v : ℕ) → IsVertex g.network.n v → IsTrue (is_certain g.network B v) → IsTrue (has s.reached.members v)) → IsTree g.network t
@@ -51,11 +51,26 @@ spread_tree g B out s t graph is start arcs all = record {
 }
 
 -- a tree that reaches only what is open, and all that is inside
-pub open_belongs : (g : Graph) (B : Branch) (out : List ℕ) (t : Tree) → IsGraph g → IsBranch g.network B → ((v : ℕ) → IsVertex g.network.n v → has out v ≡ has B.outside v) → ((v : ℕ) → IsTrue (has (reached t) v) → IsOpen g out v) → ((v : ℕ) → IsVertex g.network.n v → IsTrue (is_certain g.network B v) → IsTrue (has (reached t) v)) → Belongs B t
+open_belongs : (g : Graph) (B : Branch) (out : List ℕ) (t : Tree) → IsGraph g → IsBranch g.network B → ((v : ℕ) → IsVertex g.network.n v → has out v ≡ has B.outside v) → ((v : ℕ) → IsTrue (has (reached t) v) → IsOpen g out v) → ((v : ℕ) → IsVertex g.network.n v → IsTrue (is_certain g.network B v) → IsTrue (has (reached t) v)) → Belongs B t
 open_belongs g B out t graph branch same open_only all = record {
   inside = λ v h. all v (IsVertexSet-member g.network.n B.inside v branch.inside h) (certain_inside g.network B v h);
   outside = λ v h. false_from_ne_true (has (reached t) v) (λ there. let here = open_only v there in clash h (sym (same v (in_range g v graph here.present)) ∙ here.inside));
 }
+
+-- so it is a tree of the branch
+pub spread_tree_of : (g : Graph) (B : Branch) (out : List ℕ) (s : Spread) (t : Tree) → IsGraph g → IsBranch g.network B → ((v : ℕ) → IsVertex g.network.n v → has out v ≡ has B.outside v) → IsSpread g out s → t.start ≡ s.start → t.arcs ≡ s.arcs.items
+    → ((v : ℕ) → IsVertex g.network.n v → IsTrue (is_certain g.network B v) → IsTrue (has s.reached.members v)) → IsTreeOf g B t
+spread_tree_of g B out s t graph branch outside is start arcs all = record {
+  tree = spread_tree g B out s t graph is start arcs all;
+  belongs = open_belongs g B out t graph branch outside open_only (λ v vertex h. same v ∙ all v vertex h);
+  present = λ v h. (open_only v h).present;
+}
+  where
+    same : (v : ℕ) → has (reached t) v ≡ has s.reached.members v
+    same v = spread_reached g out s t v is start arcs
+
+    open_only : (v : ℕ) → IsTrue (has (reached t) v) → IsOpen g out v
+    open_only v h = is.open_only v (sym (same v) ∙ h)
 
 -- no tree of open vertices reaches one of such a set and one that isn't of it
 pub no_tree_across : (g : Graph) (B : Branch) (out R : List ℕ) (c d : ℕ) → IsGraph g → ((v : ℕ) → IsVertex g.network.n v → has out v ≡ has B.outside v) → IsClosed g.network out R R → IsVertex g.network.n c → IsTrue (is_certain g.network B c) → IsTrue (has R c) → IsVertex g.network.n d → IsTrue (is_certain g.network B d) → IsFalse (has R d) → (t : Tree) → IsTree g.network t → Belongs B t → ⊥
@@ -92,10 +107,21 @@ first_alone I instance free = record {
 }
 
 -- a vertex alone that is open belongs to a branch that holds no vertex for certain
-pub alone_belongs : (g : Graph) (B : Branch) (out : List ℕ) (v : ℕ) → IsBranch g.network B → ((w : ℕ) → IsVertex g.network.n w → has out w ≡ has B.outside w) → NoneIsCertain g.network B → IsVertex g.network.n v → IsOpen g out v → Belongs B (record { start = v; arcs = [] })
+alone_belongs : (g : Graph) (B : Branch) (out : List ℕ) (v : ℕ) → IsBranch g.network B → ((w : ℕ) → IsVertex g.network.n w → has out w ≡ has B.outside w) → NoneIsCertain g.network B → IsVertex g.network.n v → IsOpen g out v → Belongs B (record { start = v; arcs = [] })
 alone_belongs g B out v branch same free vertex here = record {
   inside = λ w h. absurd (clash (certain_inside g.network B w h) (free w (IsVertexSet-member g.network.n B.inside w branch.inside h)));
   outside = λ w h. false_from_ne_true (has (v ∷ []) w) (λ there. clash (subst (λ x. IsTrue (has B.outside x)) (sym (has-one v w there)) h) (sym (same v vertex) ∙ here.inside));
+}
+
+-- so it is a tree of the branch
+pub alone_tree : (g : Graph) (B : Branch) (out : List ℕ) (v : ℕ) → IsGraph g → IsBranch g.network B → ((w : ℕ) → IsVertex g.network.n w → has out w ≡ has B.outside w) → NoneIsCertain g.network B → IsVertex g.network.n v → IsOpen g out v → IsTreeOf g B (record { start = v; arcs = [] })
+alone_tree g B out v graph branch same free vertex here = record {
+  tree = record {
+    arborescence = record { start = vertex; grows = tt };
+    required = λ w there h. absurd (clash (certain_required g.network B w h) (free w there));
+  };
+  belongs = alone_belongs g B out v branch same free vertex here;
+  present = λ w h. subst (λ x. IsTrue (is_in g x)) (has-one v w h) here.present;
 }
 
 -- the start of a tree of the branch is open

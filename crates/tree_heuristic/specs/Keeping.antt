@@ -48,6 +48,14 @@ pub record IsPruned (I : Network) (inside : List ℕ) (old new : Tree) : Type 0 
   pub within : (v : ℕ) → IsTrue (has (reached new) v) → IsTrue (has (reached old) v)
   pub cheap : cost I new ≤ cost I old
 
+-- an arc is kept: it stands last, its tail is a tail from now on, and a fork where it was a tail before
+pub record KeepsArc (old : Kept) (arc : ℕ × ℕ) (new : Kept) : Type 0 where
+  pub start : new.start ≡ old.start
+  pub arcs : new.arcs.items ≡ old.arcs.items ++ arc ∷ []
+  pub tails : (v : ℕ) → has new.tails.members v ≡ ((arc.0 == v) || has old.tails.members v)
+  pub forks : (v : ℕ) → has new.forks.members v ≡ (((arc.0 == v) && has old.tails.members v) || has old.forks.members v)
+  pub counts : (new.tails.count ≡ old.tails.count) × (new.forks.count ≡ old.forks.count)
+
 -- the last arcs have been judged, and those before them are left as they were
 pub record IsJudging (I : Network) (inside : List ℕ) (old : Tree) (left : List (ℕ × ℕ)) (k : Kept) : Type 0 where
   pub start : k.start ≡ old.start

@@ -53,11 +53,6 @@ pub record IsUnderWay (g : Graph) (out : List ℕ) (from : ℕ) (s : Spread) (co
   pub start : s.start ≡ from
   pub few : count ≤ length s.reached.members
 
--- the members up to a last vertex, ascending
-pub record AreFirst (members : List ℕ) (last : ℕ) (list : List ℕ) : Type 0 where
-  pub set : IsVertexSet last list
-  pub same : (v : ℕ) → IsVertex last v → has list v ≡ has members v
-
 -- of the open vertices up to a last one the best is one that pays most, and this is what it pays
 abbrev pub IsDearest : Graph → List ℕ → ℕ → Option ℕ → ℕ → Type 0
 IsDearest g out last None p = (w : ℕ) → IsVertex last w → IsOpen g out w → ⊥

@@ -3,7 +3,7 @@ ghost use Rattle.st_model.specs.Network.{IsVertex};
 ghost use Rattle.tree_heuristic.specs.Growing.{IsGrowing, waiting};
 
 use graph_store::Store;
-use st_model::VertexSet;
+use st_model::Sides;
 use std::alloc::{AllocError, Global};
 use std::cmp::Reverse;
 use std::collections::BinaryHeap;
@@ -27,7 +27,7 @@ impl Growing {
     pub fn over(
         alloc: Global,
         store: &Store,
-        outside: &VertexSet,
+        branch: &Sides,
         worth: &[u64],
         start: u32,
     ) -> Result<Growing, AllocError>
@@ -36,7 +36,7 @@ impl Growing {
     {
         let mut growing = Growing::at(alloc, store.vertices(), start)?;
         while let Some((cost, vertex)) = growing.next() {
-            growing.take(store, outside, worth, cost, vertex)?;
+            growing.take(store, branch, worth, cost, vertex)?;
         }
         Ok(growing)
     }
@@ -75,7 +75,8 @@ impl Growing {
     fn offer(&mut self, cost: u64, to: u32, from: u32) -> Result<(), AllocError>
         requires best { to < length self.old.best.items }
         requires from { to < length self.old.from.items }
-        ensures growing { OnOk result ((n : ℕ) → IsVertex n to → IsVertex n from → IsGrowing n self.old → IsGrowing n self.new) }
+        ensures growing { OnOk result ((n : ℕ) → IsVertex n to → IsVertex n from → IsGrowing n self.old →
+            IsGrowing n self.new) }
         ensures fewer { OnOk result (waiting self.new ≤ waiting self.old) }
         ensures joined { self.new.joined ≡ self.old.joined }
     {
@@ -92,7 +93,7 @@ impl Growing {
     fn take(
         &mut self,
         store: &Store,
-        outside: &VertexSet,
+        branch: &Sides,
         worth: &[u64],
         cost: u64,
         vertex: u32,
@@ -109,7 +110,7 @@ impl Growing {
         if cost < worth[vertex as usize] {
             self.join(store, vertex)?;
         }
-        self.expand(store, outside, vertex)
+        self.expand(store, branch, vertex)
     }
 
     // The path to a vertex joins the tree, from its end on.
@@ -130,7 +131,7 @@ impl Growing {
     }
 
     // Offers each vertex that is linked with this one and not outside what it costs by there.
-    fn expand(&mut self, store: &Store, outside: &VertexSet, vertex: u32) -> Result<(), AllocError>
+    fn expand(&mut self, store: &Store, branch: &Sides, vertex: u32) -> Result<(), AllocError>
         requires growing { IsGrowing store.now.network.n self.old }
         requires vertex { IsVertex store.now.network.n vertex }
         ensures growing { OnOk result (IsGrowing store.now.network.n self.new) }
@@ -138,7 +139,7 @@ impl Growing {
     {
         let cost = self.best[vertex as usize];
         for half in store.neighbours(vertex) {
-            if !outside.contains(half.to) {
+            if !branch.is_outside(half.to) {
                 self.offer(cost.saturating_add(half.cost), half.to, vertex)?;
             }
         }

@@ -2,9 +2,9 @@ ghost use Rattle.std.specs.Prelude.{◌≡◌, ℕ, List, ◌+◌, ◌<◌, [], 
 ghost use Rattle.st_model.specs.Arborescence.{IsArborescence};
 ghost use Rattle.st_model.specs.Lists.{has};
 ghost use Rattle.st_model.specs.Network.{IsInstance, IsVertex};
-ghost use Rattle.tree_heuristic.specs.Keeping.{AreWorth, IsPruned, IsStartWorth, is_cut, is_fork, is_spare, tree_of};
+ghost use Rattle.tree_heuristic.specs.Keeping.{AreWorth, IsPruned, IsStartWorth, KeepsArc, is_cut, is_fork, is_spare, tree_of};
 
-use st_model::{Instance, Listed, Need, Tree, VertexSet};
+use st_model::{Instance, Listed, Need, Sides, Tree, VertexSet};
 use std::alloc::{AllocError, Global};
 
 // What is kept of a tree: its start, and arcs with the last first.
@@ -22,19 +22,19 @@ impl Kept {
     pub fn of(
         alloc: Global,
         instance: &Instance,
-        inside: &VertexSet,
+        branch: &Sides,
         tree: Tree,
     ) -> Result<Kept, AllocError>
         requires { IsArborescence instance.now tree }
-        ensures pruned { IfOk result (λ kept. IsPruned instance.now inside.now.members tree (tree_of kept)) }
-        ensures worth { IfOk result (λ kept. AreWorth instance.now inside.now.members (reverse kept.arcs.items)) }
+        ensures pruned { IfOk result (λ kept. IsPruned instance.now branch.now.inside tree (tree_of kept)) }
+        ensures worth { IfOk result (λ kept. AreWorth instance.now branch.now.inside (reverse kept.arcs.items)) }
         ensures forks { IfOk result (λ kept. (v : ℕ) → has kept.forks.members v ≡ is_fork (reverse kept.arcs.items) v) }
         ensures instance { IfOk result (λ _. IsInstance instance.now) }
     {
         let mut kept = Kept::nothing(alloc, instance.vertices(), tree.start)?;
         let mut arcs = tree.arcs.into_vec();
         while let Some((tail, head)) = arcs.pop() {
-            kept.judge(instance, inside, tail, head)?;
+            kept.judge(instance, branch, tail, head)?;
         }
         Ok(kept)
     }
@@ -57,7 +57,7 @@ impl Kept {
     fn judge(
         &mut self,
         instance: &Instance,
-        inside: &VertexSet,
+        branch: &Sides,
         tail: u32,
         head: u32,
     ) -> Result<(), AllocError>
@@ -65,14 +65,12 @@ impl Kept {
         requires head { IsVertex instance.now.n head }
         requires tails { self.old.tails.count ≡ instance.now.n + 1 }
         requires forks { self.old.forks.count ≡ instance.now.n + 1 }
-        ensures cut { OnOk result (IsTrue (is_cut instance.now inside.now.members self.old.tails.members (tail, head)) → self.new ≡ self.old) }
-        ensures start { self.new.start ≡ self.old.start }
-        ensures arcs { OnOk result (IsFalse (is_cut instance.now inside.now.members self.old.tails.members (tail, head)) → self.new.arcs.items ≡ self.old.arcs.items ++ (tail, head) ∷ []) }
-        ensures tails { OnOk result (IsFalse (is_cut instance.now inside.now.members self.old.tails.members (tail, head)) → (v : ℕ) → has self.new.tails.members v ≡ ((tail == v) || has self.old.tails.members v)) }
-        ensures forks { OnOk result (IsFalse (is_cut instance.now inside.now.members self.old.tails.members (tail, head)) → (v : ℕ) → has self.new.forks.members v ≡ (((tail == v) && has self.old.tails.members v) || has self.old.forks.members v)) }
-        ensures counts { (self.new.tails.count ≡ self.old.tails.count) × (self.new.forks.count ≡ self.old.forks.count) }
+        ensures cut { OnOk result (IsTrue (is_cut instance.now branch.now.inside self.old.tails.members
+            (tail, head)) → self.new ≡ self.old) }
+        ensures kept { OnOk result (IsFalse (is_cut instance.now branch.now.inside self.old.tails.members
+            (tail, head)) → KeepsArc self.old (tail, head) self.new) }
     {
-        if !self.tails.contains(head) && to_spare(instance, inside, head, (tail, head)) {
+        if !self.tails.contains(head) && to_spare(instance, branch, head, (tail, head)) {
             return Ok(());
         }
         self.keep(tail, head)
@@ -81,11 +79,7 @@ impl Kept {
     fn keep(&mut self, tail: u32, head: u32) -> Result<(), AllocError>
         requires tails { tail < self.old.tails.count }
         requires forks { tail < self.old.forks.count }
-        ensures start { self.new.start ≡ self.old.start }
-        ensures arcs { OnOk result (self.new.arcs.items ≡ self.old.arcs.items ++ (tail, head) ∷ []) }
-        ensures tails { OnOk result ((v : ℕ) → has self.new.tails.members v ≡ ((tail == v) || has self.old.tails.members v)) }
-        ensures forks { OnOk result ((v : ℕ) → has self.new.forks.members v ≡ (((tail == v) && has self.old.tails.members v) || has self.old.forks.members v)) }
-        ensures counts { (self.new.tails.count ≡ self.old.tails.count) × (self.new.forks.count ≡ self.old.forks.count) }
+        ensures { OnOk result (KeepsArc self.old (tail, head) self.new) }
     {
         if self.tails.contains(tail) {
             add(&mut self.forks, tail)?;
@@ -95,34 +89,34 @@ impl Kept {
     }
 
     // Moves the start on while it is a leaf that isn't worth it.
-    pub fn trim(&mut self, instance: &Instance, inside: &VertexSet)
+    pub fn trim(&mut self, instance: &Instance, branch: &Sides)
         requires tree { IsArborescence instance.now (tree_of self.old) }
-        requires worth { AreWorth instance.now inside.now.members (reverse self.old.arcs.items) }
+        requires worth { AreWorth instance.now branch.now.inside (reverse self.old.arcs.items) }
         requires forks { (v : ℕ) → has self.old.forks.members v ≡ is_fork (reverse self.old.arcs.items) v }
         requires instance { IsInstance instance.now }
-        ensures pruned { IsPruned instance.now inside.now.members (tree_of self.old) (tree_of self.new) }
-        ensures worth { AreWorth instance.now inside.now.members (reverse self.new.arcs.items) }
-        ensures start { IsStartWorth instance.now inside.now.members self.new.start (reverse self.new.arcs.items) }
+        ensures pruned { IsPruned instance.now branch.now.inside (tree_of self.old) (tree_of self.new) }
+        ensures worth { AreWorth instance.now branch.now.inside (reverse self.new.arcs.items) }
+        ensures start { IsStartWorth instance.now branch.now.inside self.new.start (reverse self.new.arcs.items) }
     {
-        while let Some((_, head)) = self.loosen(instance, inside) {
+        while let Some((_, head)) = self.loosen(instance, branch) {
             self.start = head;
         }
     }
 
     // Takes the first arc away where the start is a leaf that isn't worth it.
-    fn loosen(&mut self, instance: &Instance, inside: &VertexSet) -> Option<(u32, u32)>
+    fn loosen(&mut self, instance: &Instance, branch: &Sides) -> Option<(u32, u32)>
         requires { IsVertex instance.now.n self.old.start }
         ensures taken { IfSome result (λ arc. self.old.arcs.items ≡ self.new.arcs.items ++ arc ∷ []) }
         ensures leaf { IfSome result (λ arc. IsFalse (has self.old.forks.members self.old.start)) }
-        ensures spare { IfSome result (λ arc. IsTrue (is_spare instance.now inside.now.members self.old.start arc)) }
+        ensures spare { IfSome result (λ arc. IsTrue (is_spare instance.now branch.now.inside self.old.start arc)) }
         ensures left { IfNone result (self.new.arcs.items ≡ self.old.arcs.items) }
         ensures worth { IfNone result ((front : List (ℕ × ℕ)) (arc : ℕ × ℕ) → self.old.arcs.items ≡ front ++ arc ∷ [] →
-            IsTrue (has self.old.forks.members self.old.start) ⊎ IsFalse (is_spare instance.now inside.now.members self.old.start arc)) }
+            IsTrue (has self.old.forks.members self.old.start) ⊎ IsFalse (is_spare instance.now branch.now.inside self.old.start arc)) }
         ensures start { self.new.start ≡ self.old.start }
         ensures forks { self.new.forks ≡ self.old.forks }
     {
         let arc = *self.arcs.last()?;
-        if self.forks.contains(self.start) || !to_spare(instance, inside, self.start, arc) {
+        if self.forks.contains(self.start) || !to_spare(instance, branch, self.start, arc) {
             return None;
         }
         self.arcs.pop();
@@ -143,14 +137,14 @@ impl Kept {
 }
 
 // Whether a vertex is neither required nor inside and pays less than a link costs.
-fn to_spare(instance: &Instance, inside: &VertexSet, vertex: u32, link: (u32, u32)) -> bool
+fn to_spare(instance: &Instance, branch: &Sides, vertex: u32, link: (u32, u32)) -> bool
     requires { IsVertex instance.now.n vertex }
-    ensures { result ≡ is_spare instance.now inside.now.members vertex link }
+    ensures { result ≡ is_spare instance.now branch.now.inside vertex link }
 {
     match instance.need(vertex) {
         Need::Required => false,
         Need::Pays(prize) => {
-            !inside.contains(vertex) && prize < instance.link_cost(link.0, link.1).unwrap_or(0)
+            !branch.is_inside(vertex) && prize < instance.link_cost(link.0, link.1).unwrap_or(0)
         }
     }
 }

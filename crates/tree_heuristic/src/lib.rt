@@ -18,4 +18,4 @@ mod walls;
 
 pub use first::first_tree;
 pub use pruning::prune;
-pub use walls::{all_trees, wall};
+pub use walls::{store_wall, wall};

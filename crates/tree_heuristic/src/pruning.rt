@@ -4,7 +4,7 @@ ghost use Rattle.st_model.specs.Branch.{Belongs, IsBranch};
 ghost use Rattle.tree_heuristic.specs.Leaves.{NoLeafToSpare};
 
 use crate::kept::Kept;
-use st_model::{Branch, Instance, Tree, VertexSet};
+use st_model::{Instance, Sides, Tree};
 use std::alloc::{AllocError, Global};
 
 /// A tree of the branch that costs no more than the one that is given, and of which no leaf that
@@ -13,7 +13,7 @@ use std::alloc::{AllocError, Global};
 pub fn prune(
     alloc: Global,
     instance: &Instance,
-    branch: &Branch,
+    branch: &Sides,
     tree: Tree,
 ) -> Result<Tree, AllocError>
     requires branch { IsBranch instance.now branch.now }
@@ -24,9 +24,7 @@ pub fn prune(
     ensures cost { IfOk result (λ new. cost instance.now new ≤ cost instance.now tree) }
     ensures leaves { IfOk result (NoLeafToSpare instance.now branch.now) }
 {
-    let count = instance.vertices() as usize + 1;
-    let inside = VertexSet::of(alloc, count, branch.inside.as_slice())?;
-    let mut kept = Kept::of(alloc, instance, &inside, tree)?;
-    kept.trim(instance, &inside);
+    let mut kept = Kept::of(alloc, instance, branch, tree)?;
+    kept.trim(instance, branch);
     Ok(kept.into_tree())
 }

@@ -6,7 +6,7 @@ ghost use Rattle.tree_heuristic.specs.Spreading.{IsSpread, IsClosed, Follows, Ha
 
 use crate::growing::Growing;
 use graph_store::Store;
-use st_model::{Listed, Tree, VertexSet};
+use st_model::{Listed, Sides, Tree, VertexSet};
 use std::alloc::{AllocError, Global};
 
 // A tree that is being grown from a start, and the vertices that it reaches in their order.
@@ -22,21 +22,22 @@ impl Spread {
     pub fn over(
         alloc: Global,
         store: &Store,
-        outside: &VertexSet,
+        branch: &Sides,
         start: u32,
     ) -> Result<Spread, AllocError>
         requires present { IsTrue (is_in store.now start) }
-        requires inside { IsFalse (has outside.now.members start) }
+        requires inside { IsFalse (has branch.now.outside start) }
         requires vertex { IsVertex store.now.network.n start }
-        ensures spread { IfOk result (IsSpread store.now outside.now.members) }
-        ensures closed { IfOk result (λ spread. IsClosed store.now.network outside.now.members spread.reached.members spread.reached.members) }
+        ensures spread { IfOk result (IsSpread store.now branch.now.outside) }
+        ensures closed { IfOk result (λ spread. IsClosed store.now.network branch.now.outside
+            spread.reached.members spread.reached.members) }
         ensures start { IfOk result (λ spread. spread.start ≡ start) }
         ensures graph { IfOk result (λ _. IsGraph store.now) }
     {
         let mut spread = Spread::at(alloc, store.vertices(), start)?;
         let mut next = 0;
         while let Some(tail) = spread.reached.member(next) {
-            spread.reach(store, outside, tail)?;
+            spread.reach(store, branch, tail)?;
             next += 1;
         }
         Ok(spread)
@@ -47,21 +48,21 @@ impl Spread {
     pub fn along(
         alloc: Global,
         store: &Store,
-        outside: &VertexSet,
+        branch: &Sides,
         growing: &Growing,
         start: u32,
     ) -> Result<Spread, AllocError>
         requires present { IsTrue (is_in store.now start) }
-        requires inside { IsFalse (has outside.now.members start) }
+        requires inside { IsFalse (has branch.now.outside start) }
         requires vertex { IsVertex store.now.network.n start }
-        ensures spread { IfOk result (IsSpread store.now outside.now.members) }
+        ensures spread { IfOk result (IsSpread store.now branch.now.outside) }
         ensures start { IfOk result (λ spread. spread.start ≡ start) }
         ensures graph { IfOk result (λ _. IsGraph store.now) }
     {
         let mut spread = Spread::at(alloc, store.vertices(), start)?;
         let mut next = 0;
         while let Some(tail) = spread.reached.member(next) {
-            spread.reach_along(store, outside, growing, tail)?;
+            spread.reach_along(store, branch, growing, tail)?;
             next += 1;
         }
         Ok(spread)
@@ -85,14 +86,14 @@ impl Spread {
     }
 
     // Reaches from a tail each vertex that it is linked with and that isn't outside.
-    fn reach(&mut self, store: &Store, outside: &VertexSet, tail: u32) -> Result<(), AllocError>
-        requires spread { IsSpread store.now outside.now.members self.old }
+    fn reach(&mut self, store: &Store, branch: &Sides, tail: u32) -> Result<(), AllocError>
+        requires spread { IsSpread store.now branch.now.outside self.old }
         requires tail { IsTrue (has self.old.reached.members tail) }
         requires vertex { IsVertex store.now.network.n tail }
-        ensures { OnOk result (HasFollowed store.now outside.now.members self.old tail self.new) }
+        ensures { OnOk result (HasFollowed store.now branch.now.outside self.old tail self.new) }
     {
         for half in store.neighbours(tail) {
-            self.follow(outside, tail, half.to)?;
+            self.follow(branch, tail, half.to)?;
         }
         Ok(())
     }
@@ -101,31 +102,32 @@ impl Spread {
     fn reach_along(
         &mut self,
         store: &Store,
-        outside: &VertexSet,
+        branch: &Sides,
         growing: &Growing,
         tail: u32,
     ) -> Result<(), AllocError>
-        requires spread { IsSpread store.now outside.now.members self.old }
+        requires spread { IsSpread store.now branch.now.outside self.old }
         requires tail { IsTrue (has self.old.reached.members tail) }
         requires vertex { IsVertex store.now.network.n tail }
-        ensures spread { OnOk result (IsSpread store.now outside.now.members self.new) }
+        ensures spread { OnOk result (IsSpread store.now branch.now.outside self.new) }
         ensures start { OnOk result (self.new.start ≡ self.old.start) }
-        ensures keeps { OnOk result (take (length self.old.reached.members) self.new.reached.members ≡ self.old.reached.members) }
+        ensures keeps { OnOk result (take (length self.old.reached.members) self.new.reached.members
+            ≡ self.old.reached.members) }
     {
         for half in store.neighbours(tail) {
             if growing.leads(tail, half.to) {
-                self.follow(outside, tail, half.to)?;
+                self.follow(branch, tail, half.to)?;
             }
         }
         Ok(())
     }
 
     // Takes an arc, unless its head is outside or reached.
-    fn follow(&mut self, outside: &VertexSet, tail: u32, head: u32) -> Result<(), AllocError>
+    fn follow(&mut self, branch: &Sides, tail: u32, head: u32) -> Result<(), AllocError>
         requires { head < self.old.reached.count }
-        ensures { OnOk result (Follows outside.now.members self.old tail head self.new) }
+        ensures { OnOk result (Follows branch.now.outside self.old tail head self.new) }
     {
-        if outside.contains(head) || self.reached.contains(head) {
+        if branch.is_outside(head) || self.reached.contains(head) {
             return Ok(());
         }
         self.take(tail, head)

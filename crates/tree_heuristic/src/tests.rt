@@ -1,8 +1,8 @@
 ghost use Rattle.std.specs.Prelude.{◌≡◌, IfOk};
 
-use crate::{all_trees, first_tree, prune, wall};
+use crate::{first_tree, prune, wall};
 use graph_store::Store;
-use st_model::{Instance, Listed, Need, Tree, is_tree, tree_cost};
+use st_model::{Branch, Instance, Listed, Need, Sides, Tree, is_tree, tree_cost};
 use std::alloc::{AllocError, Global};
 use std::test::Fail;
 use test_instances::{link, triangle_with_centre};
@@ -28,7 +28,7 @@ fn path(alloc: Global) -> Result<Instance, AllocError>
 // What the first tree costs, if there is one, and u64::MAX where it is none.
 fn first_cost(alloc: Global, instance: &Instance) -> Result<Option<u64>, AllocError> {
     let store = Store::of(alloc, instance)?;
-    let Some(tree) = first_tree(alloc, &store, &all_trees(alloc))? else {
+    let Some(tree) = first_tree(alloc, &store, &Sides::of(alloc, Branch::all(alloc))?)? else {
         return Ok(None);
     };
     if !is_tree(alloc, instance, &tree)? {
@@ -51,7 +51,12 @@ fn pruned_cost(
     if !is_tree(alloc, instance, &tree)? {
         return Ok(u64::MAX);
     }
-    let left = prune(alloc, instance, &all_trees(alloc), tree)?;
+    let left = prune(
+        alloc,
+        instance,
+        &Sides::of(alloc, Branch::all(alloc))?,
+        tree,
+    )?;
     Ok(tree_cost(instance, &left))
 }
 

@@ -11,14 +11,15 @@ use super::plain::{
 };
 use crate::Arcs;
 use graph_store::Store;
-use st_model::{Branch, Listed};
+use st_model::{Branch, Listed, Sides};
 use std::alloc::{AllocError, Global};
 use std::test::Fail;
 use test_instances::Draws;
 
 // The vertices of 1 to 6 that have a mark, ascending.
 fn members(alloc: Global, set: &[bool]) -> Result<Vec<u32>, AllocError>
-    ensures { IfOk result (λ list. list.items ≡ filter (λ v. slice_index_or set.now v false) (1 ∷ 2 ∷ 3 ∷ 4 ∷ 5 ∷ 6 ∷ [])) }
+    ensures { IfOk result (λ list. list.items
+        ≡ filter (λ v. slice_index_or set.now v false) (1 ∷ 2 ∷ 3 ∷ 4 ∷ 5 ∷ 6 ∷ [])) }
 {
     [1, 2, 3, 4, 5, 6u32]
         .iter()
@@ -55,6 +56,7 @@ fn arcs_of(alloc: Global, case: &Case, root: u32) -> Result<Arcs, AllocError>
         inside: Listed::of(members(alloc, &case.inside)?),
         outside: Listed::of(members(alloc, &case.outside)?),
     };
+    let branch = Sides::of(alloc, branch)?;
     Arcs::of(alloc, &store, &branch, root)
 }
 

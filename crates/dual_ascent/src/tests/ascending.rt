@@ -6,7 +6,7 @@ use bidirected_form::Arcs;
 use cut_packing::Packing;
 use graph_store::Store;
 use prize_transform::Twins;
-use st_model::{Branch, Instance, Listed, Need};
+use st_model::{Branch, Instance, Need, Sides};
 use std::alloc::{AllocError, Global};
 use std::test::Fail;
 use test_instances::{pair, triangle_with_centre};
@@ -17,10 +17,7 @@ fn whole(alloc: Global, instance: &Instance) -> Result<(Arcs, Twins), AllocError
     ensures { IfOk result (λ made. AreEndsOf made.0 made.1) }
 {
     let store = Store::of(alloc, instance)?;
-    let branch = Branch {
-        inside: Listed::of(Vec::new(alloc)),
-        outside: Listed::of(Vec::new(alloc)),
-    };
+    let branch = Sides::of(alloc, Branch::all(alloc))?;
     let arcs = Arcs::of(alloc, &store, &branch, 1)?;
     let twins = Twins::of(alloc, &arcs)?;
     Ok((arcs, twins))
@@ -42,10 +39,9 @@ fn ascend_whole(
 
 // Whether the target was reached, what the cuts weigh, and how many they are.
 fn outcome(ascent: &Ascent) -> (bool, u64, usize) {
-    match ascent {
-        Ascent::Full(packing) => (false, weight(packing), packing.cuts.as_slice().len()),
-        Ascent::Reached(packing) => (true, weight(packing), packing.cuts.as_slice().len()),
-    }
+    let packing = ascent.packing();
+    let cuts = packing.cuts.as_slice().len();
+    (ascent.is_reached(), weight(packing), cuts)
 }
 
 fn weight(packing: &Packing) -> u64 {

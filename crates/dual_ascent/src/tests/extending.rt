@@ -1,15 +1,16 @@
-ghost use Rattle.std.specs.Prelude.{◌≡◌, [], ◌+◌, ◌<◌, IsTrue, IfOk, All};
+ghost use Rattle.std.specs.Prelude.{◌≡◌, ◌↔◌, [], ◌+◌, ◌<◌, IsTrue, IfOk, All};
 ghost use Rattle.std.specs.Bool.{OnTrue};
 ghost use Rattle.std.specs.List.Sorted.{IsStrictlyIncreasing};
 ghost use Rattle.st_model.specs.Network.{IsVertex, is_required};
+ghost use Rattle.cut_packing.specs.Packing.{Fits};
 ghost use Rattle.dual_ascent.specs.Extension.{IsStart, IsRootFor};
 
-use crate::{Ascent, charge_cuts, extend, joined_is_full};
+use crate::{charge_cuts, extend, joined_is_full};
 use bidirected_form::Arcs;
 use cut_packing::{Cut, Packing, fits, weight};
 use graph_store::Store;
 use prize_transform::Twins;
-use st_model::{Branch, Instance, Listed, Need};
+use st_model::{Branch, Instance, Listed, Need, Sides};
 use std::alloc::{AllocError, Global};
 use std::test::Fail;
 use test_instances::{link, triangle_with_centre};
@@ -19,17 +20,6 @@ fn path(alloc: Global) -> Result<Instance, AllocError> {
     let links = [link(1, 2, 5), link(2, 3, 4)];
     let needs = [(1, Need::Required), (2, Need::Pays(3)), (3, Need::Required)];
     Instance::build(alloc, 3, &links, &needs)
-}
-
-// The branch of all trees.
-fn everything(alloc: Global) -> Branch
-    ensures inside { result.inside ≡ [] }
-    ensures outside { result.outside ≡ [] }
-{
-    Branch {
-        inside: Listed::of(Vec::new(alloc)),
-        outside: Listed::of(Vec::new(alloc)),
-    }
 }
 
 fn cut(alloc: Global, set: &[u32], q: u32, y: u64) -> Result<Cut, AllocError> {
@@ -94,7 +84,7 @@ fn has_root(packing: &Packing, root: u32) -> bool
 fn can_extend(
     alloc: Global,
     instance: &Instance,
-    branch: &Branch,
+    branch: &Sides,
     packing: &Packing,
     root: u32,
 ) -> Result<bool, AllocError>
@@ -120,7 +110,7 @@ fn charged(
     packing: &Packing,
     root: u32,
 ) -> Result<Option<(Arcs, Twins)>, AllocError> {
-    let branch = everything(alloc);
+    let branch = Sides::of(alloc, Branch::all(alloc))?;
     if !can_extend(alloc, instance, &branch, packing, root)? {
         return Ok(None);
     }
@@ -180,16 +170,15 @@ fn extended(
     root: u32,
     target: u64,
 ) -> Result<Option<(bool, u128)>, AllocError> {
-    let branch = everything(alloc);
+    let branch = Sides::of(alloc, Branch::all(alloc))?;
     if !can_extend(alloc, instance, &branch, &packing, root)? {
         return Ok(None);
     }
     let store = Store::of(alloc, instance)?;
     let extension = extend(alloc, &store, &branch, packing, root, &[], target)?;
-    Ok(Some(match &extension.ascent {
-        Ascent::Full(found) => (true, weight(instance, &branch, found)),
-        Ascent::Reached(found) => (false, weight(instance, &branch, found)),
-    }))
+    let ascent = &extension.ascent;
+    let weighs = weight(instance, branch.branch(), ascent.packing());
+    Ok(Some((!ascent.is_reached(), weighs)))
 }
 
 #[test]

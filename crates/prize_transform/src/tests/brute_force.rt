@@ -4,7 +4,7 @@ use super::{charge, go_back};
 use crate::Twins;
 use bidirected_form::Arcs;
 use graph_store::Store;
-use st_model::{Branch, Instance, Listed, Need};
+use st_model::{Branch, Instance, Listed, Need, Sides};
 use std::alloc::{AllocError, Global};
 use std::test::Fail;
 use test_instances::Draws;
@@ -37,9 +37,10 @@ fn drawn(alloc: Global, draws: &mut Draws) -> Result<(Twins, Vec<(u32, u64)>), A
         outside: Listed::of(numbers(alloc, draws, 1)?),
     };
     let store = Store::of(alloc, &instance)?;
-    let arcs = Arcs::of(alloc, &store, &branch, 1)?;
+    let sides = Sides::of(alloc, branch)?;
+    let arcs = Arcs::of(alloc, &store, &sides, 1)?;
     let twins = Twins::of(alloc, &arcs)?;
-    Ok((twins, plain_prizes(alloc, &instance, &branch)?))
+    Ok((twins, plain_prizes(alloc, &instance, sides.branch())?))
 }
 
 fn plain_prize(instance: &Instance, branch: &Branch, v: u32) -> u64

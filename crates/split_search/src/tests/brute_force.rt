@@ -1,5 +1,6 @@
 use super::starting::{bit, bounds};
 use crate::OpenGate;
+use graph_store::Whole;
 use st_model::{Instance, Link, Need};
 use std::test::Fail;
 use test_instances::Draws;
@@ -74,7 +75,8 @@ fn agrees_with_all_subsets(rt: HostRuntime) -> Result<(), Fail> {
     for seed in 1..21u64 {
         let instance = Draws { state: seed }.instance(rt.alloc())?;
         let want = least_over_sets(&instance);
-        let got = bounds(rt.alloc(), &instance, u64::MAX, &OpenGate)?;
+        let whole = Whole::of(rt.alloc(), instance)?;
+        let got = bounds(rt.alloc(), &whole, u64::MAX, &OpenGate)?;
         assert_eq!(rt; got, want.map(|cost| (cost, cost)), "with seed {seed}");
     }
     Ok(())

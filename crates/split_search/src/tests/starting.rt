@@ -5,6 +5,7 @@ ghost use Rattle.st_model.specs.Network.{IsVertex, is_required, pays};
 ghost use Rattle.split_search.specs.Searched.{IsNobodyRequired};
 
 use crate::{Gate, search};
+use graph_store::Whole;
 use st_model::{Instance, Listed, Need, Tree, is_tree};
 use std::alloc::{AllocError, Global};
 
@@ -12,33 +13,33 @@ use std::alloc::{AllocError, Global};
 // else from vertex 1 alone. None where that isn't a tree.
 pub fn bounds<G: Gate>(
     alloc: Global,
-    instance: &Instance,
+    whole: &Whole,
     budget: u64,
     gate: &G,
 ) -> Result<Option<(u64, u64)>, AllocError> {
-    match first_required(instance) {
+    match first_required(&whole.instance) {
         Some(vertex) => {
-            let start = grown(alloc, instance, vertex)?;
-            bounds_from(alloc, instance, start, budget, gate)
+            let start = grown(alloc, &whole.instance, vertex)?;
+            bounds_from(alloc, whole, start, budget, gate)
         }
-        None => bounds_from(alloc, instance, lone(alloc, instance), budget, gate),
+        None => bounds_from(alloc, whole, lone(alloc, &whole.instance), budget, gate),
     }
 }
 
 fn bounds_from<G: Gate>(
     alloc: Global,
-    instance: &Instance,
+    whole: &Whole,
     start: Tree,
     budget: u64,
     gate: &G,
 ) -> Result<Option<(u64, u64)>, AllocError>
-    requires { IsNobodyRequired instance.now
-        → cost instance.now start ≤ sum_to (pays instance.now) instance.now.n }
+    requires { IsNobodyRequired whole.now.instance
+        → cost whole.now.instance start ≤ sum_to (pays whole.now.instance) whole.now.instance.n }
 {
-    if !is_tree(alloc, instance, &start)? {
+    if !is_tree(alloc, &whole.instance, &start)? {
         return Ok(None);
     }
-    let found = search(alloc, instance, start, budget, gate)?;
+    let found = search(alloc, whole, start, budget, gate)?;
     Ok(Some((found.dual, found.primal)))
 }
 

@@ -37,6 +37,14 @@ const ANSWERS: &[(&str, Status, u8, &str)] = &[
     ),
 ];
 
+/// Whether these are the names that were asked for.
+fn have_names(asked: Option<&[String]>, want: &[&str]) -> bool {
+    asked.is_some_and(|names| names
+        .iter()
+        .map(|name| name.as_str())
+        .eq(want.iter().copied()))
+}
+
 #[test]
 fn answers_logs(rt: HostRuntime) -> Result<(), Fail> {
     for (log, status, code, line) in ANSWERS {
@@ -44,6 +52,7 @@ fn answers_logs(rt: HostRuntime) -> Result<(), Fail> {
         let text = text_of(rt.alloc(), log)?;
         assert!(rt; shelf.save("b", &text).is_ok());
         ends(&rt, "check a.stp b", &mut shelf, (*status, *code, line))?;
+        assert!(rt; have_names(shelf.asked(), &["a.stp", "b"]));
     }
     Ok(())
 }

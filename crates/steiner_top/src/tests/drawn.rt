@@ -1,13 +1,13 @@
 use super::{ends, sink_of, words_of};
-use crate::{OpenGate, Outcome, Status, run};
+use crate::{OpenGate, Outcome, Status, run, solve_bytes};
 use graph_store::Store;
 use st_edge::MemoryShelf;
-use st_model::{is_tree, tree_cost};
+use st_model::{Branch, Sides, is_tree, tree_cost};
 use std::alloc::{AllocError, Global};
 use std::process::Abort;
 use std::test::Fail;
 use stp_reader::read_stp;
-use tree_heuristic::{all_trees, first_tree, prune};
+use tree_heuristic::{first_tree, prune};
 
 /// The next of some numbers that look random (Park and Miller 1988).
 fn draw(state: &mut u64, below: u64) -> u64 {
@@ -66,27 +66,33 @@ fn accepts_the_logs_of_drawn_files(rt: HostRuntime) -> Result<(), Fail> {
     Ok(())
 }
 
-/// The first tree of a drawn file is one, and pruned it is still one and costs no more.
-fn is_pruned(rt: &(impl Abort + AllocGlobal), seed: u64) -> Result<(), Fail> {
-    let text = file_of(rt.alloc(), seed)?;
-    let instance = read_stp(rt.alloc(), text.as_bytes())?;
+/// The first tree of a file is one, and pruned it is still one and costs no more. Without a budget solving gives a tree
+/// of the pruned one's cost.
+fn compare_starts(rt: &(impl Abort + AllocGlobal), text: &[u8]) -> Result<(), Fail> {
+    let instance = read_stp(rt.alloc(), text)?;
     let store = Store::of(rt.alloc(), &instance)?;
-    let branch = all_trees(rt.alloc());
+    let branch = Sides::of(rt.alloc(), Branch::all(rt.alloc()))?;
     let Some(tree) = first_tree(rt.alloc(), &store, &branch)? else {
         return Err(Fail::new("no tree"));
     };
-    assert!(rt; is_tree(rt.alloc(), &instance, &tree)?, "for {seed}");
+    assert!(rt; is_tree(rt.alloc(), &instance, &tree)?);
     let before = tree_cost(&instance, &tree);
     let pruned = prune(rt.alloc(), &instance, &branch, tree)?;
-    assert!(rt; is_tree(rt.alloc(), &instance, &pruned)?, "for {seed}");
-    assert!(rt; tree_cost(&instance, &pruned) <= before, "for {seed}");
+    assert!(rt; is_tree(rt.alloc(), &instance, &pruned)?);
+    let after = tree_cost(&instance, &pruned);
+    assert!(rt; after <= before);
+    let Ok(Outcome::Found { primal, .. }) = solve_bytes(rt.alloc(), text, 0, &OpenGate) else {
+        return Err(Fail::new("no tree"));
+    };
+    assert_eq!(rt; primal, after);
     Ok(())
 }
 
 #[test]
-fn prunes_the_first_trees_of_drawn_files(rt: HostRuntime) -> Result<(), Fail> {
+fn starts_from_the_pruned_first_tree(rt: HostRuntime) -> Result<(), Fail> {
     for seed in 1..21 {
-        is_pruned(&rt, seed)?;
+        let text = file_of(rt.alloc(), seed)?;
+        compare_starts(&rt, text.as_bytes())?;
     }
     Ok(())
 }

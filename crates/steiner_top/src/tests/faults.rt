@@ -43,6 +43,7 @@ fn ends_at_each_write_that_fails(rt: HostRuntime) -> Result<(), Fail> {
         let words = words_of(rt.alloc(), "solve a.stp --log b")?;
         let ended = run(rt.alloc(), &words, &mut shelf, &mut out, &OpenGate);
         assert_eq!(rt; ended.status, Status::WriteFault);
+        assert!(rt; ended.outcome.is_none());
         assert_eq!(rt;
             out.bytes(),
             STAR.as_bytes().get(..write as usize - 1).unwrap_or(&[])
@@ -60,6 +61,8 @@ impl Shelf for LongShelf {
     ghost use Rattle.std.specs.Prelude.{None};
 
     ghost text = { λ _ _. None };
+
+    ghost asked = { λ _. None };
 
     ghost read_faults = { λ _. 0 };
 

@@ -1,5 +1,6 @@
-use super::{TRIANGLE, USAGE, ends, shelf_of};
-use crate::Status;
+use super::{TRIANGLE, USAGE, ends, shelf_of, sink_of};
+use crate::{OpenGate, Status, run};
+use st_edge::MemoryShelf;
 use std::test::Fail;
 
 /// Words that mean no command.
@@ -22,6 +23,16 @@ fn sends_the_usage(rt: HostRuntime) -> Result<(), Fail> {
         let mut shelf = shelf_of(rt.alloc(), TRIANGLE, &[])?;
         ends(&rt, line, &mut shelf, (Status::Usage, 2, USAGE))?;
     }
+    Ok(())
+}
+
+#[test]
+fn sends_the_usage_where_there_are_no_words(rt: HostRuntime) -> Result<(), Fail> {
+    let mut shelf = shelf_of(rt.alloc(), TRIANGLE, &[])?;
+    let mut out = sink_of(rt.alloc())?;
+    let ended = run(rt.alloc(), &[], &mut shelf, &mut out, &OpenGate);
+    assert_eq!(rt; ended.status, Status::Usage);
+    assert_eq!(rt; out.bytes(), USAGE.as_bytes());
     Ok(())
 }
 
@@ -49,6 +60,18 @@ const REFUSED: &[(&str, &str)] = &[
         "H / SECTION Graph / Nodes 2 / Edges 1 / E 1 2 -1",
         "refused stp 5 6 BadNumber\n",
     ),
+    (
+        "H / SECTION Graph / Nodes 2 / Edges 1 / E 1 2 5 / END / SECTION Terminals / Terminals 2 / TP 1 3 / TP 1 4 / END / EOF",
+        "refused stp 10 11 RepeatedPrize\n",
+    ),
+    (
+        "H / SECTION Graph / Nodes 2 / Edges 1 / E 1 2 5 / END / SECTION Terminals / Terminals 1 / Root 2 / T 1 / END / EOF",
+        "refused stp 11 12 RootNotTerminal\n",
+    ),
+    (
+        "H / SECTION Graph / Nodes 2 / Edges 1 / E 1 2 5 / END / SECTION Terminals / Terminals 2 / TP 1 3 / TP 2 4 / Root 1 / END / EOF",
+        "refused stp 12 12 RootNotTerminal\n",
+    ),
     ("H / SECTION Presolve", "refused stp 2 3 UnknownSection\n"),
     (
         "H / SECTION Graph / Nodes 2 / Edges 2 / A 1 2 5",
@@ -68,4 +91,13 @@ fn tells_why_a_file_is_refused(rt: HostRuntime) -> Result<(), Fail> {
         )?;
     }
     Ok(())
+}
+
+#[test]
+fn refuses_a_file_of_no_bytes(rt: HostRuntime) -> Result<(), Fail> {
+    let mut texts = Vec::new(rt.alloc());
+    texts.push((String::from_str(rt.alloc(), "a.stp")?, Vec::new(rt.alloc())))?;
+    let mut shelf = MemoryShelf::of(rt.alloc(), texts, Vec::new(rt.alloc()));
+    let want = (Status::RefusedFile, 5, "refused stp 1 1 NoHeader\n");
+    ends(&rt, "solve a.stp", &mut shelf, want)
 }

@@ -1,7 +1,8 @@
 use Rattle.std.proofs.Common.{List, [], ◌∷◌, subst}
 use Rattle.std.specs.Prelude.{IfErr}
+use Rattle.st_model.specs.Branch.{all_trees}
 use Rattle.log_format.specs.declared.proof_line.ProofLine.{ProofLine}
-use Rattle.log_format.specs.Accepts.{all_trees, IsFirstWrong}
+use Rattle.log_format.specs.Accepts.{IsFirstWrong}
 use Rattle.cert_checker.specs.Judging.{IfFault}
 use Rattle.cert_checker.proofs.Judgements.{proof_rejects}
 use Rattle.cert_checker.proofs.judging.judge_claim.Goals as goal

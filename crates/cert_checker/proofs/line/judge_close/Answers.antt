@@ -14,7 +14,7 @@ returns-then-weight-from-clause-wrong c =
     let I = c.args.instance.now in
     let P = c.args.packing.now in
     let B = branch_of c.args.path in
-    let fits = subst (λ (C : Branch). Fits I C P) c.branch-path.ensures (c.in_ok-fits.ensures.0 c.if-not-branch.false) in
+    let fits = subst (λ (C : Branch). Fits I C P) c.branch-path.ensures (c.in_ok-fits_branch.ensures.0 c.if-not-branch.false) in
     let weighs : c.weight.result ≡ weight I B P = rw c.branch-path-2.ensures at c.weight.ensures in
     let light : weight I B P < c.args.dual = omega (arith, c.from.ensures, weighs, c.if-weight-from.true) in
     too_light I c.args.dual B c.args.number P c.at-then-weight-from.result fits light c.at-then-weight-from.ensures

@@ -1,7 +1,7 @@
 use Rattle.std.proofs.Common.{◌≤◌, subst}
 use Rattle.std.specs.Prelude.{All}
 use Rattle.cut_packing.specs.declared.arcs.LoadedArc.{LoadedArc}
-use Rattle.vertex_lists.proofs.VectorLists.{All-lists}
+use Rattle.st_model.proofs.VectorLists.{All-lists}
 use Rattle.cut_packing.proofs.arcs.can_bear.Goals as goal
 
 pub returns : goal.returns

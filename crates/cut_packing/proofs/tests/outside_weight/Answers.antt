@@ -7,8 +7,8 @@ use Rattle.cut_packing.proofs.tests.outside_weight.Goals as goal
 pub weight-requires : goal.weight-requires
 weight-requires c =
     let I = c.in_ok-instance.instance in
-    record {
-      inside = rw c.in_ok-avoided.ensures.inside (record { ascending = λ k below. absurd (omega arith); in_range = All-nil (IsVertex I.n) });
-      outside = rw c.in_ok-avoided.ensures.outside (record { ascending = λ k below. absurd (omega arith); in_range = All-cons (IsVertex I.n) 2 [] (omega arith, omega (arith, c.in_ok-instance.ensures)) (All-nil (IsVertex I.n)) });
-      apart = λ v inside. absurd (false≢true (rw c.in_ok-avoided.ensures.inside at inside));
+    rw (c.branch.ensures, c.in_ok-avoided.ensures) record {
+      inside = record { ascending = λ k below. absurd (omega arith); in_range = All-nil (IsVertex I.n) };
+      outside = record { ascending = λ k below. absurd (omega arith); in_range = All-cons (IsVertex I.n) 2 [] (omega arith, omega (arith, c.in_ok-instance.ensures)) (All-nil (IsVertex I.n)) };
+      apart = λ v inside. absurd (false≢true inside);
     }

@@ -1,7 +1,7 @@
 use Rattle.std.proofs.Common.{◌≡◌, ℕ, ◌&&◌, length}
 use Rattle.std.specs.Prelude.{nat_lt}
 use Rattle.st_model.specs.Lists.{has}
-use Rattle.vertex_lists.specs.Led.{heads_at}
+use Rattle.st_model.specs.Led.{heads_at}
 use Rattle.cut_packing.specs.Loads.{arcs_into}
 use Rattle.cut_packing.specs.UsedUp.{is_used}
 use Rattle.cut_packing.proofs.used_up.heads_of.Given as goal

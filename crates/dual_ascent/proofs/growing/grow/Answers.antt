@@ -1,7 +1,7 @@
 use Rattle.std.proofs.Common.{◌∙◌, sym, subst, arith}
 use Rattle.std.proofs.lemmas.Option.{slice_get_within, get_or_from_slice_get}
 use Rattle.st_model.specs.Network.{IsVertex}
-use Rattle.vertex_lists.proofs.Walked.{slice_get-None}
+use Rattle.st_model.proofs.Walked.{slice_get-None}
 use Rattle.dual_ascent.proofs.Reaching.{apart_more, growing_from, growing_met, growing_more, growing_done, in_range_more}
 use Rattle.dual_ascent.proofs.growing.grow.Goals as goal
 

@@ -12,7 +12,7 @@ returns c =
     let limit = c.limit.result in
     raise_made c.args.arcs.now c.args.twins.now c.args.room c.args.turn.now.waiting.vertex members limit c.in_ok-cut.cut (record {
       in_range = c.requires.in_range;
-      still_open = c.is_open.ensures.0 c.if-not-is_open.false;
+      raisable = c.is_raisable.ensures.0 c.if-not-is_raisable.false;
       some = c.requires.room;
       grown = gathered.0;
       apart = gathered.1;

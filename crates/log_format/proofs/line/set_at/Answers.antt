@@ -14,7 +14,7 @@ loop-preserved c =
     let e : c.push.new.self.items ≡ c.loop.set.items ++ c.in_ok-vertex.vertex ∷ [] = c.in_ok-push.ensures.items in
     record {
       few = c.in_ok-vertex.ensures.in_range;
-      rest_decides = rw e (goes_on c.loop.set.items c.args.count c.loop.counter c.loop.last c.loop.rest.now c.in_ok-vertex.vertex c.in_ok-vertex.behind.now (set_at c.args.count 0 c.args.bytes.now) c.loop-test.true c.in_ok-vertex.ensures.value c.loop.invariant.rest_decides);
+      rest_decides = rw e (goes_on c.loop.set.items c.args.count c.loop.counter c.loop.last c.loop.rest.now c.in_ok-vertex.vertex c.in_ok-vertex.others.now (set_at c.args.count 0 c.args.bytes.now) c.loop-test.true c.in_ok-vertex.ensures.value c.loop.invariant.rest_decides);
     }
 
 pub returns-then-not-is_empty : goal.returns-then-not-is_empty

@@ -11,13 +11,13 @@ loop-line-init c = rw c.requires (record {
 })
 
 pub returns-in-Err-BadLine-clause-refused : goal.returns-in-Err-BadLine-clause-refused
-returns-in-Err-BadLine-clause-refused c = rw c.fault.ensures (bad_line c.args.bytes.now c.loop-line.reader c.loop-line.rest.now c.in-Some.line.now c.in-Some.behind.now c.loop-line.lines c.loop-line.invariant.read (sym c.in-Some.ensures.cut) c.loop-line.invariant.count c.loop-line.invariant.begun (c.in-Err-BadLine.ensures.refused cc))
+returns-in-Err-BadLine-clause-refused c = rw c.fault.ensures (bad_line c.args.bytes.now c.loop-line.reader c.loop-line.rest.now c.in-Some.line.now c.in-Some.after.now c.loop-line.lines c.loop-line.invariant.read (sym c.in-Some.ensures.cut) c.loop-line.invariant.count c.loop-line.invariant.begun (c.in-Err-BadLine.ensures.refused cc))
 
 pub loop-line-preserved : goal.loop-line-preserved
 loop-line-preserved c =
     let shorter = c.in-Some.ensures.shorter in
     rw c.in-Ok.ensures.ok (record {
-      read = one_more c.args.bytes.now c.loop-line.reader c.loop-line.rest.now c.in-Some.line.now c.in-Some.behind.now c.loop-line.invariant.read (sym c.in-Some.ensures.cut);
+      read = one_more c.args.bytes.now c.loop-line.reader c.loop-line.rest.now c.in-Some.line.now c.in-Some.after.now c.loop-line.invariant.read (sym c.in-Some.ensures.cut);
       count = omega (arith, c.loop-line.invariant.count, length-append c.loop-line.reader (c.in-Some.line.now ∷ []));
       few = omega (arith, c.loop-line.invariant.few, shorter);
       begun = rw (← c.in-Ok.ensures.ok) c.in-Ok.ensures.begins;
@@ -29,8 +29,8 @@ returns-clause-lines c = (no_more c.args.bytes.now c.loop-line.reader c.loop-lin
 pub returns-clause-count : goal.returns-clause-count
 returns-clause-count c = c.loop-line.invariant.count ∙ ap length (no_more c.args.bytes.now c.loop-line.reader c.loop-line.rest.now c.loop-line.invariant.read (sym c.in_default.ensures.cut)).0
 
-pub returns-clause-behind : goal.returns-clause-behind
-returns-clause-behind c = (no_more c.args.bytes.now c.loop-line.reader c.loop-line.rest.now c.loop-line.invariant.read (sym c.in_default.ensures.cut)).1
+pub returns-clause-after : goal.returns-clause-after
+returns-clause-after c = (no_more c.args.bytes.now c.loop-line.reader c.loop-line.rest.now c.loop-line.invariant.read (sym c.in_default.ensures.cut)).1
 
 pub returns-clause-begins : goal.returns-clause-begins
 returns-clause-begins c = rw (← (no_more c.args.bytes.now c.loop-line.reader c.loop-line.rest.now c.loop-line.invariant.read (sym c.in_default.ensures.cut)).0) c.loop-line.invariant.begun

@@ -1,6 +1,7 @@
 use Rattle.std.proofs.Common.{◌≡◌, ◌++◌, map, take}
 use Rattle.std.specs.List.{flat_map}
-use Rattle.log_format.specs.Text.{ended, arc_line}
+use Rattle.plain_text.specs.Lines.{ended}
+use Rattle.log_format.specs.Text.{arc_line}
 use Rattle.log_format.proofs.write.write_arcs.Given as goal
 
 abbrev pub invariant-loop-tail : goal.invariant-loop-tail

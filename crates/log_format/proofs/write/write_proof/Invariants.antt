@@ -1,6 +1,7 @@
 use Rattle.std.proofs.Common.{◌≡◌, ◌++◌, take}
 use Rattle.std.specs.List.{flat_map}
-use Rattle.log_format.specs.Text.{ended, lines_of}
+use Rattle.plain_text.specs.Lines.{ended}
+use Rattle.log_format.specs.Text.{lines_of}
 use Rattle.log_format.proofs.write.write_proof.Given as goal
 
 abbrev pub invariant-loop-line : goal.invariant-loop-line

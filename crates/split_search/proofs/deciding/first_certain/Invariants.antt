@@ -5,4 +5,4 @@ use Rattle.split_search.proofs.deciding.first_certain.Given as goal
 
 -- none of the vertices so far is certain
 abbrev pub invariant-loop-before : goal.invariant-loop-before
-invariant-loop-before l = (v : ℕ) → IsVertex l.before v → IsFalse (is_certain l.instance l.sides v)
+invariant-loop-before l = (v : ℕ) → IsVertex l.before v → IsFalse (is_certain l.instance l.branch v)

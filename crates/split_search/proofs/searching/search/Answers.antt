@@ -5,7 +5,7 @@ use Rattle.split_search.proofs.searching.search.Goals as goal
 
 pub returns : goal.returns
 returns g c =
-    let I = c.args.instance.now in
+    let I = c.args.whole.now.instance in
     let p = c.run.new.self in
     let e = c.finish.ensures in
     let no_worse : p.least ≤ cost I c.args.start = omega (arith, c.in_ok-run.ensures.no_worse, c.in_ok-progress.ensures.under_way.is_cost, ap (cost I) c.in_ok-progress.ensures.best) in

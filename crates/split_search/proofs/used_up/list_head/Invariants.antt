@@ -1,7 +1,7 @@
 use Rattle.std.proofs.Common.{◌≡◌, ℕ, ◌&&◌, ◌||◌, length, take}
 use Rattle.std.specs.Prelude.{◌==◌}
 use Rattle.st_model.specs.Lists.{has}
-use Rattle.vertex_lists.specs.Led.{heads_at}
+use Rattle.st_model.specs.Led.{heads_at}
 use Rattle.split_search.specs.Deciding.{is_used_up}
 use Rattle.split_search.proofs.used_up.list_head.Given as goal
 

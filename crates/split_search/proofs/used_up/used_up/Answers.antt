@@ -2,7 +2,7 @@ use Rattle.std.proofs.Common.{◌+◌, ◌&&◌, get_or, sym, ◌∙◌, arith}
 use Rattle.std.specs.Prelude.{nat_lt}
 use Rattle.std.proofs.lemmas.Bool.{and_parts, ltb-true}
 use Rattle.st_model.proofs.Marked.{has_at}
-use Rattle.vertex_lists.specs.Led.{heads_at}
+use Rattle.st_model.specs.Led.{heads_at}
 use Rattle.bidirected_form.specs.Digraph.{arcs_into}
 use Rattle.split_search.specs.Deciding.{is_used_up}
 use Rattle.split_search.proofs.used_up.used_up.Goals as goal

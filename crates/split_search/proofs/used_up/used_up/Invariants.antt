@@ -1,7 +1,7 @@
 use Rattle.std.proofs.Common.{◌≡◌, ℕ, ◌+◌, ◌&&◌, length}
 use Rattle.std.specs.Prelude.{nat_lt}
 use Rattle.st_model.specs.Lists.{has}
-use Rattle.vertex_lists.specs.Led.{heads_at}
+use Rattle.st_model.specs.Led.{heads_at}
 use Rattle.bidirected_form.specs.Digraph.{arcs_into}
 use Rattle.split_search.specs.Deciding.{is_used_up}
 use Rattle.split_search.proofs.used_up.used_up.Given as goal

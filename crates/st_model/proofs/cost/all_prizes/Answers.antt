@@ -9,4 +9,4 @@ pub overflow_add-sum : goal.overflow_add-sum
 overflow_add-sum c =
     let I = c.args.instance.now in
     let part : sum_to (pays I) c.loop-before.before + pays I (c.loop-before.before + 1) ≤ sum_to (pays I) I.n = rw add-one (sum_to_part (pays I) (suc c.loop-before.before) I.n (omega (arith, c.vertices-before-end.ensures.count))) in
-    omega (arith, part, c.vertices-before-end.ensures.instance.amount, c.prize_of-sum.ensures, c.loop-before.invariant)
+    omega (arith, part, c.vertices-before-end.ensures.instance.amount, c.prize-sum.ensures, c.loop-before.invariant)

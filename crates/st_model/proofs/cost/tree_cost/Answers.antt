@@ -25,12 +25,12 @@ overflow_add-links c =
     rw (c.unwrap_or-links.ensures, c.link_cost.ensures.cost, here.links, c.as_slice-tail-items.ensures) (record { fits = omega (arith, fit) })
 
 pub overflow_sub-missed-in-loop-tail : goal.overflow_sub-missed-in-loop-tail
-overflow_sub-missed-in-loop-tail c = rw c.prize_of-missed.ensures (turn_here (goal.at.overflow_sub-missed-in-loop-tail c).After-unwrap_or-links).enough
+overflow_sub-missed-in-loop-tail c = rw c.prize-missed.ensures (turn_here (goal.at.overflow_sub-missed-in-loop-tail c).After-unwrap_or-links).enough
 
 pub loop-tail-preserved : goal.loop-tail-preserved
 loop-tail-preserved c =
     let here = turn_here (goal.at.loop-tail-preserved c).After-unwrap_or-links in
-    record { links = rw (c.unwrap_or-links.ensures, c.link_cost.ensures.cost) here.links; missed = rw c.prize_of-missed.ensures here.missed; grows = here.grows }
+    record { links = rw (c.unwrap_or-links.ensures, c.link_cost.ensures.cost) here.links; missed = rw c.prize-missed.ensures here.missed; grows = here.grows }
 
 pub overflow_add-result : goal.overflow_add-result
 overflow_add-result c =

@@ -1,5 +1,4 @@
 use Rattle.std.proofs.Common.{rules, ℕ, ◌<◌, [], ◌∷◌, length, ap, ◌∙◌, arith}
-use Rattle.st_model.proofs.ThinLists.{read-map}
 use Rattle.st_model.proofs.ThinGrowth.{made-vertex, length-take_extends}
 use Rattle.st_model.proofs.ThinSettled.{reaches-head, AreSettled-start, AreSettled-more}
 use Rattle.st_model.proofs.thinning.all_arcs.Goals as goal
@@ -10,12 +9,12 @@ reach-requires-clause-growth c = c.in_ok-growth.ensures.growth c.args.links.now
 pub loop-next-init : goal.loop-next-init
 loop-next-init c = (
   c.in_ok-reach.ensures.growth,
-  AreSettled-start c.args.links.now c.args.start c.reach.new.self.arcs.items c.deref.result.now c.in_ok-reach.ensures.heads (c.deref.ensures.value ∙ (read-map (λ list. list.items) c.args.lists.now c.args.start c.index-lists-start.result (omega (arith, c.requires.length, c.requires.start.1)) c.index-lists-start.is ∙ c.requires.neighbours c.args.start c.requires.start.1)),
+  AreSettled-start c.args.links.now c.args.start c.reach.new.self.arcs.items c.at-first.result.now c.in_ok-reach.ensures.heads (c.at-first.ensures ∙ c.requires.neighbours c.args.start c.requires.start.1),
   omega arith,
 )
 
-pub bounds-lists-tail : goal.bounds-lists-tail
-bounds-lists-tail c =
+pub at-heads-requires : goal.at-heads-requires
+at-heads-requires c =
     let small = made-vertex c.args.instance.now c.args.links.now c.loop-next.growth.arcs.items c.loop-next.next c.index.result.now c.requires.instance c.requires.links c.loop-next.invariant.0.made (search rules) c.index.ensures in
     omega (arith, c.requires.length, small)
 
@@ -29,7 +28,7 @@ pub reach-requires-in-loop-next-clause-heads : goal.reach-requires-in-loop-next-
 reach-requires-in-loop-next-clause-heads c =
     let tail = c.index.result.now.1 in
     let small = made-vertex c.args.instance.now c.args.links.now c.loop-next.growth.arcs.items c.loop-next.next c.index.result.now c.requires.instance c.requires.links c.loop-next.invariant.0.made (search rules) c.index.ensures in
-    c.deref-in-loop-next.ensures.value ∙ (read-map (λ list. list.items) c.args.lists.now tail c.index-lists-tail.result (omega (arith, c.requires.length, small)) c.index-lists-tail.is ∙ c.requires.neighbours tail small)
+    c.at-heads.ensures ∙ c.requires.neighbours tail small
 
 pub loop-next-preserved : goal.loop-next-preserved
 loop-next-preserved c =
@@ -41,8 +40,8 @@ loop-next-preserved c =
     let in_range : next < length arcs = search rules in
     let tail = c.index.result.now.1 in
     let small = made-vertex c.args.instance.now c.args.links.now arcs next c.index.result.now c.requires.instance c.requires.links c.loop-next.invariant.0.made in_range c.index.ensures in
-    let heads = c.deref-in-loop-next.ensures.value ∙ (read-map (λ list. list.items) c.args.lists.now tail c.index-lists-tail.result (omega (arith, c.requires.length, small)) c.index-lists-tail.is ∙ c.requires.neighbours tail small) in (
+    let heads = c.at-heads.ensures ∙ c.requires.neighbours tail small in (
       more.growth,
-      AreSettled-more c.args.links.now c.args.start arcs new next c.deref-in-loop-next.result.now c.index.result.now.1 c.index.result.now c.loop-next.invariant.1 in_range more.extends (ap (λ (a : ℕ × ℕ). a.1) c.index.ensures) more.heads heads,
+      AreSettled-more c.args.links.now c.args.start arcs new next c.at-heads.result.now c.index.result.now.1 c.index.result.now c.loop-next.invariant.1 in_range more.extends (ap (λ (a : ℕ × ℕ). a.1) c.index.ensures) more.heads heads,
       omega arith,
     )

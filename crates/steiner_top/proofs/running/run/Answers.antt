@@ -1,7 +1,29 @@
-use Rattle.std.proofs.Common.{map, string_bytes}
+use Rattle.std.proofs.Common.{rules, ap, Err, map, string_bytes}
 use Rattle.command_line.specs.Words.{command_of}
-use Rattle.steiner_top.proofs.Deciding.{decides}
+use Rattle.steiner_top.proofs.Deciding.{decides, decides_checks}
+use Rattle.steiner_top.proofs.Reasons.{lost_outcome, stop_cut_short}
 use Rattle.steiner_top.proofs.running.run.Goals as goal
 
-pub returns-clause-headline : goal.returns-clause-headline
-returns-clause-headline g c = decides (command_of (map string_bytes c.args.words.now)) (g.F.Shelf.text c.args.shelf.now) (g.F.Shelf.text c.serve.new.shelf) _ _ _ _ _ _ c.serve.result.status c.serve.result.outcome (g.K.Sink.taken c.args.out.now) (g.K.Sink.taken c.serve.new.out) c.refused_exactly.ensures c.serve.ensures.sent c.serve.ensures.saved c.serve.ensures.read_cause.rose c.serve.ensures.write_cause
+pub returns-in-Ok-clause-headline : goal.returns-in-Ok-clause-headline
+returns-in-Ok-clause-headline g c = decides (command_of (map string_bytes c.args.words.now)) (g.F.Shelf.text c.args.shelf.now) (g.F.Shelf.text c.answer.new.shelf) _ _ _ _ _ _ c.send.result.status c.send.result.outcome (g.K.Sink.taken c.args.out.now) (g.K.Sink.taken c.send.new.out)
+    c.refused_exactly.ensures (search rules) (search rules) (search rules) (search rules)
+
+pub returns-in-Err-clause-headline : goal.returns-in-Err-clause-headline
+returns-in-Err-clause-headline g c = decides (command_of (map string_bytes c.args.words.now)) (g.F.Shelf.text c.args.shelf.now) (g.F.Shelf.text c.answer.new.shelf) _ _ _ _ _ _ c.send-in-Err.result.status c.send-in-Err.result.outcome (g.K.Sink.taken c.args.out.now) (g.K.Sink.taken c.send-in-Err.new.out)
+    c.refused_exactly.ensures (search rules) (search rules) (search rules) (search rules)
+
+pub returns-in-Ok-clause-checks : goal.returns-in-Ok-clause-checks
+returns-in-Ok-clause-checks g c = decides_checks (command_of (map string_bytes c.args.words.now)) (g.F.Shelf.text c.args.shelf.now) _ _ _ _ _ _ c.send.result.status c.send.result.outcome (g.K.Sink.taken c.args.out.now) (g.K.Sink.taken c.send.new.out)
+    (search rules) (search rules) (search rules)
+
+pub returns-in-Err-clause-checks : goal.returns-in-Err-clause-checks
+returns-in-Err-clause-checks g c = decides_checks (command_of (map string_bytes c.args.words.now)) (g.F.Shelf.text c.args.shelf.now) _ _ _ _ _ _ c.send-in-Err.result.status c.send-in-Err.result.outcome (g.K.Sink.taken c.args.out.now) (g.K.Sink.taken c.send-in-Err.new.out)
+    (search rules) (search rules) (search rules)
+
+pub returns-in-Err-clause-cut_short : goal.returns-in-Err-clause-cut_short
+returns-in-Err-clause-cut_short g c = λ failed. stop_cut_short (command_of (map string_bytes c.args.words.now)) (g.F.Shelf.text c.args.shelf.now) (g.K.Sink.taken c.args.out.now) (g.K.Sink.taken c.send-in-Err.new.out) c.in-Err.status c.as_bytes.result.now
+    (search rules) c.in-Err.ensures.unanswered (λ e. c.in-Err.ensures.unsaved (ap Err e)) (c.send-in-Err.ensures.cut_short failed) c.send-in-Err.ensures.nothing
+
+pub returns-in-Ok-clause-no_outcome : goal.returns-in-Ok-clause-no_outcome
+returns-in-Ok-clause-no_outcome g c = λ failed. lost_outcome (command_of (map string_bytes c.args.words.now)) (g.F.Shelf.text c.args.shelf.now) c.in-Ok.answer.status c.in-Ok.answer.outcome c.send.result.outcome c.in-Ok.answer.text.items
+    c.in-Ok.ensures.answered (c.send.ensures.lost failed)

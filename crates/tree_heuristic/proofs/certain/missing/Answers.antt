@@ -10,5 +10,5 @@ returns-in-Some-clause-some c =
     let B = c.args.branch.now in
     let v = c.in-Some.vertex in
     let found = c.in-Some.ensures.some in
-    let inside : IsTrue (has B.inside v) = rw c.as_slice.ensures at found.0 in
+    let inside : IsTrue (has B.inside v) = rw (c.as_slice.ensures, c.branch-branch.ensures) at found.0 in
     (IsVertexSet-member I.n B.inside v c.requires.inside inside, certain_inside I B v inside, found.1)

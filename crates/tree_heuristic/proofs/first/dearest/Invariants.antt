@@ -2,4 +2,4 @@ use Rattle.tree_heuristic.specs.Spreading.{IsDearest}
 use Rattle.tree_heuristic.proofs.first.dearest.Given as goal
 
 abbrev pub invariant-loop-before : goal.invariant-loop-before
-invariant-loop-before l = IsDearest l.store l.outside.members l.before l.best l.prize
+invariant-loop-before l = IsDearest l.store l.branch.outside l.before l.best l.prize

@@ -1,4 +1,4 @@
-use Rattle.std.proofs.Common.{◌≡◌, ℕ, ◌+◌, ◌<◌, sym, ◌∙◌, ap, subst, arith}
+use Rattle.std.proofs.Common.{refl, sym, subst}
 use Rattle.st_model.specs.declared.tree.Tree.{Tree}
 use Rattle.st_model.specs.Branch.{Belongs}
 use Rattle.st_model.specs.Lists.{has}
@@ -12,15 +12,11 @@ pub returns-clause-belongs : goal.returns-clause-belongs
 returns-clause-belongs c =
     let I = c.args.instance.now in
     let B = c.args.branch.now in
-    let inside = c.in_ok-inside.inside.members in
-    let same : (v : ℕ) → v < I.n + 1 → has inside v ≡ has B.inside v = λ v low. c.in_ok-inside.ensures.members v (omega (arith, c.vertices.ensures.count, low)) ∙ ap (λ l. has l v) c.as_slice.ensures in
-    let pruned = pruned_twice I inside c.args.tree (tree_of c.in_ok-kept.kept) (tree_of c.trim.new.self) c.in_ok-kept.ensures.pruned c.trim.ensures.pruned in
-    subst (λ (t : Tree). Belongs B t) (sym c.into_tree.ensures) (pruned_belongs I B inside c.args.tree (tree_of c.trim.new.self) c.requires.branch same c.requires.belongs pruned)
+    let pruned = pruned_twice I B.inside c.args.tree (tree_of c.in_ok-kept.kept) (tree_of c.trim.new.self) c.in_ok-kept.ensures.pruned c.trim.ensures.pruned in
+    subst (λ (t : Tree). Belongs B t) (sym c.into_tree.ensures) (pruned_belongs I B B.inside c.args.tree (tree_of c.trim.new.self) c.requires.branch (λ v low. refl) c.requires.belongs pruned)
 
 pub returns-clause-leaves : goal.returns-clause-leaves
 returns-clause-leaves c =
     let I = c.args.instance.now in
     let B = c.args.branch.now in
-    let inside = c.in_ok-inside.inside.members in
-    let same : (v : ℕ) → v < I.n + 1 → has inside v ≡ has B.inside v = λ v low. c.in_ok-inside.ensures.members v (omega (arith, c.vertices.ensures.count, low)) ∙ ap (λ l. has l v) c.as_slice.ensures in
-    subst (λ (t : Tree). NoLeafToSpare I B t) (sym c.into_tree.ensures) (no_leaf_to_spare I B inside (tree_of c.trim.new.self) c.in_ok-kept.ensures.instance same c.trim.ensures.pruned.arborescence c.trim.ensures.worth c.trim.ensures.start)
+    subst (λ (t : Tree). NoLeafToSpare I B t) (sym c.into_tree.ensures) (no_leaf_to_spare I B B.inside (tree_of c.trim.new.self) c.in_ok-kept.ensures.instance (λ v low. refl) c.trim.ensures.pruned.arborescence c.trim.ensures.worth c.trim.ensures.start)

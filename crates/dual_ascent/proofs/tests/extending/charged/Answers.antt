@@ -3,7 +3,7 @@ use Rattle.std.proofs.lemmas.Bool.{ne_eqb}
 use Rattle.std.proofs.lemmas.List.{get_or-replicate}
 use Rattle.st_model.specs.Network.{Network}
 use Rattle.graph_store.specs.Graph.{Graph}
-use Rattle.dual_ascent.specs.Left.{IsWhole}
+use Rattle.graph_store.specs.Whole.{IsWhole}
 use Rattle.dual_ascent.specs.Extension.{IsStart, IsRootFor}
 use Rattle.dual_ascent.proofs.Extended.{packing_borne}
 use Rattle.dual_ascent.proofs.tests.extending.charged.Goals as goal
@@ -17,7 +17,7 @@ whole_new I v vertex =
 pub charge_cuts-requires-clause-borne : goal.charge_cuts-requires-clause-borne
 charge_cuts-requires-clause-borne c =
     let g = c.in_ok-store.store in
-    let B = c.everything-branch.result in
+    let B = c.in_ok-branch.branch in
     let P = c.args.packing.now in
     let same : g.network ≡ c.args.instance.now = ap (λ (h : Graph). h.network) c.in_ok-store.ensures in
     let whole : IsWhole g = subst IsWhole (sym c.in_ok-store.ensures) (whole_new c.args.instance.now) in

@@ -11,7 +11,7 @@ returns-then-is_offered-clause-ok c =
     record {
       places = refl;
       settled = refl;
-      either = inl ((told.0, best_at marks c.args.to mark c.requires.to c.index-mark.ensures ∙ told.1, told.2), refl, refl);
+      either = inl ((told.0, best_at marks c.args.to mark c.requires c.index-mark.ensures ∙ told.1, told.2), refl, refl);
     }
 
 pub returns-clause-ok : goal.returns-clause-ok
@@ -19,10 +19,10 @@ returns-clause-ok c =
     let mark = c.index-mark.result.now in
     let marks = c.args.self.now.marks.items in
     record {
-      places = places_kept marks c.args.to mark c.requires.to c.index-mark.ensures c.offered.result c.offered.ensures.place;
+      places = places_kept marks c.args.to mark c.requires c.index-mark.ensures c.offered.result c.offered.ensures.place;
       settled = refl;
       either = inr (
-        λ least is. dearer_from (best_of mark) c.args.cost c.if-is_offered.ensures.no least (sym (best_at marks c.args.to mark c.requires.to c.index-mark.ensures) ∙ is),
+        λ least is. dearer_from (best_of mark) c.args.cost c.if-is_offered.ensures.no least (sym (best_at marks c.args.to mark c.requires c.index-mark.ensures) ∙ is),
         bests_put marks c.args.to c.offered.result c.args.cost c.offered.ensures.best,
         c.in_ok-push.ensures.moved,
       );

@@ -11,11 +11,11 @@ nothing : Half
 nothing = record { to = 0; cost = 0 }
 
 pub loop-half-init : goal.loop-half-init
-loop-half-init c = followed_none c.args.store.now.network.links c.args.store.now.network.n c.args.limit c.args.vertex c.args.cost c.args.self.now c.requires.order
+loop-half-init c = followed_none c.args.store.now.network.links c.args.store.now.network.n c.args.limit c.args.vertex c.args.cost c.args.self.now
 
-pub follow-requires-clause-to : goal.follow-requires-clause-to
+pub follow-requires : goal.follow-requires
 unfolding nothing
-follow-requires-clause-to c =
+follow-requires c =
     let range = (c.neighbours-half-items.ensures.halves.others c.loop-half.half-index nothing c.loop-half-test.true).0.1 in
     let long = c.loop-half.invariant.best_long in
     let first = c.requires.marks in
@@ -37,10 +37,10 @@ loop-half-preserved c =
     let first = c.requires.marks in
     let before = length-bests_of c.args.self.now.marks.items in
     subst (λ (hs : List Half). HasFollowed c.args.store.now.network.links c.args.store.now.network.n c.args.limit c.args.vertex c.args.cost hs c.args.self.now c.follow.new.self) (sym (take_more halves i nothing c.loop-half-test.true))
-    (followed_more c.args.store.now.network.links c.args.store.now.network.n c.args.limit c.args.vertex c.args.cost (take i halves) half c.args.self.now c.loop-half.self c.follow.new.self (omega arith) range linked c.in_ok-follow.ensures.ok c.follow.ensures.order c.follow.ensures.length c.loop-half.invariant)
+    (followed_more c.args.store.now.network.links c.args.store.now.network.n c.args.limit c.args.vertex c.args.cost (take i halves) half c.args.self.now c.loop-half.self c.follow.new.self (omega arith) range linked c.in_ok-follow.ensures.ok c.follow.ensures.length c.loop-half.invariant)
 
-pub returns-clause-ok : goal.returns-clause-ok
-returns-clause-ok c =
+pub returns : goal.returns
+returns c =
     let halves = c.neighbours-half-items.result.now in
     let all = take_all c.loop-half.half-index halves c.loop-half-test.false in
     let followed = subst (λ (hs : List Half). HasFollowed c.args.store.now.network.links c.args.store.now.network.n c.args.limit c.args.vertex c.args.cost hs c.args.self.now c.loop-half.self) all c.loop-half.invariant in

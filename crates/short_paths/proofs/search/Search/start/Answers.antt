@@ -8,8 +8,8 @@ use Rattle.short_paths.proofs.MarkLists.{length-bests_of}
 use Rattle.short_paths.proofs.Relaxing.{start_step, start_offered}
 use Rattle.short_paths.proofs.search.Search.start.Goals as goal
 
-pub offer-requires-clause-to : goal.offer-requires-clause-to
-offer-requires-clause-to c =
+pub offer-requires : goal.offer-requires
+offer-requires c =
     let long = (c.loop-source.invariant.kept [] 0).best_long in
     let same = length-bests_of c.loop-source.search.marks.items in
     let high = (c.requires c.loop-source.source-index 0 c.loop-source-test.true).1 in
@@ -28,7 +28,6 @@ loop-source-preserved c =
       places = c.in_ok-offer.ensures.ok.places ∙ c.loop-source.invariant.places;
       kept = λ links limit. start_step links c.args.vertices limit sources (take i sources) (get_or sources i 0) c.loop-source.search c.offer.new.self (omega arith) range held c.in_ok-offer.ensures.ok (c.loop-source.invariant.kept links limit);
       started = subst (All (λ s. IsOffered (bests_of c.offer.new.self.marks.items) s 0)) (sym (take_more sources i 0 c.loop-source-test.true)) (start_offered (take i sources) (get_or sources i 0) c.args.vertices c.loop-source.search c.offer.new.self (omega arith) c.in_ok-offer.ensures.ok c.loop-source.invariant.started);
-      order = c.offer.ensures.order;
     }
 
 pub returns-clause-going : goal.returns-clause-going

@@ -28,7 +28,7 @@ loop-tail-smaller c =
     omega (arith, within, few, count)
 
 pub loop-tail-preserved : goal.loop-tail-preserved
-loop-tail-preserved c = under_way_more c.args.store.now c.args.outside.now.members c.args.start c.loop-tail.spread c.reach.new.self c.loop-tail.next c.in-Some.tail c.loop-tail.invariant (sym c.in-Some.ensures.member) c.in_ok-reach.ensures
+loop-tail-preserved c = under_way_more c.args.store.now c.args.branch.now.outside c.args.start c.loop-tail.spread c.reach.new.self c.loop-tail.next c.in-Some.tail c.loop-tail.invariant (sym c.in-Some.ensures.member) c.in_ok-reach.ensures
 
 pub returns-clause-closed : goal.returns-clause-closed
-returns-clause-closed c = under_way_end c.args.store.now c.args.outside.now.members c.args.start c.loop-tail.spread c.loop-tail.next c.loop-tail.invariant (sym (rw c.in_default.is at c.member.ensures.member))
+returns-clause-closed c = under_way_end c.args.store.now c.args.branch.now.outside c.args.start c.loop-tail.spread c.loop-tail.next c.loop-tail.invariant (sym (rw c.in_default.is at c.member.ensures.member))

@@ -15,7 +15,7 @@ pub loop-half-preserved : goal.loop-half-preserved
 unfolding nothing
 loop-half-preserved c =
     let g = c.args.store.now in
-    let out = c.args.outside.now.members in
+    let out = c.args.branch.now.outside in
     let halves = c.neighbours-half-items.result.now in
     let i = c.loop-half.half-index in
     let are = c.neighbours-half-items.ensures.halves in
@@ -28,4 +28,4 @@ pub returns : goal.returns
 returns c =
     let halves = c.neighbours-half-items.result.now in
     let all = take_all c.loop-half.half-index halves c.loop-half-test.false in
-    followed_all c.args.store.now c.args.outside.now.members c.args.self.now c.loop-half.self halves c.args.tail c.neighbours-half-items.ensures.halves (subst (λ (hs : List Half). HasGoneOn c.args.store.now c.args.outside.now.members c.args.self.now hs c.loop-half.self) all c.loop-half.invariant)
+    followed_all c.args.store.now c.args.branch.now.outside c.args.self.now c.loop-half.self halves c.args.tail c.neighbours-half-items.ensures.halves (subst (λ (hs : List Half). HasGoneOn c.args.store.now c.args.branch.now.outside c.args.self.now hs c.loop-half.self) all c.loop-half.invariant)

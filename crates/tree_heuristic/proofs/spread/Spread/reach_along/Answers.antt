@@ -15,7 +15,7 @@ pub loop-half-preserved : goal.loop-half-preserved
 unfolding nothing
 loop-half-preserved c =
     let g = c.args.store.now in
-    let out = c.args.outside.now.members in
+    let out = c.args.branch.now.outside in
     let halves = c.neighbours-half-items.result.now in
     let i = c.loop-half.half-index in
     let are = c.neighbours-half-items.ensures.halves in

@@ -3,4 +3,4 @@ use Rattle.tree_heuristic.specs.Spreading.{HasGoneOn}
 use Rattle.tree_heuristic.proofs.spread.Spread.reach_along.Given as goal
 
 abbrev pub invariant-loop-half : goal.invariant-loop-half
-invariant-loop-half l = HasGoneOn l.store l.outside.members l.initial.self [] l.self
+invariant-loop-half l = HasGoneOn l.store l.branch.outside l.initial.self [] l.self

@@ -1,0 +1,4 @@
+pub mod Cut
+pub mod Lacking
+pub mod Steps
+pub mod Numerals

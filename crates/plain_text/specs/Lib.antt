@@ -1,0 +1,4 @@
+pub mod Steps
+pub mod Numbers
+pub mod Pieces
+pub mod Lines

@@ -1,0 +1,11 @@
+use Rattle.steiner_top.proofs.Asking.{asks_both}
+use Rattle.steiner_top.proofs.check_command.check_command.Goals as goal
+
+pub returns-in-Err-load-clause-asked : goal.returns-in-Err-load-clause-asked
+returns-in-Err-load-clause-asked g c = asks_both (g.F.Shelf.asked c.args.shelf.now) (g.F.Shelf.asked c.load.new.shelf) (g.F.Shelf.asked c.load-2.new.shelf) c.args.words.now.file.now c.args.words.now.log_name.now c.load.ensures.asked c.load-2.ensures.asked
+
+pub returns-in_err-answer-clause-asked : goal.returns-in_err-answer-clause-asked
+returns-in_err-answer-clause-asked g c = asks_both (g.F.Shelf.asked c.args.shelf.now) (g.F.Shelf.asked c.load.new.shelf) (g.F.Shelf.asked c.load-2.new.shelf) c.args.words.now.file.now c.args.words.now.log_name.now c.load.ensures.asked c.load-2.ensures.asked
+
+pub returns-clause-asked : goal.returns-clause-asked
+returns-clause-asked g c = asks_both (g.F.Shelf.asked c.args.shelf.now) (g.F.Shelf.asked c.load.new.shelf) (g.F.Shelf.asked c.load-2.new.shelf) c.args.words.now.file.now c.args.words.now.log_name.now c.load.ensures.asked c.load-2.ensures.asked

@@ -1,0 +1,71 @@
+use super::{PRIZES, TRIANGLE, WHEEL, text_of};
+use crate::{Gate, Outcome, solve_bytes};
+use log_format::{Claim, Log};
+use std::process::Abort;
+use std::sync::atomic::{AtomicU64, Ordering};
+use std::test::Fail;
+
+/// Counts the nodes that it is shown, as long as each comes in its turn and from seat 0.
+#[derive(Drop)]
+struct CountingGate {
+    nodes: AtomicU64,
+    strays: AtomicU64,
+}
+
+impl Gate for CountingGate {
+    fn at(&self, seat: u32, id: u64) {
+        let turn = self.nodes.fetch_add(1, Ordering::SeqCst);
+        if seat != 0 || id != turn {
+            self.strays.store(1, Ordering::SeqCst);
+        }
+    }
+}
+
+/// How many lines the proof of a log has, and so how many nodes a search has worked on that ended within its budget.
+fn lines_of(log: &Log) -> u64 {
+    match &log.claim {
+        Claim::Found { proof, .. } => proof.lines().len() as u64,
+        Claim::NoTree { .. } => 0,
+    }
+}
+
+/// Files and budgets that suffice for them.
+const FILES: &[(&str, u64)] = &[(TRIANGLE, 16), (WHEEL, 16), (PRIZES, 8)];
+
+#[test]
+fn shows_each_node_to_the_gate_once(rt: HostRuntime) -> Result<(), Fail> {
+    for (lines, nodes) in FILES {
+        let text = text_of(rt.alloc(), lines)?;
+        let gate = CountingGate {
+            nodes: AtomicU64::new(0),
+            strays: AtomicU64::new(0),
+        };
+        let Ok(outcome) = solve_bytes(rt.alloc(), &text, *nodes, &gate) else {
+            return Err(Fail::new("not solved"));
+        };
+        let expanded = gate.nodes.load(Ordering::SeqCst);
+        assert_eq!(rt; expanded, lines_of(outcome.certificate()), "for {lines}");
+        assert!(rt; expanded > 0, "for {lines}");
+        assert_eq!(rt; gate.strays.load(Ordering::SeqCst), 0, "for {lines}");
+    }
+    Ok(())
+}
+
+/// The wheel needs more than one node.
+#[test]
+fn shows_no_more_nodes_than_the_budget(rt: HostRuntime) -> Result<(), Fail> {
+    let text = text_of(rt.alloc(), WHEEL)?;
+    for budget in [0, 1] {
+        let gate = CountingGate {
+            nodes: AtomicU64::new(0),
+            strays: AtomicU64::new(0),
+        };
+        let Ok(Outcome::Found { primal, dual, .. }) = solve_bytes(rt.alloc(), &text, budget, &gate)
+        else {
+            return Err(Fail::new("no tree"));
+        };
+        assert!(rt; dual < primal);
+        assert_eq!(rt; gate.nodes.load(Ordering::SeqCst), budget);
+    }
+    Ok(())
+}

@@ -1,0 +1,160 @@
+use super::{PRIZES, TRIANGLE, shelf_of, sink_of, words_of};
+use crate::{OpenGate, Status, run};
+use std::alloc::{AllocError, Global};
+use std::process::Abort;
+use std::test::Fail;
+
+/// The vertices and the edges of a tree.
+type Shape = (&'static [u32], &'static [(u32, u32)]);
+
+/// Files, the cost of their best trees, and each of these.
+const BEST: &[(&str, u64, &[Shape])] = &[
+    (TRIANGLE, 6, &[(&[1, 2, 3, 4], &[(1, 4), (2, 4), (3, 4)])]),
+    // Two sides of cost 3 are as good as the spokes.
+    (
+        "H / SECTION Graph / Nodes 4 / Edges 6 / E 1 4 2 / E 2 4 2 / E 3 4 2 / E 1 2 3 / E 2 3 3 / E 1 3 3 / END / SECTION Terminals / Terminals 3 / T 1 / T 2 / T 3 / END / EOF",
+        6,
+        &[
+            (&[1, 2, 3, 4], &[(1, 4), (2, 4), (3, 4)]),
+            (&[1, 2, 3], &[(1, 2), (1, 3)]),
+            (&[1, 2, 3], &[(1, 2), (2, 3)]),
+            (&[1, 2, 3], &[(1, 3), (2, 3)]),
+        ],
+    ),
+    (
+        "H / SECTION Graph / Nodes 1 / Edges 0 / END / SECTION Terminals / Terminals 1 / T 1 / END / EOF",
+        0,
+        &[(&[1], &[])],
+    ),
+    // The cheaper of parallel links, without a loop and with one.
+    (
+        "H / SECTION Graph / Nodes 2 / Edges 2 / E 1 2 5 / E 2 1 3 / END / SECTION Terminals / Terminals 2 / T 1 / T 2 / END / EOF",
+        3,
+        &[(&[1, 2], &[(1, 2)])],
+    ),
+    (
+        "H / SECTION Graph / Nodes 2 / Edges 3 / E 1 2 5 / E 2 1 3 / E 1 1 4 / END / SECTION Terminals / Terminals 2 / T 1 / T 2 / END / EOF",
+        3,
+        &[(&[1, 2], &[(1, 2)])],
+    ),
+    // Links of cost 0.
+    (
+        "H / SECTION Graph / Nodes 3 / Edges 3 / E 1 2 0 / E 2 3 0 / E 1 3 0 / END / SECTION Terminals / Terminals 3 / T 1 / T 2 / T 3 / END / EOF",
+        0,
+        &[
+            (&[1, 2, 3], &[(1, 2), (1, 3)]),
+            (&[1, 2, 3], &[(1, 2), (2, 3)]),
+            (&[1, 2, 3], &[(1, 3), (2, 3)]),
+        ],
+    ),
+    // A link to the lesser prize: too dear, worth it, and neither.
+    (PRIZES, 3, &[(&[2], &[])]),
+    (
+        "H / SECTION Graph / Nodes 2 / Edges 1 / E 1 2 2 / END / SECTION Terminals / Terminals 2 / TP 1 3 / TP 2 4 / END / EOF",
+        2,
+        &[(&[1, 2], &[(1, 2)])],
+    ),
+    (
+        "H / SECTION Graph / Nodes 2 / Edges 1 / E 1 2 3 / END / SECTION Terminals / Terminals 2 / TP 1 3 / TP 2 4 / END / EOF",
+        3,
+        &[(&[2], &[]), (&[1, 2], &[(1, 2)])],
+    ),
+    // Nobody pays.
+    (
+        "H / SECTION Graph / Nodes 3 / Edges 2 / E 1 2 1 / E 2 3 1 / END / SECTION Terminals / Terminals 1 / TP 2 0 / END / EOF",
+        0,
+        &[(&[1], &[]), (&[2], &[]), (&[3], &[])],
+    ),
+    // A vertex that is required, and one that pays.
+    (
+        "H / SECTION Graph / Nodes 3 / Edges 2 / E 1 3 4 / E 3 2 5 / END / SECTION Terminals / Terminals 2 / T 1 / TP 2 10 / END / EOF",
+        9,
+        &[(&[1, 2, 3], &[(1, 3), (2, 3)])],
+    ),
+];
+
+/// The text of a solution of `a.stp` by one worker.
+fn solution_of(
+    alloc: Global,
+    remark: &str,
+    dual: u64,
+    primal: u64,
+    tree: Shape,
+) -> Result<String, AllocError> {
+    let (vertices, edges) = tree;
+    let mut text = String::from_str(alloc, "33D32945 STP File, STP Format Version 1.0\n")?;
+    text.push_str("SECTION Comment\nName \"a.stp\"\nProgram \"steiner\"\n")?;
+    writeln!(&mut text, "Remark \"{remark}\"\nEND")?;
+    writeln!(&mut text, "SECTION Solutions\nSolution 0 {primal}\nEND")?;
+    text.push_str("SECTION Run\nThreads 1\nTime 0\n")?;
+    writeln!(&mut text, "Dual {dual}\nPrimal {primal}\nEND")?;
+    let count = vertices.len();
+    writeln!(&mut text, "SECTION Finalsolution\nVertices {count}")?;
+    for vertex in vertices {
+        writeln!(&mut text, "V {vertex}")?;
+    }
+    let count = edges.len();
+    writeln!(&mut text, "Edges {count}")?;
+    for (low, high) in edges {
+        writeln!(&mut text, "E {low} {high}")?;
+    }
+    text.push_str("END\nEOF\n")?;
+    Ok(text)
+}
+
+/// Whether some bytes are the text of one of these solutions.
+fn is_one_of(
+    alloc: Global,
+    sent: &[u8],
+    remark: &str,
+    dual: u64,
+    primal: u64,
+    trees: &[Shape],
+) -> Result<bool, AllocError> {
+    for tree in trees {
+        let text = solution_of(alloc, remark, dual, primal, *tree)?;
+        if sent == text.as_bytes() {
+            return Ok(true);
+        }
+    }
+    Ok(false)
+}
+
+#[test]
+fn sends_a_best_tree(rt: HostRuntime) -> Result<(), Fail> {
+    let alloc = rt.alloc();
+    let words = words_of(alloc, "solve a.stp")?;
+    for (lines, cost, trees) in BEST {
+        let mut shelf = shelf_of(alloc, lines, &[])?;
+        let mut out = sink_of(alloc)?;
+        let ended = run(alloc, &words, &mut shelf, &mut out, &OpenGate);
+        assert_eq!(rt; ended.status, Status::Optimal, "for {lines}");
+        let is_best = is_one_of(alloc, out.bytes(), "optimal", *cost, *cost, trees)?;
+        assert!(rt; is_best, "for {lines}");
+    }
+    Ok(())
+}
+
+/// The spokes of the triangle, and any two of its sides.
+const SPOKES: &[Shape] = &[(&[1, 2, 3, 4], &[(1, 4), (2, 4), (3, 4)])];
+
+const SIDES: &[Shape] = &[
+    (&[1, 2, 3], &[(1, 2), (1, 3)]),
+    (&[1, 2, 3], &[(1, 2), (2, 3)]),
+    (&[1, 2, 3], &[(1, 3), (2, 3)]),
+];
+
+#[test]
+fn sends_a_tree_without_a_budget(rt: HostRuntime) -> Result<(), Fail> {
+    let alloc = rt.alloc();
+    let words = words_of(alloc, "solve a.stp --nodes 0 --plain")?;
+    let mut shelf = shelf_of(alloc, TRIANGLE, &[])?;
+    let mut out = sink_of(alloc)?;
+    let ended = run(alloc, &words, &mut shelf, &mut out, &OpenGate);
+    assert_eq!(rt; ended.status, Status::Budget);
+    assert_eq!(rt; ended.status.code(), 3);
+    let is_best = is_one_of(alloc, out.bytes(), "budget", 0, 6, SPOKES)?;
+    let is_other = is_one_of(alloc, out.bytes(), "budget", 0, 8, SIDES)?;
+    assert!(rt; is_best || is_other);
+    Ok(())
+}

@@ -1,2 +1,0 @@
-pub mod VectorLists
-pub mod Walked
