@@ -1,0 +1,5 @@
+pub mod Least
+pub mod Rule
+pub mod Seat
+pub mod Place
+pub mod Joined
