@@ -1,0 +1,5 @@
+use Rattle.node_pool.proofs.Balancing.{gets}
+use Rattle.node_pool.proofs.lane.Owner.take.Goals as goal
+
+pub pop_as-requires-clause-fifo : goal.pop_as-requires-clause-fifo
+pop_as-requires-clause-fifo g c _ = gets _ _ c.self.invariant.1

@@ -1,0 +1,158 @@
+ghost use Rattle.std.specs.Prelude.{◌≡◌, ◌-◌, ◌<◌, ◌≤◌, ◌∷◌, ◌++◌, [], length, All, IfOk, OnOk, IfErr, IfSome, MatchOption};
+ghost use Rattle.crossbeam_deque.specs.Steals.{MatchSteal};
+ghost use Rattle.node_pool.specs.Lane.{hand, first_hand, both, WasEmpty};
+ghost use Rattle.node_pool.specs.Ends.{IsLeft};
+
+use crate::kept::{Kept, Sound};
+use crate::rule::{Both, Cut, Fair, Hand, Puts, Takes};
+use branching::Node;
+use crossbeam_deque::{Pass as Token, Steal, Stealer, Worker};
+use std::alloc::{AllocError, Global};
+use std::marker::Model;
+use std::sync::Wait;
+use std::thread;
+
+// The end of a queue at which nodes are put.
+#[derive(Drop)]
+pub struct Owner<S: Sound> {
+    worker: Worker<Kept<S>, Global, Hand, Fair<S>>,
+}
+
+impl<S: Sound> Model for Owner<S> {
+    ghost use Rattle.std.specs.Prelude.{◌≡◌, ◌<◌, ◌≤◌, length};
+    ghost use Rattle.crossbeam_deque.specs.Handles.{worker_deque, worker_view, worker_flavor, worker_index, worker_capacity};
+    ghost use Rattle.node_pool.specs.Ends.{End, end};
+
+    ghost Value = { End };
+
+    ghost view = { λ o. end (worker_deque o.worker) (worker_view o.worker) };
+
+    ghost invariant = { λ o. (worker_flavor o.worker ≡ 0) × (0 < (worker_view o.worker).parts)
+        × (worker_index o.worker ≤ length (worker_view o.worker).put) × (128 ≤ worker_capacity o.worker) };
+}
+
+// An end of a queue at which another worker takes nodes.
+#[derive(Drop)]
+pub struct Thief<S: Sound> {
+    stealer: Stealer<Kept<S>, Global, Hand, Fair<S>>,
+    token: Token<Kept<S>, Hand, Global>,
+}
+
+impl<S: Sound> Model for Thief<S> {
+    ghost use Rattle.std.specs.Prelude.{◌≡◌, ◌<◌, []};
+    ghost use Rattle.crossbeam_deque.specs.Handles.{stealer_deque, stealer_flavor, view as seen, IsPassOf};
+    ghost use Rattle.node_pool.specs.Ends.{End, end};
+
+    ghost Value = { End };
+
+    ghost view = { λ t. end (stealer_deque t.stealer) (seen t.token) };
+
+    ghost invariant = { λ t. (stealer_flavor t.stealer ≡ 0) × ((seen t.token).parts ≡ 1)
+        × ((seen t.token).put ≡ []) × IsPassOf (stealer_deque t.stealer) t.token };
+}
+
+impl<S: Sound> Owner<S> {
+    // A queue without nodes.
+    pub fn new(alloc: Global) -> Result<Owner<S>, AllocError>
+        ensures { IfOk result (λ o. o.hand ≡ first_hand) }
+    {
+        let worker = Worker::fifo_as(alloc, 128)?;
+        Ok(Owner { worker })
+    }
+
+    // Puts a node last, or hands it back. The first 128 puts succeed.
+    pub fn put(&mut self, node: Node) -> Result<(), Node>
+        requires { S.sound node }
+        ensures same { self.new.queue ≡ self.old.queue }
+        ensures put { OnOk result (self.new.hand ≡ hand self.old.hand.parts (self.old.hand.put ++ node ∷ []) self.old.hand.taken) }
+        ensures back { IfErr result (λ back. (back ≡ node) × (self.new.hand ≡ self.old.hand)) }
+        ensures room { IfErr result (λ back. 128 ≤ length self.old.hand.put) }
+    {
+        match self.worker.push_as::<Puts>(Kept::of(node)) {
+            Ok(()) => Ok(()),
+            Err(kept) => Err(kept.into_node()),
+        }
+    }
+
+    // Takes the first node. None only where at some moment of the call there was none.
+    pub fn take(&mut self) -> Option<Node>
+        ensures same { self.new.queue ≡ self.old.queue }
+        ensures took { MatchOption result ((self.new.hand ≡ self.old.hand) × WasEmpty self.old.hand)
+            (λ node. self.new.hand ≡ hand self.old.hand.parts self.old.hand.put (self.old.hand.taken ++ node ∷ [])) }
+        ensures alone { self.old.hand.parts ≡ 65
+            → IfSome result (λ _. length self.old.hand.taken < length self.old.hand.put) }
+        ensures sound { IfSome result (λ node. S.sound node) }
+    {
+        match self.worker.pop_as::<Takes>() {
+            Some(kept) => Some(kept.into_node()),
+            None => None,
+        }
+    }
+
+    // An end for another worker.
+    pub fn thief(&mut self) -> Result<Thief<S>, AllocError>
+        requires { 1 < self.old.hand.parts }
+        ensures same { self.new.queue ≡ self.old.queue }
+        ensures kept { OnOk result (self.new.hand ≡ hand (self.old.hand.parts - 1) self.old.hand.put self.old.hand.taken) }
+        ensures new { IfOk result (λ t. (t.queue ≡ self.old.queue) × (t.hand ≡ hand 1 [] [])) }
+    {
+        let stealer = self.worker.stealer()?;
+        let token = self.worker.another::<Cut>();
+        Ok(Thief { stealer, token })
+    }
+
+    // Takes in an end of its queue.
+    pub fn take_in(&mut self, thief: Thief<S>)
+        requires { thief.queue ≡ self.old.queue }
+        ensures same { self.new.queue ≡ self.old.queue }
+        ensures both { self.new.hand ≡ both self.old.hand thief.hand }
+        ensures part { thief.hand.parts ≡ 1 }
+    {
+        let Thief { stealer: _, token } = thief;
+        self.worker.absorb::<Both>(token);
+    }
+
+    // All nodes that are left, once each other end was taken in.
+    pub fn drain(&mut self, alloc: Global) -> Result<Vec<Node>, AllocError>
+        requires { self.old.hand.parts ≡ 65 }
+        ensures left { IfOk result (λ left. IsLeft self.old.hand left.items) }
+        ensures sound { IfOk result (λ left. All (λ node. S.sound node) left.items) }
+    {
+        let mut left = Vec::new(alloc);
+        for _ in 0..u64::MAX {
+            let Some(node) = self.take() else {
+                return Ok(left);
+            };
+            left.push(node)?;
+        }
+        Err(AllocError)
+    }
+}
+
+impl<S: Sound> Thief<S> {
+    // Takes the first node, unless another end was faster.
+    fn attempt(&mut self) -> Steal<Kept<S>>
+        ensures same { self.new.queue ≡ self.old.queue }
+        ensures took { MatchSteal result ((self.new.hand ≡ self.old.hand) × WasEmpty self.old.hand) (self.new.hand ≡ self.old.hand)
+            (λ node. self.new.hand ≡ hand self.old.hand.parts self.old.hand.put (self.old.hand.taken ++ node ∷ [])) }
+    {
+        self.stealer.steal_as::<Takes>(&mut self.token)
+    }
+
+    // Takes the first node. None only where at some moment of the call there was none.
+    pub fn take<R: Wait>(&mut self, rt: &R) -> Option<Node>
+        ensures same { self.new.queue ≡ self.old.queue }
+        ensures took { MatchOption result ((self.new.hand ≡ self.old.hand) × WasEmpty self.old.hand)
+            (λ node. self.new.hand ≡ hand self.old.hand.parts self.old.hand.put (self.old.hand.taken ++ node ∷ [])) }
+        ensures sound { IfSome result (λ node. S.sound node) }
+    {
+        for _ in rt.forever() {
+            match self.attempt() {
+                Steal::Success(kept) => return Some(kept.into_node()),
+                Steal::Empty => return None,
+                Steal::Retry => thread::yield_now(),
+            }
+        }
+        unreachable!()
+    }
+}
