@@ -1,0 +1,10 @@
+pub mod State
+pub mod Detours
+pub mod Steps
+pub mod Laws
+pub mod Kept
+pub mod Ends
+pub mod Undoing
+pub mod Chains
+pub mod Keeping
+pub mod Reduction
