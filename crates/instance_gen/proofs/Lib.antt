@@ -1,0 +1,12 @@
+pub mod Drawing
+pub mod Ranges
+pub mod Whole
+pub mod Joined
+pub mod Connected
+pub mod Spelled
+pub mod Said
+pub mod Restated
+pub mod Going
+pub mod GoingOver
+pub mod Reread
+pub mod Fitting

@@ -1,0 +1,4 @@
+pub mod Generated
+pub mod Text
+pub mod Writing
+pub mod Laws
