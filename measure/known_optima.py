@@ -1,7 +1,7 @@
 """Solves files and checks the logs: known_optima.py STEINER FILE ..
 
 Writes a line of a table for each file: its name, its vertices, links and terminals, the cost of its first
-tree, the bound behind the first node, the dual and the primal at the end, the nodes, the time and the
+tree, the bound after the first node, the dual and the primal at the end, the nodes, the time and the
 peak memory of `solve`, the size of the log, and the time of `check`. Of times, each the middle one of five
 runs; the memory is what GNU time tells."""
 import os
@@ -38,7 +38,7 @@ def megabytes(words, room):
 
 
 def number(text, word):
-    """The number behind a word at the start of a line."""
+    """The number after a word at the start of a line."""
     return next(int(line.split()[1]) for line in text.splitlines() if line.startswith(word + " "))
 
 
