@@ -9,6 +9,7 @@ use test_instances::{link, triangle_with_centre};
 
 mod drawn;
 mod judging;
+mod plain;
 
 // A tree of one vertex, or with an arc from it.
 fn tree_at(alloc: Global, start: u32, arcs: &[(u32, u32)]) -> Result<Tree, AllocError> {

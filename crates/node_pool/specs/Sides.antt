@@ -1,10 +1,10 @@
 -- All ends of all queues. Helpers' clauses cite this, and no public one.
-use Rattle.std.specs.Prelude.{◌≡◌, ℕ, ◌<◌, List, [], ◌∷◌, map, length, slice_index_or, All}
+use Rattle.std.specs.Prelude.{◌≡◌, ℕ, ◌-◌, ◌<◌, ◌≤◌, List, [], ◌∷◌, map, length, slice_index_or, All}
 use Rattle.std.specs.List.{sum_by}
 use Rattle.std.specs.declared.alloc.Global.{Global}
 use Rattle.atomic_blocks.specs.Lent.{RowsId}
 use Rattle.branching.specs.declared.node.Node.{Node}
-use Rattle.node_pool.specs.Lane.{both}
+use Rattle.node_pool.specs.Lane.{both, hand}
 use Rattle.node_pool.specs.Ends.{End, end, queue_of}
 use Rattle.node_pool.specs.Pool.{Station, own_queue, queues_at, puts, takes}
 
@@ -36,3 +36,11 @@ pub record AreNewPasses (queues : List (RowsId × Global)) (passes : List Statio
   pub owned : map own_queue passes ≡ queues
   pub known : (k : ℕ) (d : Station) → k < length passes → queues_at k (slice_index_or passes k d) ≡ queues
   pub unused : All IsNewPass passes
+
+-- a queue without nodes and an end of each queue on which nothing was done, its own at this place
+pub record IsSeat (place : ℕ) (own : End) (ends : List End) : Type 0 where
+  pub within : place < length ends
+  pub few : length ends ≤ 64
+  pub same : (d : End) → (slice_index_or ends place d).queue ≡ own.queue
+  pub fresh : own.hand ≡ hand (65 - length ends) [] []
+  pub unused : All (λ t. t.hand ≡ hand 1 [] []) ends

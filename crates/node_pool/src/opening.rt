@@ -1,9 +1,9 @@
-ghost use Rattle.std.specs.Prelude.{◌≡◌, ◌+◌, ◌-◌, ◌≤◌, ◌<◌, ◌∷◌, ◌++◌, ℕ, [], All, length, IfOk, map, take, drop, slice_index_or};
+ghost use Rattle.std.specs.Prelude.{◌≡◌, ◌+◌, ◌-◌, ◌≤◌, ◌<◌, ◌∷◌, ◌++◌, ℕ, [], All, length, IfOk, map, take, drop};
 ghost use Rattle.branching.specs.declared.node.Node.{Node as NodeSpec};
 ghost use Rattle.node_pool.specs.Lane.{hand, first_hand};
 ghost use Rattle.node_pool.specs.Ends.{queue_of};
 ghost use Rattle.node_pool.specs.Pool.{own_queue, all_gave, all_took, AreAllPasses};
-ghost use Rattle.node_pool.specs.Sides.{AreSides, AreNewPasses};
+ghost use Rattle.node_pool.specs.Sides.{AreSides, AreNewPasses, IsSeat};
 
 use crate::kept::Sound;
 use crate::lane::{Owner, Thief};
@@ -129,11 +129,7 @@ fn seated<S: Sound>(
 
 // The pass of this queue, and of these ends of all queues, among which its own is at this place.
 fn seat<S: Sound>(alloc: Global, own: Owner<S>, ends: Vec<Thief<S>>, place: usize) -> Pass<S>
-    requires place { place < length ends.items }
-    requires few { length ends.items ≤ 64 }
-    requires queue { (d : _) → (slice_index_or ends.items place d).queue ≡ own.queue }
-    requires fresh { own.hand ≡ hand (65 - length ends.items) [] [] }
-    requires unused { All (λ t. t.hand ≡ hand 1 [] []) ends.items }
+    requires { IsSeat place own ends.items }
     ensures own { (result.own.queue ≡ own.queue) × (result.own.hand ≡ hand (66 - length ends.items) [] []) }
     ensures others { result.others ≡ take place ends.items ++ drop (place + 1) ends.items }
     ensures list { result.list ≡ [] }

@@ -2,6 +2,7 @@ ghost use Rattle.std.specs.Prelude.{◌≤◌, IfOk, ◌≡◌};
 ghost use Rattle.st_model.specs.Network.{IsVertex, prize};
 
 use super::judging::lifted_cost;
+use super::plain::may_take;
 use crate::{Reduced, Step};
 use st_model::{Instance, Link, Listed, Need, Tree};
 use std::alloc::{AllocError, Global};
@@ -64,11 +65,16 @@ fn drawn_instance(alloc: Global, draws: &mut Draws) -> Result<Instance, AllocErr
     Instance::build(alloc, 7, &links, &needs)
 }
 
+// A number that is mostly that of a vertex.
+fn drawn_number(draws: &mut Draws) -> u32 {
+    draws.below(9) as u32
+}
+
 // A detour over one vertex or two.
 fn drawn_detour(alloc: Global, draws: &mut Draws) -> Result<Step, AllocError> {
-    let a = drawn_vertex(draws);
-    let b = drawn_vertex(draws);
-    let inner = [drawn_vertex(draws), drawn_vertex(draws)];
+    let a = drawn_number(draws);
+    let b = drawn_number(draws);
+    let inner = [drawn_number(draws), drawn_number(draws)];
     let count = draws.below(2) as usize + 1;
     Ok(Step::Detour {
         a,
@@ -80,9 +86,9 @@ fn drawn_detour(alloc: Global, draws: &mut Draws) -> Result<Step, AllocError> {
 // Any step, which may seldom be taken.
 fn drawn_step(alloc: Global, draws: &mut Draws) -> Result<Step, AllocError> {
     match draws.below(12) {
-        0 => Ok(Step::Pendant(drawn_vertex(draws))),
-        1 => Ok(Step::Through(drawn_vertex(draws))),
-        2 => Ok(Step::Forced(drawn_vertex(draws))),
+        0 => Ok(Step::Pendant(drawn_number(draws))),
+        1 => Ok(Step::Through(drawn_number(draws))),
+        2 => Ok(Step::Forced(drawn_number(draws))),
         _ => drawn_detour(alloc, draws),
     }
 }
@@ -189,7 +195,29 @@ fn least_cost(alloc: Global, reduced: &Reduced, first: &Instance) -> Result<Opti
     Ok(least)
 }
 
-// How many drawn steps are taken of a drawn instance. Err comes where one changes the least cost.
+// Takes a step where it may be taken, and answers whether it was. Err comes where a plain program
+// says otherwise, or where the least cost is another then.
+fn is_taken(
+    alloc: Global,
+    reduced: &mut Reduced,
+    first: &Instance,
+    step: &Step,
+    least: Option<u64>,
+) -> Result<bool, Fail> {
+    let left = reduced.instance(alloc)?;
+    let gone = reduced.gone(alloc)?;
+    let wanted = may_take(&left, &gone, step);
+    let taken = reduced.apply(step).is_ok();
+    if taken != wanted {
+        return Err(Fail::new("another answer than the plain program's"));
+    }
+    if taken && least_cost(alloc, reduced, first)? != least {
+        return Err(Fail::new("another least cost"));
+    }
+    Ok(taken)
+}
+
+// How many drawn steps are taken of a drawn instance.
 fn steps_taken(alloc: Global, seed: u64) -> Result<u32, Fail> {
     let mut draws = Draws { state: seed };
     let first = drawn_instance(alloc, &mut draws)?;
@@ -198,12 +226,8 @@ fn steps_taken(alloc: Global, seed: u64) -> Result<u32, Fail> {
     let mut taken: u32 = 0;
     for _turn in 0..400 {
         let step = drawn_step(alloc, &mut draws)?;
-        if reduced.apply(&step).is_ok() {
-            taken = taken.saturating_add(1);
-            if least_cost(alloc, &reduced, &first)? != least {
-                return Err(Fail::new("another least cost"));
-            }
-        }
+        let more = is_taken(alloc, &mut reduced, &first, &step, least)?;
+        taken = taken.saturating_add(u32::from(more));
     }
     Ok(taken)
 }

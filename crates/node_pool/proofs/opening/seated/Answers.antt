@@ -8,38 +8,8 @@ use Rattle.node_pool.proofs.Lists.{all_push, all_tail, map_snoc, map_long}
 use Rattle.node_pool.proofs.Seating.{IsUnused, next_is, seat_known, places_push_all}
 use Rattle.node_pool.proofs.opening.seated.Goals as goal
 
-pub seat-requires-clause-place : goal.seat-requires-clause-place
-seat-requires-clause-place g c =
-    let i = c.loop-owner.invariant in
-    let Q = map queue_of c.args.owners.items in
-    let n = length c.args.owners.items in
-    let os = c.loop-owner.owner-iterator.rest.items in
-    let now = c.next.new.self.rest.items in
-    let ss = c.loop-owner.sides.rest.items in
-    let later = c.next-in-loop-owner.new.self.rest.items in
-    let side = c.into_vec.result.items in
-    let is : os ≡ c.in-Some.owner ∷ now = search rules in
-    let it : ss ≡ side ∷ later = search rules in
-    let next = next_is Q n os now c.in-Some.owner ss later side c.loop-owner.passes.items (map_long queue_of c.args.owners.items) is it i.2 i.3 i.5 i.6 in
-    let within = next.within in search rules
-
-pub seat-requires-clause-few : goal.seat-requires-clause-few
-seat-requires-clause-few g c =
-    let i = c.loop-owner.invariant in
-    let Q = map queue_of c.args.owners.items in
-    let n = length c.args.owners.items in
-    let os = c.loop-owner.owner-iterator.rest.items in
-    let now = c.next.new.self.rest.items in
-    let ss = c.loop-owner.sides.rest.items in
-    let later = c.next-in-loop-owner.new.self.rest.items in
-    let side = c.into_vec.result.items in
-    let is : os ≡ c.in-Some.owner ∷ now = search rules in
-    let it : ss ≡ side ∷ later = search rules in
-    let next = next_is Q n os now c.in-Some.owner ss later side c.loop-owner.passes.items (map_long queue_of c.args.owners.items) is it i.2 i.3 i.5 i.6 in
-    let long = next.long in let few = c.requires.few in omega arith
-
-pub seat-requires-clause-queue : goal.seat-requires-clause-queue
-seat-requires-clause-queue g c =
+pub seat-requires : goal.seat-requires
+seat-requires g c =
     let i = c.loop-owner.invariant in
     let Q = map queue_of c.args.owners.items in
     let n = length c.args.owners.items in
@@ -52,37 +22,15 @@ seat-requires-clause-queue g c =
     let it : ss ≡ side ∷ later = search rules in
     let next = next_is Q n os now c.in-Some.owner ss later side c.loop-owner.passes.items (map_long queue_of c.args.owners.items) is it i.2 i.3 i.5 i.6 in
     let place : c.len-place.result ≡ length c.loop-owner.passes.items = search rules in
-    λ d. subst (λ k. (slice_index_or side k d).queue ≡ c.in-Some.owner.queue) (sym place) (next.here d)
-
-pub seat-requires-clause-fresh : goal.seat-requires-clause-fresh
-seat-requires-clause-fresh g c =
-    let i = c.loop-owner.invariant in
-    let Q = map queue_of c.args.owners.items in
-    let n = length c.args.owners.items in
-    let os = c.loop-owner.owner-iterator.rest.items in
-    let now = c.next.new.self.rest.items in
-    let ss = c.loop-owner.sides.rest.items in
-    let later = c.next-in-loop-owner.new.self.rest.items in
-    let side = c.into_vec.result.items in
-    let is : os ≡ c.in-Some.owner ∷ now = search rules in
-    let it : ss ≡ side ∷ later = search rules in
-    let next = next_is Q n os now c.in-Some.owner ss later side c.loop-owner.passes.items (map_long queue_of c.args.owners.items) is it i.2 i.3 i.5 i.6 in
-    next.own_fresh
-
-pub seat-requires-clause-unused : goal.seat-requires-clause-unused
-seat-requires-clause-unused g c =
-    let i = c.loop-owner.invariant in
-    let Q = map queue_of c.args.owners.items in
-    let n = length c.args.owners.items in
-    let os = c.loop-owner.owner-iterator.rest.items in
-    let now = c.next.new.self.rest.items in
-    let ss = c.loop-owner.sides.rest.items in
-    let later = c.next-in-loop-owner.new.self.rest.items in
-    let side = c.into_vec.result.items in
-    let is : os ≡ c.in-Some.owner ∷ now = search rules in
-    let it : ss ≡ side ∷ later = search rules in
-    let next = next_is Q n os now c.in-Some.owner ss later side c.loop-owner.passes.items (map_long queue_of c.args.owners.items) is it i.2 i.3 i.5 i.6 in
-    next.ends_unused
+    let within = next.within in
+    let long = next.long in
+    record {
+      within = search rules;
+      few = (let few = c.requires.few in omega arith);
+      same = λ d. subst (λ k. (slice_index_or side k d).queue ≡ c.in-Some.owner.queue) (sym place) (next.here d);
+      fresh = next.own_fresh;
+      unused = next.ends_unused;
+    }
 
 pub loop-owner-preserved : goal.loop-owner-preserved
 loop-owner-preserved g c =
