@@ -8,5 +8,5 @@ pub mod Joining
 pub mod Keeping
 pub mod Reading
 pub mod PutLinks
-pub mod Made
 pub mod Vertices
+pub mod AllPresent

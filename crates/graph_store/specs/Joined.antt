@@ -68,11 +68,6 @@ pub record ArePairs (es : List Entry) : Type 0 where
   pub ordered : All IsOrdered (keys_of es)
   pub once : IsDistinct (λ x y. is_pair x.0 x.1 y) (keys_of es)
 
--- the needs of the vertices from this one on, each with its vertex
-abbrev pub numbered_from : ℕ → List Need → List (ℕ × Need)
-numbered_from v [] = []
-numbered_from v (need ∷ needs) = (v, need) ∷ numbered_from (v + 1) needs
-
 -- links between the vertices 1 to n
 pub record Linked : Type 0 where
   pub n : ℕ

@@ -5,7 +5,7 @@ ghost use Rattle.graph_store.specs.Changes.{RemovesVertex, RemovesLink, with_lin
 ghost use Rattle.graph_store.specs.Neighbours.{AreNeighbours, IsDegree};
 
 use crate::Half;
-use crate::building::{link_all, needs_of, present_all, stated_needs};
+use crate::building::{link_all, present_all};
 use crate::links::Links;
 use st_model::{Instance, Need};
 use std::alloc::{AllocError, Global};
@@ -37,7 +37,7 @@ impl Store {
             ≡ record { network = instance.now; present = replicate instance.now.n true }) }
     {
         let links = link_all(alloc, instance)?;
-        let needs = needs_of(alloc, instance)?;
+        let needs = Vec::from_slice(alloc, instance.needs())?;
         let present = present_all(alloc, instance.vertices())?;
         Ok(Store {
             links,
@@ -111,8 +111,8 @@ impl Store {
         ensures { IfOk result (λ instance. instance ≡ self.now.network) }
     {
         let links = self.links.all(alloc)?;
-        let needs = stated_needs(alloc, &self.needs)?;
-        Instance::build(alloc, self.links.vertices(), &links, &needs)
+        let needs = Vec::from_slice(alloc, &self.needs)?;
+        Instance::from_parts(alloc, self.links.vertices(), links, needs)
     }
 
     /// Removes a vertex and its links, in time linear in its degree.

@@ -20,7 +20,6 @@ pub mod Joining
 pub mod Forcing
 pub mod Walking
 pub mod Detouring
-pub mod Stating
 pub mod Leading
 pub mod Beginning
 pub mod Chaining

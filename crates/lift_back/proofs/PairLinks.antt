@@ -211,24 +211,6 @@ one_each es pairs i j d before within =
     unjoined : (a b c d cost : ℕ) → a < b → c < d → is_pair a b (c, d) ≡ false → joins (record { a = c; b = d; cost = cost }) a b ≡ false
     unjoined a b c d cost first second apart = grind (arith, nat_tests)
 
--- where no link joins two vertices, there is none
-pub no_link : (ls : List Link) (u w : ℕ) → AllByRecursion (λ m. joins m u w ≡ false) ls → link ls u w ≡ None
-no_link [] u w h = refl
-no_link (l ∷ ls) u w h = rw h.0 (no_link ls u w h.1)
-
--- a link is of another pair than those before it
-pub absent : (ls : List Link) (es : List Entry) (i : ℕ) (d : Link) → AllPairs (λ l m. IsFalse (joins m l.a l.b)) ls → i < length ls → links_of es ≡ take i ls → link (links_of es) (get_or ls i d).a (get_or ls i d).b ≡ None
-absent ls es i d apart within links = ap (λ x. link x (get_or ls i d).a (get_or ls i d).b) links ∙ no_link (take i ls) (get_or ls i d).a (get_or ls i d).b (recursion_from_All (λ m. joins m (get_or ls i d).a (get_or ls i d).b ≡ false) (take i ls) each)
-  where
-    turned : (l m : Link) → joins l m.a m.b ≡ false → joins m l.a l.b ≡ false
-    turned l m h = grind (arith, nat_tests)
-
-    each : All (λ m. joins m (get_or ls i d).a (get_or ls i d).b ≡ false) (take i ls)
-    each k e short =
-        let before : k < i = (let len = length-take i ls in omega arith) in
-        let here : joins (get_or ls i d) (get_or ls k e).a (get_or ls k e).b ≡ false = subst (λ (x : Link). joins x (get_or ls k e).a (get_or ls k e).b ≡ false) (get_or_default ls i e d within) (apart k i e before within) in
-        rw (get_or-take i ls k e before) (turned (get_or ls i d) (get_or ls k e) here)
-
 -- the lower and the higher of two vertices are linked as they are
 pub link-ends : (es : List Entry) (a b low high : ℕ) → All IsOrdered (keys_of es) → low ≡ min a b → high ≡ max a b → link (links_of es) low high ≡ link (links_of es) a b
 link-ends es a b low high ordered low_is high_is = link-cost es low high ordered ∙ (cost_of-ends es a b low high low_is high_is ∙ sym (link-cost es a b ordered))

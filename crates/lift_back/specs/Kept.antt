@@ -36,11 +36,6 @@ pub record ArePairs (es : List Entry) : Type 0 where
   pub ordered : All IsOrdered (keys_of es)
   pub once : IsDistinct (λ x y. is_pair x.0 x.1 y) (keys_of es)
 
--- the needs of the vertices from this one on, each with its vertex
-abbrev pub numbered_from : ℕ → List Need → List (ℕ × Need)
-numbered_from v [] = []
-numbered_from v (need ∷ needs) = (v, need) ∷ numbered_from (v + 1) needs
-
 -- those that are listed for v
 abbrev pub row_at : List (Vec ℕ Global) → ℕ → List ℕ
 row_at rows v = slice_index_or (map (λ list. list.items) rows) v []

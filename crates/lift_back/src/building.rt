@@ -1,12 +1,11 @@
 ghost use Rattle.std.specs.Prelude.{◌≡◌, ℕ, ◌+◌, ◌-◌, ◌<◌, ◌^◌, IfOk, false, length, replicate, slice_index_or, vec_len};
 ghost use Rattle.st_model.specs.declared.need.Need.TheVariants.{Required};
-ghost use Rattle.st_model.specs.Network.{IsInstance, is_needed};
+ghost use Rattle.st_model.specs.Network.{is_needed};
 ghost use Rattle.lift_back.specs.Ends.{AreCovered};
-ghost use Rattle.lift_back.specs.Kept.{links_of, numbered_from, row_at, ArePairs};
+ghost use Rattle.lift_back.specs.Kept.{row_at};
 ghost use Rattle.lift_back.specs.Keeping.{count_to};
 
 use crate::ends::list_for;
-use crate::links::{Links, list_of};
 use st_model::{Instance, Need};
 use std::alloc::{AllocError, Global};
 
@@ -34,17 +33,6 @@ fn empty_rows(alloc: Global, last: u32) -> Result<Vec<Vec<u32>>, AllocError>
     Ok(rows)
 }
 
-// What each vertex needs.
-pub fn needs_of(alloc: Global, instance: &Instance) -> Result<Vec<Need>, AllocError>
-    ensures { IfOk result (λ needs. needs.items ≡ instance.now.needs) }
-{
-    let mut needs = Vec::new(alloc);
-    for before in 0..instance.vertices() {
-        needs.push(instance.need(before + 1))?;
-    }
-    Ok(needs)
-}
-
 // A mark for each vertex from 0 on, of which none is set.
 pub fn no_marks(alloc: Global, vertices: u32) -> Result<Vec<bool>, AllocError>
     ensures { IfOk result (λ marks. marks.items ≡ replicate (vertices + 1) false) }
@@ -64,33 +52,4 @@ pub fn count_required(needs: &[Need]) -> u32
         }
     }
     count
-}
-
-// The instance of these links and needs.
-pub fn instance_of(
-    alloc: Global,
-    vertices: u32,
-    links: &Links,
-    needs: &[Need],
-) -> Result<Instance, AllocError>
-    requires { IsInstance (record { n = vertices; links = links_of links.now.entries; needs = needs.now }) }
-    ensures { IfOk result (λ instance. instance ≡ record { n = vertices; links = links_of links.now.entries; needs = needs.now }) }
-{
-    let links = list_of(alloc, links)?;
-    let needs = stated_needs(alloc, needs)?;
-    Instance::build(alloc, vertices, &links, &needs)
-}
-
-// The needs, each with its vertex.
-fn stated_needs(alloc: Global, needs: &[Need]) -> Result<Vec<(u32, Need)>, AllocError>
-    requires { length needs.now + 1 < 2 ^ 32 }
-    ensures { IfOk result (λ stated. stated.items ≡ numbered_from 1 needs.now) }
-{
-    let mut stated = Vec::new(alloc);
-    let mut vertex = 1;
-    for need in needs {
-        stated.push((vertex, *need))?;
-        vertex += 1;
-    }
-    Ok(stated)
 }

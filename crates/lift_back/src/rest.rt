@@ -13,9 +13,9 @@ ghost use Rattle.lift_back.specs.Ends.{HasEnds, AreFew};
 ghost use Rattle.lift_back.specs.Kept.{links_of, row_at};
 ghost use Rattle.lift_back.specs.Keeping.{state_of, IsKept};
 
-use crate::building::{count_required, instance_of, needs_of, no_marks, rows_of};
+use crate::building::{count_required, no_marks, rows_of};
 use crate::ends::{Ends, ends_of, list_for};
-use crate::links::{Links, cost_between, links_by_pair, put_link, take_all, take_link};
+use crate::links::{Links, cost_between, links_by_pair, list_of, put_link, take_all, take_link};
 use crate::undo::Undo;
 use st_model::{Instance, Need};
 use std::alloc::{AllocError, Global};
@@ -45,7 +45,7 @@ impl Rest {
         let vertices = instance.vertices();
         let links = links_by_pair(alloc, instance)?;
         let rows = rows_of(alloc, instance)?;
-        let needs = needs_of(alloc, instance)?;
+        let needs = Vec::from_slice(alloc, instance.needs())?;
         let gone = no_marks(alloc, vertices)?;
         let required = count_required(&needs);
         Ok(Rest {
@@ -65,7 +65,9 @@ impl Rest {
         requires { IsKept self.now }
         ensures { IfOk result (λ instance. instance ≡ (state_of self.now).instance) }
     {
-        instance_of(alloc, self.vertices, &self.links, &self.needs)
+        let links = list_of(alloc, &self.links)?;
+        let needs = Vec::from_slice(alloc, &self.needs)?;
+        Instance::from_parts(alloc, self.vertices, links, needs)
     }
 
     // The vertices that are gone, ascending.

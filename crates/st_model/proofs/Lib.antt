@@ -22,3 +22,5 @@ pub mod Branches
 pub mod VectorLists
 pub mod Walked
 pub mod Those
+pub mod Once
+pub mod Searched

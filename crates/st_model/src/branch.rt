@@ -1,5 +1,7 @@
 ghost use Rattle.std.specs.Prelude.{◌≡◌, IfOk};
-ghost use Rattle.st_model.specs.Branch.{all_trees, with_vertex, with_inside, with_outside};
+ghost use Rattle.std.specs.List.Sorted.{IsNonDecreasing};
+ghost use Rattle.st_model.specs.Branch.{all_trees, is_undecided, with_vertex, with_inside, with_outside};
+ghost use Rattle.st_model.specs.Lists.{has};
 
 use crate::Listed;
 use std::alloc::{AllocError, Global};
@@ -33,6 +35,15 @@ impl Branch {
             inside: Listed::of(inside),
             outside: Listed::of(outside),
         })
+    }
+
+    /// Whether a vertex is neither inside nor outside.
+    pub fn is_undecided(&self, vertex: u32) -> bool
+        requires inside { IsNonDecreasing self.now.inside }
+        requires outside { IsNonDecreasing self.now.outside }
+        ensures { result ≡ is_undecided self.now vertex }
+    {
+        !holds(self.inside.as_slice(), vertex) && !holds(self.outside.as_slice(), vertex)
     }
 
     /// The branch with a vertex inside as well.
@@ -77,4 +88,12 @@ fn with(alloc: Global, vertices: &[u32], vertex: u32) -> Result<Vec<u32>, AllocE
         more.push(vertex)?;
     }
     Ok(more)
+}
+
+// Whether an ascending list has a vertex.
+fn holds(vertices: &[u32], vertex: u32) -> bool
+    requires { IsNonDecreasing vertices.now }
+    ensures { result ≡ has vertices.now vertex }
+{
+    vertices.binary_search(&vertex).is_ok()
 }

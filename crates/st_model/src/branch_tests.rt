@@ -1,3 +1,6 @@
+ghost use Rattle.std.specs.Bool.{OnTrue};
+ghost use Rattle.std.specs.List.Sorted.{IsNonDecreasing};
+
 use crate::{Branch, Instance, Need, Sides};
 use std::test::Fail;
 
@@ -15,6 +18,34 @@ fn halves_keep_the_order_of_vertices(rt: HostRuntime) -> Result<(), Fail> {
     let copy = branch.copied(rt.alloc())?;
     assert_eq!(rt; copy.inside.as_slice(), [2, 4, 9].as_slice());
     assert_eq!(rt; copy.outside.as_slice(), [3].as_slice());
+    Ok(())
+}
+
+fn ascends(vertices: &[u32]) -> bool
+    ensures { OnTrue result (IsNonDecreasing vertices.now) }
+{
+    vertices.is_sorted()
+}
+
+// Whether a vertex is undecided in a branch whose lists ascend.
+fn undecided(branch: &Branch, vertex: u32) -> Option<bool> {
+    if !ascends(branch.inside.as_slice()) || !ascends(branch.outside.as_slice()) {
+        return None;
+    }
+    Some(branch.is_undecided(vertex))
+}
+
+#[test]
+fn undecided_vertices_are_neither_inside_nor_outside(rt: HostRuntime) -> Result<(), Fail> {
+    let mut branch = Branch::all(rt.alloc());
+    for (inside, outside) in [(5, 1), (2, 8), (9, 6)] {
+        branch = branch.with_inside(rt.alloc(), inside)?;
+        branch = branch.with_outside(rt.alloc(), outside)?;
+    }
+    for vertex in 0..12 {
+        let free = [0, 3, 4, 7, 10, 11].contains(&vertex);
+        assert_eq!(rt; undecided(&branch, vertex), Some(free), "at {vertex}");
+    }
     Ok(())
 }
 

@@ -1,6 +1,6 @@
-ghost use Rattle.std.specs.Prelude.{◌≡◌, ◌+◌, ◌^◌, ◌<◌, ◌≤◌, IfOk, OnOk, All, map};
+ghost use Rattle.std.specs.Prelude.{◌≡◌, ◌+◌, ◌^◌, ◌<◌, ◌≤◌, IfOk, OnOk, All, AllPairs, IsFalse, map};
 ghost use Rattle.st_model.specs.Lists.{up_to};
-ghost use Rattle.st_model.specs.Network.{IsVertex};
+ghost use Rattle.st_model.specs.Network.{IsVertex, joins};
 ghost use Rattle.st_model.specs.Stated.{ends, merged, stated_need};
 ghost use Rattle.st_model.specs.Steps.{put_link};
 
@@ -24,6 +24,18 @@ pub fn merge_links(
         }
     }
     Ok((links, pairs))
+}
+
+// The pairs of links of which each joins other vertices.
+pub fn pairs_of(alloc: Global, links: &[Link]) -> Result<IndexSet<(u32, u32)>, AllocError>
+    requires { AllPairs (λ l m. IsFalse (joins m l.a l.b)) links.now }
+    ensures { IfOk result (λ pairs. pairs.keys ≡ map ends links.now) }
+{
+    let mut pairs = IndexSet::new(alloc);
+    for link in links {
+        pairs.insert((link.a.min(link.b), link.a.max(link.b)))?;
+    }
+    Ok(pairs)
 }
 
 // Makes the pair's link cheaper, or adds it.

@@ -4,7 +4,7 @@ ghost use Rattle.st_model.specs.Lists.{total};
 ghost use Rattle.st_model.specs.Network.{IsInstance, IsVertex, link, need_of, pays, prize};
 ghost use Rattle.st_model.specs.Stated.{network_of};
 
-use crate::build::{merge_links, merge_needs};
+use crate::build::{merge_links, merge_needs, pairs_of};
 use crate::{Link, Need};
 use indexmap::IndexSet;
 use std::alloc::{AllocError, Global};
@@ -63,6 +63,26 @@ impl Instance {
         })
     }
 
+    /// The instance of just these links and needs, those of the first vertex first.
+    pub fn from_parts(
+        alloc: Global,
+        vertices: u32,
+        links: Vec<Link>,
+        needs: Vec<Need>,
+    ) -> Result<Instance, AllocError>
+        requires { IsInstance (record { n = vertices; links = links.items; needs = needs.items }) }
+        ensures { IfOk result
+            (λ i. i ≡ record { n = vertices; links = links.items; needs = needs.items }) }
+    {
+        let pairs = pairs_of(alloc, &links)?;
+        Ok(Instance {
+            vertices,
+            links,
+            pairs,
+            needs,
+        })
+    }
+
     /// How many vertices there are; they are numbered from 1.
     pub fn vertices(&self) -> u32
         ensures count { result ≡ self.now.n }
@@ -77,6 +97,14 @@ impl Instance {
         ensures { result ≡ need_of self.now vertex }
     {
         self.needs[vertex as usize - 1]
+    }
+
+    /// What each vertex needs, the first one first.
+    pub fn needs(&self) -> &[Need]
+        ensures all { result.now ≡ self.now.needs }
+        ensures instance { IsInstance self.now }
+    {
+        &self.needs
     }
 
     /// What a vertex pays where it is left out: 0 where it is required.

@@ -50,6 +50,25 @@ fn builds_one_link_and_one_need_each(rt: HostRuntime) -> Result<(), Fail> {
     Ok(())
 }
 
+// The instance of another's links and needs.
+fn of_the_parts(alloc: Global, instance: &Instance) -> Result<Instance, AllocError> {
+    let links = Vec::from_slice(alloc, instance.links())?;
+    let needs = Vec::from_slice(alloc, instance.needs())?;
+    Instance::from_parts(alloc, instance.vertices(), links, needs)
+}
+
+#[test]
+fn the_parts_make_the_same_instance(rt: HostRuntime) -> Result<(), Fail> {
+    let instance = of_repeated_lines(rt.alloc())?;
+    let again = of_the_parts(rt.alloc(), &instance)?;
+    assert_eq!(rt; again.vertices(), 4);
+    assert_eq!(rt; again.links(), instance.links());
+    assert_eq!(rt; again.needs(), instance.needs());
+    assert_eq!(rt; again.link_cost(3, 2), Some(7));
+    assert_eq!(rt; again.link_cost(1, 3), None);
+    Ok(())
+}
+
 #[test]
 fn tells_what_a_link_costs(rt: HostRuntime) -> Result<(), Fail> {
     let instance = of_repeated_lines(rt.alloc())?;

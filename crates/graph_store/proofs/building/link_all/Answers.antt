@@ -1,7 +1,7 @@
 use Rattle.std.proofs.Common.{ap}
 use Rattle.st_model.specs.declared.link.Link.{Link}
 use Rattle.graph_store.specs.Joined.{Linked}
-use Rattle.graph_store.proofs.Made.{absent}
+use Rattle.st_model.proofs.Once.{absent}
 use Rattle.graph_store.proofs.building.link_all.Goals as goal
 
 pub attach-requires-clause-absent : goal.attach-requires-clause-absent
