@@ -1,0 +1,4 @@
+pub mod Visits
+pub mod Searching
+pub mod Steps
+pub mod Answers
