@@ -43,7 +43,7 @@ empty_fits : IsWritablePacking empty
 empty_fits = record { root = tt; few_cuts = omega arith; cuts = All-from_recursion IsWritableCut [] tt }
 
 closed_finishes : (a : Answer) (lines : List ProofLine) (w : ℕ) → Finishes (closed a lines w)
-closed_finishes a lines zero = end_finishes (Found a.primal a.dual a.tree lines)
+closed_finishes a lines zero = end_finishes (Found a.primal a.dual a.tree a.steps lines)
 closed_finishes a lines (suc w) =
     let p : Proving = record { answer = a; lines = lines; waiting = w } in
     by_line (AtHalf p) (closed a (lines ++ Close empty ∷ []) w) (words (codes "C") (0 ∷ 0 ∷ [])) (head_again p empty empty_fits) (closed_finishes a (lines ++ Close empty ∷ []) w)
@@ -74,7 +74,7 @@ proof_finishes a = let p : Proving = record { answer = a; lines = []; waiting = 
 arcs_finish : (primal dual start : ℕ) (arcs : List (ℕ × ℕ)) (left : ℕ) → Finishes (AtArcs primal dual start arcs left)
 unfolding step
 arcs_finish primal dual start arcs zero =
-    let a : Answer = record { primal = primal; dual = dual; tree = record { start = start; arcs = arcs } } in
+    let a : Answer = record { primal = primal; dual = dual; tree = record { start = start; arcs = arcs }; steps = [] } in
     by_line (AtArcs primal dual start arcs 0) (AtProof a) (codes "STEPS 0") refl (proof_finishes a)
 arcs_finish primal dual start arcs (suc left) =
     let arc : ℕ × ℕ = (1, 1) in

@@ -10,6 +10,8 @@ pub mod Lines
 pub mod WholeLines
 pub mod Texts
 pub mod AllTrees
+pub mod Alike
+pub mod Nexts
 pub mod Accepting
 pub mod Refusing
 pub mod Rejecting

@@ -127,7 +127,7 @@ proof_lacks (Close P ∷ lines) fits =
     lines-append (lines_of (Close P)) (flat_map lines_of lines) (words_lack (codes "C") (root_number P.root ∷ length P.cuts ∷ []) refl (omega (arith, root), (fits.0.few_cuts, tt)), cuts_lack P.cuts (recursion_from_All _ P.cuts fits.0.cuts)) (proof_lacks lines fits.1)
 
 claim_lacks : (claim : Claim) → IsClaimInRange claim → AreLines (claim_lines claim)
-claim_lacks (Found primal dual tree proof) fits =
+claim_lacks (Found primal dual tree steps proof) fits =
     let start : tree.start ≤ 1000000 = fits.tree_fits.start.1 in
     (words_lack (codes "CLAIM TREE") (primal ∷ dual ∷ []) refl (fits.primal_fits, (fits.dual_fits, tt)), (words_lack (codes "TREE") (tree.start ∷ length tree.arcs ∷ []) refl (omega arith, (fits.tree_fits.few_arcs, tt)), lines-append (map arc_line tree.arcs) (codes "STEPS 0" ∷ codes "PROOF" ∷ flat_map lines_of proof) (arcs_lack tree.arcs (recursion_from_All _ tree.arcs fits.tree_fits.arcs)) (refl, (refl, proof_lacks proof (recursion_from_All _ proof fits.lines_fit)))))
 claim_lacks (NoTree wall) fits =

@@ -9,6 +9,7 @@ use Rattle.cut_packing.specs.declared.cut.Cut.{Cut}
 use Rattle.cut_packing.specs.declared.packing.Packing.{Packing}
 use Rattle.log_format.specs.declared.log.Log.{Log}
 use Rattle.log_format.specs.declared.log.Claim.{Claim}
+use Rattle.lift_back.specs.declared.step.Step.{Step}
 use Rattle.log_format.specs.declared.log.Claim.TheVariants.{Found, NoTree}
 use Rattle.log_format.specs.declared.proof_line.ProofLine.{ProofLine}
 use Rattle.log_format.specs.declared.proof_line.ProofLine.TheVariants.{Split, Close}
@@ -107,28 +108,28 @@ half a lines w = AtHalf (record { answer = a; lines = lines; waiting = w })
 
 -- the rest of a proof is taken
 proof_again : (a : Answer) (front lines : List ProofLine) (w : ℕ) (rest : List (List ℕ)) → are_proofs (suc w) lines ≡ true → AllByRecursion IsWritableLine lines
-    → run (half a front w) (flat_map lines_of lines ++ rest) ≡ run (AtEnd (Found a.primal a.dual a.tree (front ++ lines))) rest
+    → run (half a front w) (flat_map lines_of lines ++ rest) ≡ run (AtEnd (Found a.primal a.dual a.tree a.steps (front ++ lines))) rest
 proof_again a front [] w rest passes fits = absurd cc
 proof_again a front (Split v ∷ lines) w rest passes fits =
     let more : suc w ≡ w + 1 = omega arith in
     let passes' : are_proofs (suc (w + 1)) lines ≡ true = subst (λ (k : ℕ). are_proofs (suc k) lines ≡ true) more passes in
     run-cons _ _ (words (codes "S") (v ∷ [])) (flat_map lines_of lines ++ rest) (split_again (record { answer = a; lines = front; waiting = w }) v fits.0)
-    ∙ (proof_again a (front ++ Split v ∷ []) lines (w + 1) rest passes' fits.1 ∙ ap (λ (r : List ProofLine). run (AtEnd (Found a.primal a.dual a.tree r)) rest) (append_assoc front (Split v ∷ []) lines))
+    ∙ (proof_again a (front ++ Split v ∷ []) lines (w + 1) rest passes' fits.1 ∙ ap (λ (r : List ProofLine). run (AtEnd (Found a.primal a.dual a.tree a.steps r)) rest) (append_assoc front (Split v ∷ []) lines))
 proof_again a front (Close P ∷ []) zero rest passes fits =
     ap (λ (r : List (List ℕ)). run (half a front 0) (r ++ rest)) (append-nil (lines_of (Close P))) ∙ close_again (record { answer = a; lines = front; waiting = 0 }) P rest fits.0
 proof_again a front (Close P ∷ line ∷ lines) zero rest passes fits = absurd cc
 proof_again a front (Close P ∷ lines) (suc w) rest passes fits =
     ap (run (half a front (suc w))) (append_assoc (lines_of (Close P)) (flat_map lines_of lines) rest)
     ∙ (close_again (record { answer = a; lines = front; waiting = suc w }) P (flat_map lines_of lines ++ rest) fits.0
-    ∙ (proof_again a (front ++ Close P ∷ []) lines w rest passes fits.1 ∙ ap (λ (r : List ProofLine). run (AtEnd (Found a.primal a.dual a.tree r)) rest) (append_assoc front (Close P ∷ []) lines)))
+    ∙ (proof_again a (front ++ Close P ∷ []) lines w rest passes fits.1 ∙ ap (λ (r : List ProofLine). run (AtEnd (Found a.primal a.dual a.tree a.steps r)) rest) (append_assoc front (Close P ∷ []) lines)))
 
 -- ---- logs
 
 -- the lines of a claim, and what follows them
 claim_again : (claim : Claim) (rest : List (List ℕ)) → IsClaimInRange claim → IsProved claim → run AtClaim (claim_lines claim ++ rest) ≡ run (AtEnd claim) rest
 unfolding step
-claim_again (Found primal dual tree proof) rest fits one =
-    let a : Answer = record { primal = primal; dual = dual; tree = tree } in
+claim_again (Found primal dual tree steps proof) rest fits one =
+    let a : Answer = record { primal = primal; dual = dual; tree = tree; steps = [] } in
     let after : List (List ℕ) = codes "STEPS 0" ∷ codes "PROOF" ∷ flat_map lines_of proof in
     let claim_is : step AtClaim (words (codes "CLAIM TREE") (primal ∷ dual ∷ [])) ≡ Some (AtTree primal dual) = rw ((pair_judges (codes "CLAIM TREE") 0 most 0 most (omega arith) (omega arith)).again (primal, dual) ((omega arith, omega (arith, fits.primal_fits)), (omega arith, omega (arith, fits.dual_fits)))) refl in
     let tree_is : step (AtTree primal dual) (words (codes "TREE") (tree.start ∷ length tree.arcs ∷ [])) ≡ Some (AtArcs primal dual tree.start [] (length tree.arcs)) = rw ((pair_judges (codes "TREE") 1 1000000 0 most (omega arith) (omega arith)).again (tree.start, length tree.arcs) (fits.tree_fits.start, (omega arith, omega (arith, fits.tree_fits.few_arcs)))) refl in
@@ -138,7 +139,8 @@ claim_again (Found primal dual tree proof) rest fits one =
     ∙ (arcs_again primal dual tree.start [] tree.arcs (after ++ rest) (recursion_from_All _ tree.arcs fits.tree_fits.arcs)
     ∙ (run-cons (AtArcs primal dual tree.start tree.arcs 0) (AtProof a) (codes "STEPS 0") (codes "PROOF" ∷ (flat_map lines_of proof ++ rest)) refl
     ∙ (run-cons (AtProof a) (half a [] 0) (codes "PROOF") (flat_map lines_of proof ++ rest) refl
-    ∙ proof_again a [] proof 0 rest (one_passes proof one) (recursion_from_All IsWritableLine proof fits.lines_fit))))))
+    ∙ (proof_again a [] proof 0 rest (one_passes proof one) (recursion_from_All IsWritableLine proof fits.lines_fit)
+    ∙ ap (λ (s : List Step). run (AtEnd (Found primal dual tree s proof)) rest) (sym fits.no_steps)))))))
 claim_again (NoTree wall) rest fits one =
     let wall_is : step AtWall (words (codes "WALL") (length wall ∷ wall)) ≡ Some (AtEnd (NoTree wall)) = rw (wall_judges.again wall (set_to wall fits)) refl in
     run-cons AtClaim AtWall (codes "CLAIM NONE") _ refl ∙ run-cons AtWall (AtEnd (NoTree wall)) _ rest wall_is

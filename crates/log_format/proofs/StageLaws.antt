@@ -84,13 +84,13 @@ tree_lines-push primal dual start arcs arc count = ap (λ (r : List (List ℕ)).
 at_arcs_takes : (primal dual start : ℕ) (arcs : List (ℕ × ℕ)) (left : ℕ) (line : List ℕ) (t : Stage) → IsReached (AtArcs primal dual start arcs left) → step (AtArcs primal dual start arcs left) line ≡ Some t → Takes (lines_read (AtArcs primal dual start arcs left)) line t
 unfolding step
 at_arcs_takes primal dual start arcs left line t fits e =
-    let a : Answer = record { primal = primal; dual = dual; tree = record { start = start; arcs = arcs } } in
+    let a : Answer = record { primal = primal; dual = dual; tree = record { start = start; arcs = arcs }; steps = [] } in
     elim (chosen (eqb left 0) (stage_if (codes "STEPS 0") line (AtProof a)) (pair_of (codes "A") 1 1000000 1 1000000 line >>= λ arc. Some (AtArcs primal dual start (arcs ++ arc ∷ []) (left - 1))) (Some t) e) [
       | inl h ↦
           let none : left ≡ 0 = eqb-true left 0 h.0 in
           let count : length arcs ≡ length arcs + left = omega arith in
           if_takes (codes "STEPS 0") line (AtProof a) t (lines_read (AtArcs primal dual start arcs left)) h.1 (
-            record { primal_fits = fits.primal_fits; dual_fits = fits.dual_fits; tree_fits = record { start = fits.start_fits; few_arcs = omega (arith, fits.few_arcs); arcs = All-from_recursion _ arcs fits.arcs_fit } },
+            record { primal_fits = fits.primal_fits; dual_fits = fits.dual_fits; tree_fits = record { start = fits.start_fits; few_arcs = omega (arith, fits.few_arcs); arcs = All-from_recursion _ arcs fits.arcs_fit }; no_steps = refl },
             ap (λ (k : ℕ). tree_lines primal dual start arcs k ++ codes "STEPS 0" ∷ []) count,
           )
       | inr h ↦
@@ -117,7 +117,7 @@ open-push : (lines : List ProofLine) (x : ProofLine) (left : ℕ) → open_after
 open-push lines x left e = open_after-append 1 lines (x ∷ []) left e
 
 -- the lines of a claim whose proof is read to its end
-claim_lines-read : (a : Answer) (lines : List ProofLine) (w : ℕ) → lines_read (AtEnd (Found a.primal a.dual a.tree lines)) ≡ proof_lines (record { answer = a; lines = lines; waiting = w })
+claim_lines-read : (a : Answer) (lines : List ProofLine) (w : ℕ) → lines_read (AtEnd (Found a.primal a.dual a.tree a.steps lines)) ≡ proof_lines (record { answer = a; lines = lines; waiting = w })
 claim_lines-read a lines w = ap (λ (r : List (List ℕ)). tree_lines a.primal a.dual a.tree.start [] (length a.tree.arcs) ++ r) (sym (append_assoc (map arc_line a.tree.arcs) (codes "STEPS 0" ∷ []) (codes "PROOF" ∷ flat_map lines_of lines)))
 
 -- a close that is read to its end
@@ -130,7 +130,7 @@ closed_takes p P fits close_fits = by_waiting p.waiting fits.halves.still fits.h
     by_waiting : (w : ℕ) → open_after 1 p.lines ≡ Some (w + 1) → w ≤ length p.lines → IsReached (closed p.answer (p.lines ++ Close P ∷ []) w) × (lines_read (closed p.answer (p.lines ++ Close P ∷ []) w) ≡ proof_lines p ++ lines_of (Close P))
     by_waiting zero e few =
         let whole = are_proofs-append 1 p.lines (Close P ∷ []) 1 e in (
-          (record { primal_fits = fits.answer_fits.primal_fits; dual_fits = fits.answer_fits.dual_fits; tree_fits = fits.answer_fits.tree_fits; lines_fit = All-from_recursion IsWritableLine (p.lines ++ Close P ∷ []) all_fit }, one_from (p.lines ++ Close P ∷ []) whole),
+          (record { primal_fits = fits.answer_fits.primal_fits; dual_fits = fits.answer_fits.dual_fits; tree_fits = fits.answer_fits.tree_fits; no_steps = fits.answer_fits.no_steps; lines_fit = All-from_recursion IsWritableLine (p.lines ++ Close P ∷ []) all_fit }, one_from (p.lines ++ Close P ∷ []) whole),
           claim_lines-read p.answer (p.lines ++ Close P ∷ []) 0 ∙ proof_lines-push p.answer p.lines (Close P) 0 p.waiting,
         )
     by_waiting (suc w) e few =

@@ -7,6 +7,7 @@ use Rattle.std.proofs.lemmas.Grind.{flat_map-append}
 use Rattle.std.proofs.lemmas.List.{append-nil}
 use Rattle.std.proofs.lemmas.Result.{on_ok_weaker}
 use Rattle.st_model.specs.declared.tree.Tree.{Tree}
+use Rattle.lift_back.specs.declared.step.Step.{Step}
 use Rattle.log_format.specs.declared.log.Claim.{Claim}
 use Rattle.log_format.specs.declared.log.Claim.TheVariants.{Found, NoTree}
 use Rattle.log_format.specs.declared.proof_line.ProofLine.{ProofLine}
@@ -20,20 +21,20 @@ four old a t1 t2 t3 new b c d whole h1 h2 h3 h4 e =
     ∙ (append_assoc ((old ++ a) ++ b) c d ∙ (append_assoc (old ++ a) b (c ++ d) ∙ (append_assoc old a (b ++ (c ++ d)) ∙ ap (λ (r : List ℕ). old ++ r) e))))
 
 -- the pieces of a claim of a tree
-found_parts : (primal dual : ℕ) (tree : Tree) (proof : List ProofLine)
+found_parts : (primal dual : ℕ) (tree : Tree) (steps : List Step) (proof : List ProofLine)
     → ended (words (codes "CLAIM TREE") (primal ∷ dual ∷ [])) ++ (flat_map ended (words (codes "TREE") (tree.start ∷ length tree.arcs ∷ []) ∷ map arc_line tree.arcs) ++ (codes "STEPS 0\nPROOF\n" ++ flat_map ended (flat_map lines_of proof)))
-    ≡ flat_map ended (claim_lines (Found primal dual tree proof))
-found_parts primal dual tree proof =
+    ≡ flat_map ended (claim_lines (Found primal dual tree steps proof))
+found_parts primal dual tree steps proof =
     let t : List ℕ = ended (words (codes "TREE") (tree.start ∷ length tree.arcs ∷ [])) in
     let rest : List (List ℕ) = codes "STEPS 0" ∷ codes "PROOF" ∷ flat_map lines_of proof in
     ap (λ (r : List ℕ). ended (words (codes "CLAIM TREE") (primal ∷ dual ∷ [])) ++ r) (append_assoc t (flat_map ended (map arc_line tree.arcs)) (flat_map ended rest) ∙ ap (λ (r : List ℕ). t ++ r) (sym (flat_map-append ended (map arc_line tree.arcs) rest)))
 
 -- a claim of a tree was written
-pub found_written : (r : Result (Unit {0}) AllocError) (claim : Claim) (primal dual : ℕ) (tree : Tree) (proof lines : List ProofLine) (old t1 t2 t3 new : List ℕ) → claim ≡ Found primal dual tree proof → lines ≡ proof
+pub found_written : (r : Result (Unit {0}) AllocError) (claim : Claim) (primal dual : ℕ) (tree : Tree) (steps : List Step) (proof lines : List ProofLine) (old t1 t2 t3 new : List ℕ) → claim ≡ Found primal dual tree steps proof → lines ≡ proof
     → t1 ≡ old ++ ended (words (codes "CLAIM TREE") (primal ∷ dual ∷ [])) → t2 ≡ t1 ++ flat_map ended (words (codes "TREE") (tree.start ∷ length tree.arcs ∷ []) ∷ map arc_line tree.arcs) → t3 ≡ t2 ++ codes "STEPS 0\nPROOF\n"
     → OnOk r (new ≡ t3 ++ flat_map ended (flat_map lines_of lines)) → OnOk r (new ≡ old ++ flat_map ended (claim_lines claim))
-found_written r claim primal dual tree proof lines old t1 t2 t3 new is same h1 h2 h3 h4 =
-    on_ok_weaker r (λ e. four old _ t1 t2 t3 new _ _ _ _ h1 h2 h3 (e ∙ ap (λ (l : List ProofLine). t3 ++ flat_map ended (flat_map lines_of l)) same) (found_parts primal dual tree proof) ∙ ap (λ (c : Claim). old ++ flat_map ended (claim_lines c)) (sym is)) h4
+found_written r claim primal dual tree steps proof lines old t1 t2 t3 new is same h1 h2 h3 h4 =
+    on_ok_weaker r (λ e. four old _ t1 t2 t3 new _ _ _ _ h1 h2 h3 (e ∙ ap (λ (l : List ProofLine). t3 ++ flat_map ended (flat_map lines_of l)) same) (found_parts primal dual tree steps proof) ∙ ap (λ (c : Claim). old ++ flat_map ended (claim_lines c)) (sym is)) h4
 
 -- a claim of no tree was written
 pub wall_written : (r : Result (Unit {0}) AllocError) (claim : Claim) (wall set old t1 new : List ℕ) → claim ≡ NoTree wall → set ≡ wall → t1 ≡ old ++ codes "CLAIM NONE\nWALL" → OnOk r (new ≡ t1 ++ ended (flat_map spaced (length set ∷ set))) → OnOk r (new ≡ old ++ flat_map ended (claim_lines claim))

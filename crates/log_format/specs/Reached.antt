@@ -41,6 +41,7 @@ pub record IsAnswer (a : Answer) : Type 0 where
   pub primal_fits : a.primal < 2 ^ 64
   pub dual_fits : a.dual < 2 ^ 64
   pub tree_fits : IsWritableTree a.tree
+  pub no_steps : a.steps ≡ []
 
 pub record IsProving (p : Proving) : Type 0 where
   pub answer_fits : IsAnswer p.answer

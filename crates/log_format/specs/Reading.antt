@@ -108,7 +108,7 @@ root_of (suc n) = Some (suc n)
 
 -- a half is closed: the next one comes, or the end
 abbrev pub closed : Answer → List ProofLine → ℕ → Stage
-closed a lines zero = AtEnd (Found a.primal a.dual a.tree lines)
+closed a lines zero = AtEnd (Found a.primal a.dual a.tree a.steps lines)
 closed a lines (suc waiting) = AtHalf (record { answer = a; lines = lines; waiting = waiting })
 
 -- the cuts of a close come, or there are none left
@@ -129,7 +129,7 @@ unfoldable pub step : Stage → List ℕ → Option Stage
 step AtHeader line = stage_if header line AtClaim
 step AtClaim line = if bytes_eq line (codes "CLAIM NONE") then Some AtWall else (pair_of (codes "CLAIM TREE") 0 most 0 most line >>= λ b. Some (AtTree b.0 b.1))
 step (AtTree primal dual) line = pair_of (codes "TREE") 1 1000000 0 most line >>= λ t. Some (AtArcs primal dual t.0 [] t.1)
-step (AtArcs primal dual start arcs left) line = if left == 0 then stage_if (codes "STEPS 0") line (AtProof (record { primal = primal; dual = dual; tree = record { start = start; arcs = arcs } }))
+step (AtArcs primal dual start arcs left) line = if left == 0 then stage_if (codes "STEPS 0") line (AtProof (record { primal = primal; dual = dual; tree = record { start = start; arcs = arcs }; steps = [] }))
     else (pair_of (codes "A") 1 1000000 1 1000000 line >>= λ arc. Some (AtArcs primal dual start (arcs ++ arc ∷ []) (left - 1)))
 step (AtProof a) line = stage_if (codes "PROOF") line (AtHalf (record { answer = a; lines = []; waiting = 0 }))
 step (AtHalf p) line = half_at p (number_of (codes "S") 1 1000000 line) line

@@ -6,6 +6,7 @@ use Rattle.st_model.specs.declared.tree.Tree.{Tree}
 use Rattle.st_model.specs.Network.{IsVertex}
 use Rattle.st_model.specs.Branch.{IsVertexSet}
 use Rattle.cut_packing.specs.declared.cut.Cut.{Cut}
+use Rattle.lift_back.specs.declared.step.Step.{Step}
 use Rattle.plain_text.specs.Lines.{ended}
 use Rattle.cut_packing.specs.declared.packing.Packing.{Packing}
 use Rattle.log_format.specs.declared.log.Log.{Log}
@@ -44,7 +45,7 @@ header = codes "STEINERLOG 1"
 
 -- the lines of a claim; no step is taken
 abbrev pub claim_lines : Claim → List (List ℕ)
-claim_lines (Found primal dual tree proof) = words (codes "CLAIM TREE") (primal ∷ dual ∷ []) ∷ words (codes "TREE") (tree.start ∷ length tree.arcs ∷ []) ∷ (map arc_line tree.arcs ++ (codes "STEPS 0" ∷ codes "PROOF" ∷ flat_map lines_of proof))
+claim_lines (Found primal dual tree steps proof) = words (codes "CLAIM TREE") (primal ∷ dual ∷ []) ∷ words (codes "TREE") (tree.start ∷ length tree.arcs ∷ []) ∷ (map arc_line tree.arcs ++ (codes "STEPS 0" ∷ codes "PROOF" ∷ flat_map lines_of proof))
 claim_lines (NoTree wall) = codes "CLAIM NONE" ∷ words (codes "WALL") (length wall ∷ wall) ∷ []
 
 -- the lines of a log, without their ends
@@ -83,15 +84,16 @@ pub record IsWritableTree (tree : Tree) : Type 0 where
   pub few_arcs : length tree.arcs < 2 ^ 64
   pub arcs : All (λ arc. IsAnyVertex arc.0 × IsAnyVertex arc.1) tree.arcs
 
-pub record IsWritableFound (primal dual : ℕ) (tree : Tree) (proof : List ProofLine) : Type 0 where
+pub record IsWritableFound (primal dual : ℕ) (tree : Tree) (steps : List Step) (proof : List ProofLine) : Type 0 where
   pub primal_fits : primal < 2 ^ 64
   pub dual_fits : dual < 2 ^ 64
   pub tree_fits : IsWritableTree tree
+  pub no_steps : steps ≡ []
   pub lines_fit : All IsWritableLine proof
 
 -- vertices from 1 to 1,000,000, other numbers below 2^64
 abbrev pub IsClaimInRange : Claim → Type 0
-IsClaimInRange (Found primal dual tree proof) = IsWritableFound primal dual tree proof
+IsClaimInRange (Found primal dual tree steps proof) = IsWritableFound primal dual tree steps proof
 IsClaimInRange (NoTree wall) = IsWritableSet wall
 
 abbrev pub IsInLogRange : Log → Type 0
@@ -99,7 +101,7 @@ IsInLogRange log = IsClaimInRange log.claim
 
 -- the lines of the proof are exactly one proof tree
 abbrev pub IsProved : Claim → Type 0
-IsProved (Found primal dual tree proof) = IsOneProof proof
+IsProved (Found primal dual tree steps proof) = IsOneProof proof
 IsProved (NoTree wall) = Unit {0}
 
 -- a log: one that can be written, and whose proof is one proof tree

@@ -7,6 +7,7 @@ use crate::line::{MAX_VERTEX, pair_of, wall_of};
 use crate::proving::{at_cuts, at_half};
 use crate::{Claim, ProofLine};
 use cut_packing::Cut;
+use lift_back::Step;
 use st_model::{Listed, Tree};
 use std::alloc::Global;
 
@@ -16,6 +17,7 @@ pub struct Answer {
     pub primal: u64,
     pub dual: u64,
     pub tree: Tree,
+    pub steps: Listed<Step>,
 }
 
 /// A proof of which a half is expected, and more halves that wait.
@@ -120,6 +122,7 @@ fn with_arc(arcs: Listed<(u32, u32)>, line: &[u8]) -> Result<Listed<(u32, u32)>,
 // What comes after a line where arcs may stand.
 #[tactic(auto, unfolding(crate::specs::Reading::step))]
 fn at_arcs(
+    alloc: Global,
     primal: u64,
     dual: u64,
     start: u32,
@@ -130,12 +133,13 @@ fn at_arcs(
     ensures { Gives (λ s. s) result (step (Stage.AtArcs primal dual start arcs left) line.now) }
 {
     if left == 0 {
-        let tree = Tree { start, arcs };
-        return stage_if(
-            b"STEPS 0",
-            line,
-            Stage::AtProof(Answer { primal, dual, tree }),
-        );
+        let answer = Answer {
+            primal,
+            dual,
+            tree: Tree { start, arcs },
+            steps: Listed::of(Vec::new(alloc)),
+        };
+        return stage_if(b"STEPS 0", line, Stage::AtProof(answer));
     }
     let arcs = with_arc(arcs, line)?;
     Ok(Stage::AtArcs {
@@ -185,7 +189,7 @@ pub fn step(alloc: Global, stage: Stage, line: &[u8]) -> Result<Stage, LineError
             start,
             arcs,
             left,
-        } => at_arcs(primal, dual, start, arcs, left, line),
+        } => at_arcs(alloc, primal, dual, start, arcs, left, line),
         Stage::AtProof(answer) => at_proof(alloc, answer, line),
         Stage::AtHalf(proving) => at_half(alloc, proving, line),
         Stage::AtCuts {

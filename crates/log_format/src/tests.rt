@@ -43,6 +43,7 @@ fn reads_what_the_star_says(rt: HostRuntime) -> Result<(), Fail> {
         dual,
         tree,
         proof,
+        ..
     } = &log.claim
     else {
         return Err("a tree is claimed".into());

@@ -162,6 +162,7 @@ fn write_claim(text: &mut Text, claim: &Claim) -> Result<(), AllocError>
             dual,
             tree,
             proof,
+            ..
         } => {
             write_pair(text, b"CLAIM TREE", *primal, *dual)?;
             write_tree(text, tree)?;

@@ -4,7 +4,7 @@ use Rattle.log_format.proofs.write.write_claim.Goals as goal
 pub returns-in_ok-write_word-in-Found : goal.returns-in_ok-write_word-in-Found
 returns-in_ok-write_word-in-Found c =
     let f = c.in-Found in
-    found_written c.write_proof.result c.args.claim.now f.primal f.dual f.tree f.proof c.lines.result.now c.args.text.now.items c.write_pair.new.text.items c.write_tree.new.text.items c.write_word.new.text.items c.write_proof.new.text.items f.is c.lines.ensures.all c.in_ok-write_pair-in-Found.ensures c.in_ok-write_tree-in-Found.ensures c.in_ok-write_word-in-Found.ensures c.write_proof.ensures
+    found_written c.write_proof.result c.args.claim.now f.primal f.dual f.tree f.steps f.proof c.lines.result.now c.args.text.now.items c.write_pair.new.text.items c.write_tree.new.text.items c.write_word.new.text.items c.write_proof.new.text.items f.is c.lines.ensures.all c.in_ok-write_pair-in-Found.ensures c.in_ok-write_tree-in-Found.ensures c.in_ok-write_word-in-Found.ensures c.write_proof.ensures
 
 pub returns-in_ok-write_word-in-NoTree : goal.returns-in_ok-write_word-in-NoTree
 returns-in_ok-write_word-in-NoTree c =
