@@ -39,11 +39,9 @@ wrong_log stp bytes I log (judge_error.Fault f) (Err fault) reads text rejects i
 wrong_log stp bytes I log judge_error.NoMemory (Err fault) reads text rejects is = subst (λ (x : CheckFault). IsAnswer stp bytes (Err x)) (sym is) tt
 
 module _ (stp bytes : List ℕ) (of_file : file.RefusedExactly stp) where
-  -- a verdict concludes of the one instance
-  pub answer_concludes : AcceptedHolds → (result : Result Verdict CheckFault) → IsAnswer stp bytes result → (I : Network) → Reads stp I → IfOk result (Concludes I)
-  answer_concludes holds (Ok verdict) (J, reads, (log, text, accepts, is)) I here =
-      subst (λ (v : Verdict). Concludes I v) (sym is) (subst (λ (K : Network). Concludes K (verdict_of log.claim)) (of_file.one_instance J I reads here) (holds_concludes J log.claim (holds J log accepts)))
-  answer_concludes holds (Err e) answer I here = tt
+  -- a verdict on the instance that is read concludes of the one instance
+  pub concludes_of_it : (J : Network) (verdict : Verdict) → Reads stp J → Concludes J verdict → (I : Network) → Reads stp I → Concludes I verdict
+  concludes_of_it J verdict reads concludes I here = subst (λ (K : Network). Concludes K verdict) (of_file.one_instance J I reads here) concludes
 
   -- a refused file is answered with its fault
   pub file_answers : (result : Result Verdict CheckFault) → IsAnswer stp bytes result → (line : ℕ) (reason : Reason) → Refused stp line reason → Answers result (Err (Stp (record { line = line; reason = reason })))
