@@ -33,7 +33,7 @@ no_tree I wall is_wall t is_tree =
 
 -- what is claimed holds
 claim_holds : (I : Network) (claim : Claim) → AcceptsClaim I claim → Holds I claim
-claim_holds I (Found primal dual tree proof) accepts =
+claim_holds I (Found primal dual tree steps proof) accepts =
     let bound = bounds I primal dual tree proof accepts in
     (accepts.is_tree, sym accepts.is_cost, bound, λ equal. record { tree = accepts.is_tree; least = subst (IsBound I) (equal ∙ accepts.is_cost) bound })
 claim_holds I (NoTree wall) accepts = no_tree I wall accepts

@@ -119,7 +119,7 @@ all_right I x (B ∷ Bs) at (Close P ∷ lines) even none not_right =
 
 -- what is accepted isn't rejected
 not_both : (I : Network) (claim : Claim) → AcceptsClaim I claim → (l : ℕ) (k : Kind) → RejectsClaim I claim l k → ⊥
-not_both I (Found primal dual tree proof) accepts l k rejects =
+not_both I (Found primal dual tree steps proof) accepts l k rejects =
     let p = accepts.is_proved in
     let right : IsRight I dual (all_trees ∷ []) proof = subst (λ (ls : List ProofLine). IsRight I dual (all_trees ∷ []) ls) (append-nil (preorder p.0) ∙ sym p.1) (right_preorder I dual p.0 all_trees [] [] p.2 tt) in
     passes 3 l NotTree k rejects accepts.is_tree (λ a. passes 2 l WrongCost k a accepts.is_cost (λ b. passes 2 l DualAbovePrimal k b accepts.is_below (none_wrong I dual (all_trees ∷ []) (proof_line tree) proof l k right)))
@@ -127,13 +127,13 @@ not_both I (NoTree wall) accepts l k rejects = passes 3 l BadWall k rejects acce
 
 -- what is rejected is rejected once
 once : (I : Network) (claim : Claim) (l l' : ℕ) (k k' : Kind) → RejectsClaim I claim l k → RejectsClaim I claim l' k' → (l ≡ l') × (k ≡ k')
-once I (Found primal dual tree proof) l l' k k' a b =
+once I (Found primal dual tree steps proof) l l' k k' a b =
     agree 3 l l' NotTree k k' a b (λ c d. agree 2 l l' WrongCost k k' c d (λ e f. agree 2 l l' DualAbovePrimal k k' e f (one_wrong I dual (all_trees ∷ []) (proof_line tree) proof l l' k k')))
 once I (NoTree wall) l l' k k' a b = agree 3 l l' BadWall k k' a b (λ none other. absurd none)
 
 -- what isn't accepted can't go without being rejected
 no_escape : (I : Network) (claim : Claim) → IsProved claim → (AcceptsClaim I claim → ⊥) → ((l : ℕ) (k : Kind) → RejectsClaim I claim l k → ⊥) → ⊥
-no_escape I (Found primal dual tree proof) one not_accepted none =
+no_escape I (Found primal dual tree steps proof) one not_accepted none =
     none 3 NotTree (inl (
       (λ is_tree. none 2 WrongCost (inr (
         is_tree,

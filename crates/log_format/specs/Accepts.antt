@@ -30,7 +30,7 @@ pub record AcceptsFound (I : Network) (primal dual : ℕ) (tree : Tree) (proof :
 
 -- the claim is right of the instance
 abbrev pub AcceptsClaim : Network → Claim → Type 0
-AcceptsClaim I (Found primal dual tree proof) = AcceptsFound I primal dual tree proof
+AcceptsClaim I (Found primal dual tree steps proof) = AcceptsFound I primal dual tree proof
 AcceptsClaim I (NoTree wall) = IsWall I wall
 
 -- the log is right of the instance
@@ -39,7 +39,7 @@ Accepts I log = AcceptsClaim I log.claim
 
 -- what an accepted claim means: a tree of this cost and a bound, and a best tree where they are equal; or no tree at all
 abbrev pub Holds : Network → Claim → Type 0
-Holds I (Found primal dual tree proof) = IsTree I tree × (cost I tree ≡ primal) × IsBound I dual × (dual ≡ primal → IsBest I tree)
+Holds I (Found primal dual tree steps proof) = IsTree I tree × (cost I tree ≡ primal) × IsBound I dual × (dual ≡ primal → IsBest I tree)
 Holds I (NoTree wall) = (t : Tree) → IsTree I t → ⊥
 
 -- what is accepted holds
@@ -63,7 +63,7 @@ proof_line tree = 6 + length tree.arcs
 
 -- the first check that a claim fails, and its line
 abbrev pub RejectsClaim : Network → Claim → ℕ → Kind → Type 0
-RejectsClaim I (Found primal dual tree proof) line kind = FailsFirst (IsTree I tree) 3 NotTree line kind
+RejectsClaim I (Found primal dual tree steps proof) line kind = FailsFirst (IsTree I tree) 3 NotTree line kind
     (FailsFirst (primal ≡ cost I tree) 2 WrongCost line kind
     (FailsFirst (dual ≤ primal) 2 DualAbovePrimal line kind
     (IsFirstWrong I dual (all_trees ∷ []) (proof_line tree) proof line kind)))

@@ -42,6 +42,7 @@ fn reads_what_the_star_says(rt: HostRuntime) -> Result<(), Fail> {
         primal,
         dual,
         tree,
+        steps,
         proof,
     } = &log.claim
     else {
@@ -49,6 +50,7 @@ fn reads_what_the_star_says(rt: HostRuntime) -> Result<(), Fail> {
     };
     assert_eq!(rt; (*primal, *dual, tree.start), (6, 6, 1));
     assert_eq!(rt; tree.arcs.as_slice(), [(1, 4), (4, 2), (4, 3)].as_slice());
+    assert!(rt; steps.as_slice().is_empty());
     let [ProofLine::Close(packing)] = proof.lines() else {
         return Err("the proof is one close".into());
     };
