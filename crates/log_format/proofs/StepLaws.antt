@@ -69,9 +69,9 @@ step_of_takes : (line : List ℕ) (s : Step) → step_of line ≡ Some s → Rea
 unfolding step_of
 step_of_takes line s e =
     by_letter (λ v. Pendant v) (codes "P") line (number_of (codes "P") 1 1000000 line) _ s refl (λ v fits spelled. (fits, spelled)) (λ e'.
-      by_letter (λ v. Through v) (codes "H") line (number_of (codes "H") 1 1000000 line) _ s refl (λ v fits spelled. (fits, spelled)) (λ e''.
-        by_letter (λ v. Forced v) (codes "F") line (number_of (codes "F") 1 1000000 line) _ s refl (λ v fits spelled. (fits, spelled)) (detour_takes line s) e''
-      ) e'
+    by_letter (λ v. Through v) (codes "H") line (number_of (codes "H") 1 1000000 line) _ s refl (λ v fits spelled. (fits, spelled)) (λ e''.
+    by_letter (λ v. Forced v) (codes "F") line (number_of (codes "F") 1 1000000 line) _ s refl (λ v fits spelled. (fits, spelled)) (detour_takes line s) e''
+    ) e'
     ) e
 
 -- a line that begins with another letter
