@@ -1,5 +1,5 @@
 -- Each kind of step is read just where it is spelled so.
-use Rattle.std.proofs.Common.{◌≡◌, ℕ, false, eqb, List, [], ◌∷◌, ◌++◌, Option, Some, None, refl, sym, ap, subst, ◌∙◌, arith}
+use Rattle.std.proofs.Common.{◌≡◌, ℕ, false, eqb, List, [], ◌∷◌, ◌++◌, Option, Some, None, refl, ap, subst, ◌∙◌, arith}
 use Rattle.std.specs.Prelude.{codes}
 use Rattle.std.proofs.lemmas.List.Elements.{recursion_from_All, All-from_recursion}
 use Rattle.lift_back.specs.declared.step.Step.{Step}
@@ -8,7 +8,7 @@ use Rattle.plain_text.proofs.Steps.{step_some}
 use Rattle.log_format.specs.Text.{spaced, words, step_line, IsAnyVertex, IsWritableInner, IsWritableStep}
 use Rattle.log_format.specs.Reading.{after, number_at, number_of, counted_at, detour_head_of, detour_of, of_vertex, step_of}
 use Rattle.log_format.proofs.Cut.{after_takes}
-use Rattle.log_format.proofs.LineLaws.{Judges, IsBetween, number_at_takes, number_at_again, number_of_judges, AreCounted, counted, counted_judges}
+use Rattle.log_format.proofs.LineLaws.{Judges, number_at_takes, number_at_again, number_of_judges, AreCounted, counted, counted_judges}
 
 -- the line is the spelling of the step, and that can be written
 abbrev Reads : List ℕ → Step → Type 0
