@@ -78,7 +78,8 @@ steps_finish a (suc left) =
 
 arcs_finish : (primal dual start : ℕ) (arcs : List (ℕ × ℕ)) (left : ℕ) → Finishes (AtArcs primal dual start arcs left)
 arcs_finish primal dual start arcs zero =
-    by_line (AtArcs primal dual start arcs 0) (AtSteps (no_step_yet primal dual start arcs) 0) (words (codes "STEPS") (0 ∷ [])) (count_again primal dual start arcs 0 (omega arith)) (steps_finish (no_step_yet primal dual start arcs) 0)
+    let a = no_step_yet primal dual start arcs in
+    by_line (AtArcs primal dual start arcs 0) (AtSteps a 0) (words (codes "STEPS") (0 ∷ [])) (count_again primal dual start arcs 0 (omega arith)) (steps_finish a 0)
 arcs_finish primal dual start arcs (suc left) =
     let arc : ℕ × ℕ = (1, 1) in
     by_line (AtArcs primal dual start arcs (suc left)) (AtArcs primal dual start (arcs ++ arc ∷ []) left) (arc_line arc) (arc_again primal dual start arcs arc left ((omega arith, omega arith), (omega arith, omega arith))) (arcs_finish primal dual start (arcs ++ arc ∷ []) left)

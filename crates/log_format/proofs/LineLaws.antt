@@ -166,7 +166,8 @@ counted_takes bytes vs e =
     let n = step_some (number_at 1 most bytes) _ vs e in
     let t = number_at_takes 1 most bytes n.0 (omega arith) n.1 in
     let u = vertices_take n.0.0 n.0.1 vs n.2 in
-    (record { some = omega (arith, t.0, u.0); few = omega (arith, t.0, u.0); vertices = u.1 }, t.1 ∙ (ap (λ (r : List ℕ). spaced n.0.0 ++ r) u.2 ∙ ap (λ (k : ℕ). spaced k ++ flat_map spaced vs) (sym u.0)))
+    let spelled = t.1 ∙ (ap (λ (r : List ℕ). spaced n.0.0 ++ r) u.2 ∙ ap (λ (k : ℕ). spaced k ++ flat_map spaced vs) (sym u.0)) in
+    (record { some = omega (arith, t.0, u.0); few = omega (arith, t.0, u.0); vertices = u.1 }, spelled)
 
 -- vertices that are written after their number are read
 counted_again : (vs : List ℕ) → AreCounted vs → counted_at (counted vs) ≡ Some vs

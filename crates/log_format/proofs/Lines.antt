@@ -150,7 +150,13 @@ claim_lacks (Found primal dual tree steps proof) fits =
     let proof_lines : List (List ℕ) = codes "PROOF" ∷ flat_map lines_of proof in
     let steps_lines : List (List ℕ) = words (codes "STEPS") (length steps ∷ []) ∷ (map step_line steps ++ proof_lines) in
     let start : tree.start ≤ 1000000 = fits.tree_fits.start.1 in
-    (words_lack (codes "CLAIM TREE") (primal ∷ dual ∷ []) refl (fits.primal_fits, (fits.dual_fits, tt)), (words_lack (codes "TREE") (tree.start ∷ length tree.arcs ∷ []) refl (omega arith, (fits.tree_fits.few_arcs, tt)), lines-append (map arc_line tree.arcs) steps_lines (arcs_lack tree.arcs (recursion_from_All _ tree.arcs fits.tree_fits.arcs)) (words_lack (codes "STEPS") (length steps ∷ []) refl (fits.few_steps, tt), lines-append (map step_line steps) proof_lines (steps_lack steps (recursion_from_All _ steps fits.steps_fit)) (refl, proof_lacks proof (recursion_from_All _ proof fits.lines_fit)))))
+    let claim_is = words_lack (codes "CLAIM TREE") (primal ∷ dual ∷ []) refl (fits.primal_fits, (fits.dual_fits, tt)) in
+    let tree_is = words_lack (codes "TREE") (tree.start ∷ length tree.arcs ∷ []) refl (omega arith, (fits.tree_fits.few_arcs, tt)) in
+    let arcs_are = arcs_lack tree.arcs (recursion_from_All _ tree.arcs fits.tree_fits.arcs) in
+    let count_is = words_lack (codes "STEPS") (length steps ∷ []) refl (fits.few_steps, tt) in
+    let steps_are = steps_lack steps (recursion_from_All _ steps fits.steps_fit) in
+    let proof_is = proof_lacks proof (recursion_from_All _ proof fits.lines_fit) in
+    (claim_is, (tree_is, lines-append (map arc_line tree.arcs) steps_lines arcs_are (count_is, lines-append (map step_line steps) proof_lines steps_are (refl, proof_is))))
 claim_lacks (NoTree wall) fits =
     let few : length wall ≤ most = (set_to wall fits).few in
     (refl, (words_lack (codes "WALL") (length wall ∷ wall) refl (omega arith, vertices_are wall (recursion_from_All _ wall fits.vertices.in_range)), tt))

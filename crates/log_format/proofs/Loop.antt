@@ -22,7 +22,8 @@ pub goes_on : (front : List ℕ) (count i : ℕ) (bytes : List ℕ) (first : ℕ
 unfolding vertices_at
 goes_on front count i bytes first after all lt h so_far =
     let k : count - i ≡ suc (count - (i + 1)) = omega arith in
-    let one : with_front front (vertices_at (count - i) bytes) ≡ with_front (front ++ first ∷ []) (vertices_at (count - (i + 1)) after) = rw (k, h) (regroup front first (vertices_at (count - (i + 1)) after)) in
+    let one : with_front front (vertices_at (count - i) bytes) ≡ with_front (front ++ first ∷ []) (vertices_at (count - (i + 1)) after) =
+    rw (k, h) (regroup front first (vertices_at (count - (i + 1)) after)) in
     sym one ∙ so_far
 
 -- what is no vertex ends the reading
@@ -48,5 +49,6 @@ pub too_long : (front : List ℕ) (count i : ℕ) (bytes : List ℕ) (all : Opti
 too_long front count i bytes all le some so_far = is_done front count i bytes all le so_far ∙ rw some refl
 
 -- all were read, and nothing is left
-pub all_read : (front : List ℕ) (count i : ℕ) (bytes : List ℕ) (all : Option (List ℕ)) → count ≤ i → (length bytes == 0) ≡ true → with_front front (vertices_at (count - i) bytes) ≡ all → all ≡ Some front
+pub all_read : (front : List ℕ) (count i : ℕ) (bytes : List ℕ) (all : Option (List ℕ)) → count ≤ i → (length bytes == 0) ≡ true
+    → with_front front (vertices_at (count - i) bytes) ≡ all → all ≡ Some front
 all_read front count i bytes all le none so_far = is_done front count i bytes all le so_far ∙ rw none (ap (λ (r : List ℕ). Some r) (append-nil front))

@@ -67,7 +67,8 @@ step_again a s left fits =
     rw (some, step_judges.again s fits) (ap (λ (k : ℕ). Some (AtSteps (with_step a s) k)) less)
 
 -- how many steps come is taken where no arc is left
-pub count_again : (primal dual start : ℕ) (arcs : List (ℕ × ℕ)) (count : ℕ) → count < 2 ^ 64 → step (AtArcs primal dual start arcs 0) (words (codes "STEPS") (count ∷ [])) ≡ Some (AtSteps (no_step_yet primal dual start arcs) count)
+pub count_again : (primal dual start : ℕ) (arcs : List (ℕ × ℕ)) (count : ℕ) → count < 2 ^ 64
+    → step (AtArcs primal dual start arcs 0) (words (codes "STEPS") (count ∷ [])) ≡ Some (AtSteps (no_step_yet primal dual start arcs) count)
 unfolding step
 count_again primal dual start arcs count few = rw ((number_of_judges (codes "STEPS") 0 most (omega arith)).again count (omega arith, omega (arith, few))) refl
 
@@ -142,14 +143,16 @@ proof_again a front (Split v ∷ lines) w rest passes fits =
     let more : suc w ≡ w + 1 = omega arith in
     let passes' : are_proofs (suc (w + 1)) lines ≡ true = subst (λ (k : ℕ). are_proofs (suc k) lines ≡ true) more passes in
     run-cons _ _ (words (codes "S") (v ∷ [])) (flat_map lines_of lines ++ rest) (split_again (record { answer = a; lines = front; waiting = w }) v fits.0)
-    ∙ (proof_again a (front ++ Split v ∷ []) lines (w + 1) rest passes' fits.1 ∙ ap (λ (r : List ProofLine). run (AtEnd (Found a.primal a.dual a.tree a.steps r)) rest) (append_assoc front (Split v ∷ []) lines))
+    ∙ (proof_again a (front ++ Split v ∷ []) lines (w + 1) rest passes' fits.1
+    ∙ ap (λ (r : List ProofLine). run (AtEnd (Found a.primal a.dual a.tree a.steps r)) rest) (append_assoc front (Split v ∷ []) lines))
 proof_again a front (Close P ∷ []) zero rest passes fits =
     ap (λ (r : List (List ℕ)). run (half a front 0) (r ++ rest)) (append-nil (lines_of (Close P))) ∙ close_again (record { answer = a; lines = front; waiting = 0 }) P rest fits.0
 proof_again a front (Close P ∷ line ∷ lines) zero rest passes fits = absurd cc
 proof_again a front (Close P ∷ lines) (suc w) rest passes fits =
     ap (run (half a front (suc w))) (append_assoc (lines_of (Close P)) (flat_map lines_of lines) rest)
     ∙ (close_again (record { answer = a; lines = front; waiting = suc w }) P (flat_map lines_of lines ++ rest) fits.0
-    ∙ (proof_again a (front ++ Close P ∷ []) lines w rest passes fits.1 ∙ ap (λ (r : List ProofLine). run (AtEnd (Found a.primal a.dual a.tree a.steps r)) rest) (append_assoc front (Close P ∷ []) lines)))
+    ∙ (proof_again a (front ++ Close P ∷ []) lines w rest passes fits.1
+    ∙ ap (λ (r : List ProofLine). run (AtEnd (Found a.primal a.dual a.tree a.steps r)) rest) (append_assoc front (Close P ∷ []) lines)))
 
 -- ---- logs
 

@@ -23,7 +23,8 @@ inner_to : (inner : List ℕ) → IsWritableInner inner → AreCounted inner
 inner_to inner h = record { some = h.some; few = omega (arith, h.few); vertices = recursion_from_All IsAnyVertex inner h.vertices }
 
 -- the ends of a detour that were read, and what follows them
-detour_head_takes : (line : List ℕ) (head : ℕ × ℕ × List ℕ) → detour_head_of line ≡ Some head → IsAnyVertex head.0 × IsAnyVertex head.1 × (line ≡ codes "D" ++ (spaced head.0 ++ (spaced head.1 ++ head.2)))
+detour_head_takes : (line : List ℕ) (head : ℕ × ℕ × List ℕ) → detour_head_of line ≡ Some head
+    → IsAnyVertex head.0 × IsAnyVertex head.1 × (line ≡ codes "D" ++ (spaced head.0 ++ (spaced head.1 ++ head.2)))
 unfolding detour_head_of
 detour_head_takes line head e =
     let rest = step_some (after (codes "D") line) _ head e in
@@ -51,13 +52,15 @@ detour_takes line s e =
 detour_again : (a b : ℕ) (inner : List ℕ) → IsWritableStep (Detour a b inner) → detour_of (step_line (Detour a b inner)) ≡ Some (Detour a b inner)
 unfolding detour_of detour_head_of
 detour_again a b inner fits =
-    rw (number_at_again 1 1000000 a (spaced b ++ counted inner) (omega arith) fits.0 refl, number_at_again 1 1000000 b (counted inner) (omega arith) fits.1 refl, counted_judges.again inner (inner_to inner fits.2)) refl
+    let first = number_at_again 1 1000000 a (spaced b ++ counted inner) (omega arith) fits.0 refl in
+    let second = number_at_again 1 1000000 b (counted inner) (omega arith) fits.1 refl in
+    rw (first, second, counted_judges.again inner (inner_to inner fits.2)) refl
 
 -- ---- steps of one vertex
 
 -- a line of this letter and a vertex, or else another
-by_letter : (kind : ℕ → Step) (letter line : List ℕ) (found : Option ℕ) (other : Option Step) (s : Step) → number_of letter 1 1000000 line ≡ found → ((v : ℕ) → IsAnyVertex v → line ≡ words letter (v ∷ []) → Reads line (kind v)) → (other ≡ Some s → Reads line s)
-    → of_vertex kind found other ≡ Some s → Reads line s
+by_letter : (kind : ℕ → Step) (letter line : List ℕ) (found : Option ℕ) (other : Option Step) (s : Step) → number_of letter 1 1000000 line ≡ found
+    → ((v : ℕ) → IsAnyVertex v → line ≡ words letter (v ∷ []) → Reads line (kind v)) → (other ≡ Some s → Reads line s) → of_vertex kind found other ≡ Some s → Reads line s
 by_letter kind letter line (Some v) other s is this others e =
     let same : kind v ≡ s = cc in
     let j = (number_of_judges letter 1 1000000 (omega arith)).takes line v is in

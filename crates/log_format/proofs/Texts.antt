@@ -40,12 +40,15 @@ found_parts primal dual tree steps proof =
     ∙ ap (λ (r : List ℕ). head ++ r) (sym (flat_map-append ended (tree_part tree) (steps_part steps ++ proof_part proof)))
 
 -- a claim of a tree was written
-pub found_written : (r : Result (Unit {0}) AllocError) (claim : Claim) (primal dual : ℕ) (tree : Tree) (steps listed : List Step) (proof lines : List ProofLine) (old t1 t2 t3 new : List ℕ) → claim ≡ Found primal dual tree steps proof → listed ≡ steps → lines ≡ proof
+pub found_written : (r : Result (Unit {0}) AllocError) (claim : Claim) (primal dual : ℕ) (tree : Tree) (steps listed : List Step) (proof lines : List ProofLine) (old t1 t2 t3 new : List ℕ)
+    → claim ≡ Found primal dual tree steps proof → listed ≡ steps → lines ≡ proof
     → t1 ≡ old ++ ended (words (codes "CLAIM TREE") (primal ∷ dual ∷ [])) → t2 ≡ t1 ++ flat_map ended (tree_part tree) → t3 ≡ t2 ++ flat_map ended (steps_part listed)
     → OnOk r (new ≡ t3 ++ flat_map ended (proof_part lines)) → OnOk r (new ≡ old ++ flat_map ended (claim_lines claim))
 found_written r claim primal dual tree steps listed proof lines old t1 t2 t3 new is same_steps same h1 h2 h3 h4 =
     let steps_are : t3 ≡ t2 ++ flat_map ended (steps_part steps) = h3 ∙ ap (λ (l : List Step). t2 ++ flat_map ended (steps_part l)) same_steps in
-    on_ok_weaker r (λ e. four old _ t1 t2 t3 new _ _ _ _ h1 h2 steps_are (e ∙ ap (λ (l : List ProofLine). t3 ++ flat_map ended (proof_part l)) same) (found_parts primal dual tree steps proof) ∙ ap (λ (c : Claim). old ++ flat_map ended (claim_lines c)) (sym is)) h4
+    let proof_is = ap (λ (l : List ProofLine). t3 ++ flat_map ended (proof_part l)) same in
+    let claim_is = ap (λ (c : Claim). old ++ flat_map ended (claim_lines c)) (sym is) in
+    on_ok_weaker r (λ e. four old _ t1 t2 t3 new _ _ _ _ h1 h2 steps_are (e ∙ proof_is) (found_parts primal dual tree steps proof) ∙ claim_is) h4
 
 -- a claim of no tree was written
 pub wall_written : (r : Result (Unit {0}) AllocError) (claim : Claim) (wall set old t1 new : List ℕ) → claim ≡ NoTree wall → set ≡ wall → t1 ≡ old ++ codes "CLAIM NONE\nWALL" → OnOk r (new ≡ t1 ++ ended (flat_map spaced (length set ∷ set))) → OnOk r (new ≡ old ++ flat_map ended (claim_lines claim))

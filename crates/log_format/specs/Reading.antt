@@ -130,7 +130,9 @@ of_vertex kind (Some v) other = Some (kind v)
 of_vertex kind None other = other
 
 unfoldable pub step_of : List ℕ → Option Step
-step_of line = of_vertex (λ v. Pendant v) (number_of (codes "P") 1 1000000 line) (of_vertex (λ v. Through v) (number_of (codes "H") 1 1000000 line) (of_vertex (λ v. Forced v) (number_of (codes "F") 1 1000000 line) (detour_of line)))
+step_of line = of_vertex (λ v. Pendant v) (number_of (codes "P") 1 1000000 line)
+    (of_vertex (λ v. Through v) (number_of (codes "H") 1 1000000 line)
+    (of_vertex (λ v. Forced v) (number_of (codes "F") 1 1000000 line) (detour_of line)))
 
 -- this stage, if the line is this one
 abbrev pub stage_if : List ℕ → List ℕ → Stage → Option Stage

@@ -53,7 +53,8 @@ header = codes "STEINERLOG 1"
 
 -- the lines of a claim
 abbrev pub claim_lines : Claim → List (List ℕ)
-claim_lines (Found primal dual tree steps proof) = words (codes "CLAIM TREE") (primal ∷ dual ∷ []) ∷ words (codes "TREE") (tree.start ∷ length tree.arcs ∷ []) ∷ (map arc_line tree.arcs ++ (words (codes "STEPS") (length steps ∷ []) ∷ (map step_line steps ++ (codes "PROOF" ∷ flat_map lines_of proof))))
+claim_lines (Found primal dual tree steps proof) = words (codes "CLAIM TREE") (primal ∷ dual ∷ []) ∷ words (codes "TREE") (tree.start ∷ length tree.arcs ∷ [])
+    ∷ (map arc_line tree.arcs ++ (words (codes "STEPS") (length steps ∷ []) ∷ (map step_line steps ++ (codes "PROOF" ∷ flat_map lines_of proof))))
 claim_lines (NoTree wall) = codes "CLAIM NONE" ∷ words (codes "WALL") (length wall ∷ wall) ∷ []
 
 -- the lines of a log, without their ends
