@@ -2,6 +2,7 @@ pub mod Cut
 pub mod Preorders
 pub mod Loop
 pub mod LineLaws
+pub mod StepLaws
 pub mod Sets
 pub mod StageLaws
 pub mod Runs

@@ -11,8 +11,8 @@ pub struct Log {
 /// What a log claims of an instance.
 #[derive(Debug, Drop)]
 pub enum Claim {
-    /// A tree of cost `primal`, and reduction steps with a proof, in what these leave of the
-    /// instance, that no tree costs less than `dual`.
+    /// A tree of cost `primal`, and a proof that no tree costs less than `dual`: reduction steps,
+    /// and a proof tree of what they leave.
     Found {
         primal: u64,
         dual: u64,
