@@ -1,6 +1,6 @@
 -- What is answered of a file and a log, by the laws of both.
 use Rattle.std.proofs.Common.{◌≡◌, ℕ, ◌^◌, ◌<◌, ◌≤◌, List, [], ◌∷◌, inl, inr, length, Result, Ok, Err, refl, sym, ap, subst, ◌∙◌, arith, length-append}
-use Rattle.std.specs.Prelude.{IfOk, IsErrAnd}
+use Rattle.std.specs.Prelude.{IsErrAnd}
 use Rattle.std.specs.List.{flat_map}
 use Rattle.st_model.specs.Network.{Network}
 use Rattle.stp_reader.specs.declared.reason.Reason.{Reason}
@@ -8,7 +8,7 @@ use Rattle.stp_reader.specs.Reads.{Reads, Refused}
 use Rattle.stp_reader.specs.Laws as file
 use Rattle.log_format.specs.declared.kind.Kind.{Kind}
 use Rattle.log_format.specs.declared.log.Log as log_type
-use Rattle.log_format.specs.Accepts.{Rejects, AcceptedHolds}
+use Rattle.log_format.specs.Accepts.{Rejects}
 use Rattle.log_format.specs.Laws.{OneSpelling, RefusedExactly, RejectedExactly}
 use Rattle.plain_text.specs.Lines.{ended}
 use Rattle.log_format.specs.Text.{log_text, log_lines}
@@ -21,7 +21,6 @@ use Rattle.cert_checker.specs.Checking.{IsTextOf, IsAcceptedText, IsWrongText, I
 use Rattle.cert_checker.specs.Fault.{fault_of_log}
 use Rattle.cert_checker.specs.Judging.{HasFewLines, IfFault}
 use Rattle.cert_checker.specs.Verdict.{Concludes, verdict_of}
-use Rattle.cert_checker.proofs.Judgements.{holds_concludes}
 
 -- each line of a text has a byte at least, its end
 lines_are_few : (lines : List (List ℕ)) → length lines ≤ length (flat_map ended lines)

@@ -1,6 +1,8 @@
 -- What a judgement tells of a log, by the laws of logs.
-use Rattle.std.proofs.Common.{◌≡◌, ℕ, ◌+◌, Bool, true, false, cond, List, [], ◌∷◌, inl, inr, Result, Ok, Err, refl, sym, ap, subst}
-use Rattle.std.specs.Prelude.{◌==◌, IfOk, IfErr, IsErrAnd}
+use Rattle.std.proofs.Common.{◌≡◌, ℕ, ◌+◌, ◌^◌, ◌<◌, Bool, true, false, cond, List, [], ◌∷◌, ◌++◌, map, length, length-append, inl, inr, Result, Ok, Err, refl, sym, ap, subst, arith}
+use Rattle.std.specs.Prelude.{◌==◌, IfOk, IfErr, IsErrAnd, codes}
+use Rattle.std.specs.List.{flat_map}
+use Rattle.std.proofs.lemmas.List.{length-map}
 use Rattle.std.proofs.lemmas.Bool.{eqb-true}
 use Rattle.st_model.specs.declared.tree.Tree.{Tree}
 use Rattle.st_model.specs.Network.{Network, IsInstance}
@@ -15,13 +17,14 @@ use Rattle.log_format.specs.declared.log.Claim.TheVariants as claim
 use Rattle.log_format.specs.declared.proof_line.ProofLine.{ProofLine}
 use Rattle.log_format.specs.Accepts.{Accepts, Rejects, RejectsClaim, AcceptedHolds, Holds, IsFirstBad, IsFirstWrongIn, steps_line, proof_line}
 use Rattle.log_format.specs.Laws.{RejectedExactly}
+use Rattle.log_format.specs.Text.{words, arc_line, step_line, lines_of, header, claim_lines}
 use Rattle.log_format.proofs.Alike.{takes_may}
 use Rattle.cert_checker.specs.declared.fault.JudgeError.{JudgeError}
 use Rattle.cert_checker.specs.declared.fault.JudgeError.TheVariants.{Fault, NoMemory}
 use Rattle.cert_checker.specs.declared.verdict.Verdict.{Verdict}
 use Rattle.cert_checker.specs.declared.verdict.Verdict.TheVariants.{Optimal, Bound}
 use Rattle.cert_checker.specs.Verdict.{Concludes, verdict_of}
-use Rattle.cert_checker.specs.Judging.{IfFault, IsJudgement, IsVerdict, IsFault, IsRightTree, AreBadSteps}
+use Rattle.cert_checker.specs.Judging.{IfFault, IsJudgement, IsVerdict, IsFault, IsRightTree, HasFewLines, AreBadSteps}
 
 -- an accepted log has its verdict
 pub accepted_gives : (I : Network) (log : Log) (result : Result Verdict JudgeError) → RejectedExactly I log → IsJudgement I log result → Accepts I log → IsVerdict result (verdict_of log.claim)
@@ -77,3 +80,17 @@ proof_rejects I primal dual first tree steps proof s (Ok x) is_right at applies 
 proof_rejects I primal dual first tree steps proof s (Err (Fault f)) is_right at applies wrong =
     inr (is_right.is_tree, inr (is_right.is_cost, inr (is_right.is_below, others_bad (whole I) s (steps_line tree) steps f.line f.kind _ applies (subst (λ (n : ℕ). IsFirstWrongIn s dual n proof f.line f.kind) at wrong))))
 proof_rejects I primal dual first tree steps proof s (Err NoMemory) is_right at applies wrong = tt
+
+-- ---- how many lines there are
+
+-- the lines of a log, by their parts
+counted : (header claim tree steps proof end : List ℕ) (arcs ds lines : List (List ℕ)) → length (header ∷ ((claim ∷ tree ∷ (arcs ++ (steps ∷ (ds ++ (proof ∷ lines))))) ++ end ∷ [])) ≡ 6 + length arcs + length ds + length lines
+counted header claim tree steps proof end arcs ds lines =
+    omega (arith, length-append (arcs ++ (steps ∷ (ds ++ (proof ∷ lines)))) (end ∷ []), length-append arcs (steps ∷ (ds ++ (proof ∷ lines))), length-append ds (proof ∷ lines))
+
+-- the lines of steps and of a proof can be numbered where all can
+pub few_lines : (log : Log) (primal dual : ℕ) (tree : Tree) (steps : List Step) (proof : List ProofLine) → log.claim ≡ claim.Found primal dual tree steps proof → HasFewLines log → proof_line tree steps + length (flat_map lines_of proof) < 2 ^ 64
+few_lines log primal dual tree steps proof is few =
+    let count = counted header (words (codes "CLAIM TREE") (primal ∷ dual ∷ [])) (words (codes "TREE") (tree.start ∷ length tree.arcs ∷ [])) (words (codes "STEPS") (length steps ∷ [])) (codes "PROOF") (codes "END") (map arc_line tree.arcs) (map step_line steps) (flat_map lines_of proof) in
+    let all : length (header ∷ (claim_lines (claim.Found primal dual tree steps proof) ++ codes "END" ∷ [])) < 2 ^ 64 = subst (λ (c : Claim). length (header ∷ (claim_lines c ++ codes "END" ∷ [])) < 2 ^ 64) is few in
+    omega (arith, all, count, length-map tree.arcs arc_line, length-map steps step_line)

@@ -1,11 +1,10 @@
 -- The path that leaves out those who are gone leads to the branch of what is left, and no half waits on it.
-use Rattle.std.proofs.Common.{◌≡◌, ℕ, ◌<◌, Bool, true, false, cond, not, ◌&&◌, List, [], ◌∷◌, ◌++◌, map, reverse, refl, sym, ap, subst, ◌∙◌, arith, append_assoc, eq-eqb}
+use Rattle.std.proofs.Common.{◌≡◌, ℕ, ◌<◌, true, false, cond, not, List, [], ◌∷◌, ◌++◌, map, reverse, refl, sym, ap, subst, ◌∙◌, arith, append_assoc, eq-eqb}
 use Rattle.std.specs.Prelude.{nat_lt, IsTrue, IsFalse, ◌==◌}
 use Rattle.std.specs.List.{AllByRecursion}
 use Rattle.std.proofs.lemmas.Bool.{false_from_ne_true, or_left, or_right}
 use Rattle.std.proofs.lemmas.Bool.Decides.{nat_tests}
 use Rattle.std.proofs.lemmas.List.{append-nil, map-append, reverse-append}
-use Rattle.std.proofs.lemmas.List.Elements.{recursion_from_All}
 use Rattle.std.proofs.lemmas.List.Kept.{AllPairs-from_increasing}
 use Rattle.st_model.specs.declared.branch.Branch.{Branch}
 use Rattle.st_model.specs.Lists.{has}
@@ -17,8 +16,7 @@ use Rattle.lift_back.specs.State.{State, IsState}
 use Rattle.lift_back.proofs.Trees.{all_append}
 use Rattle.log_format.specs.Accepts.{left_over}
 use Rattle.log_format.proofs.Alike.{Rises, rises}
-use Rattle.cert_checker.specs.declared.turn.Turn.{Turn}
-use Rattle.cert_checker.specs.declared.turn.Turn.TheVariants.{Inside, Outside}
+use Rattle.cert_checker.specs.declared.turn.Turn.TheVariants.{Outside}
 use Rattle.cert_checker.specs.Path.{branch_of, waiting, leaving_out, AreSplits}
 
 -- one more at the end is the last turn

@@ -58,7 +58,13 @@ fn judge_claim(alloc: Global, instance: &Instance, log: &Log) -> Result<(), Judg
             judge_tree(alloc, instance, *primal, *dual, tree)?;
             let steps = steps.as_slice();
             let reduced = reduced_by(alloc, instance, steps_line(tree), steps)?;
-            judge_proof(alloc, &reduced, *dual, proof_line(tree, steps), proof.lines())
+            judge_proof(
+                alloc,
+                &reduced,
+                *dual,
+                proof_line(tree, steps),
+                proof.lines(),
+            )
         }
         Claim::NoTree { wall } => judge_wall(alloc, instance, wall),
     }

@@ -1,5 +1,5 @@
-use Rattle.std.proofs.Common.{◌≡◌, ap, sym, ◌∙◌}
-use Rattle.cert_checker.specs.Path.{branch_of, leaving_out, waiting}
+use Rattle.std.proofs.Common.{◌≡◌, ap, ◌∙◌}
+use Rattle.cert_checker.specs.Path.{leaving_out, waiting}
 use Rattle.cert_checker.proofs.LeftOut.{none_waits, left_out_splits}
 use Rattle.cert_checker.proofs.Judged.{proves_in, wrong_in}
 use Rattle.cert_checker.proofs.proof.judge_proof.Goals as goal
