@@ -1,6 +1,6 @@
 -- What is answered of a file and a log, by the laws of both.
 use Rattle.std.proofs.Common.{◌≡◌, ℕ, ◌^◌, ◌<◌, ◌≤◌, List, [], ◌∷◌, inl, inr, length, Result, Ok, Err, refl, sym, ap, subst, ◌∙◌, arith, length-append}
-use Rattle.std.specs.Prelude.{IfOk, IsErrAnd}
+use Rattle.std.specs.Prelude.{IsErrAnd}
 use Rattle.std.specs.List.{flat_map}
 use Rattle.st_model.specs.Network.{Network}
 use Rattle.stp_reader.specs.declared.reason.Reason.{Reason}
@@ -8,7 +8,7 @@ use Rattle.stp_reader.specs.Reads.{Reads, Refused}
 use Rattle.stp_reader.specs.Laws as file
 use Rattle.log_format.specs.declared.kind.Kind.{Kind}
 use Rattle.log_format.specs.declared.log.Log as log_type
-use Rattle.log_format.specs.Accepts.{Rejects, AcceptedHolds}
+use Rattle.log_format.specs.Accepts.{Rejects}
 use Rattle.log_format.specs.Laws.{OneSpelling, RefusedExactly, RejectedExactly}
 use Rattle.plain_text.specs.Lines.{ended}
 use Rattle.log_format.specs.Text.{log_text, log_lines}
@@ -21,7 +21,6 @@ use Rattle.cert_checker.specs.Checking.{IsTextOf, IsAcceptedText, IsWrongText, I
 use Rattle.cert_checker.specs.Fault.{fault_of_log}
 use Rattle.cert_checker.specs.Judging.{HasFewLines, IfFault}
 use Rattle.cert_checker.specs.Verdict.{Concludes, verdict_of}
-use Rattle.cert_checker.proofs.Judgements.{holds_concludes}
 
 -- each line of a text has a byte at least, its end
 lines_are_few : (lines : List (List ℕ)) → length lines ≤ length (flat_map ended lines)
@@ -39,11 +38,9 @@ wrong_log stp bytes I log (judge_error.Fault f) (Err fault) reads text rejects i
 wrong_log stp bytes I log judge_error.NoMemory (Err fault) reads text rejects is = subst (λ (x : CheckFault). IsAnswer stp bytes (Err x)) (sym is) tt
 
 module _ (stp bytes : List ℕ) (of_file : file.RefusedExactly stp) where
-  -- a verdict concludes of the one instance
-  pub answer_concludes : AcceptedHolds → (result : Result Verdict CheckFault) → IsAnswer stp bytes result → (I : Network) → Reads stp I → IfOk result (Concludes I)
-  answer_concludes holds (Ok verdict) (J, reads, (log, text, accepts, is)) I here =
-      subst (λ (v : Verdict). Concludes I v) (sym is) (subst (λ (K : Network). Concludes K (verdict_of log.claim)) (of_file.one_instance J I reads here) (holds_concludes J log.claim (holds J log accepts)))
-  answer_concludes holds (Err e) answer I here = tt
+  -- a verdict on the instance that is read concludes of the one instance
+  pub concludes_of_it : (J : Network) (verdict : Verdict) → Reads stp J → Concludes J verdict → (I : Network) → Reads stp I → Concludes I verdict
+  concludes_of_it J verdict reads concludes I here = subst (λ (K : Network). Concludes K verdict) (of_file.one_instance J I reads here) concludes
 
   -- a refused file is answered with its fault
   pub file_answers : (result : Result Verdict CheckFault) → IsAnswer stp bytes result → (line : ℕ) (reason : Reason) → Refused stp line reason → Answers result (Err (Stp (record { line = line; reason = reason })))

@@ -3,6 +3,8 @@ pub mod Paths
 pub mod Branches
 pub mod Orders
 pub mod Walls
+pub mod LeftOut
 pub mod Judged
 pub mod Judgements
 pub mod Checks
+pub mod Taken

@@ -1,17 +1,20 @@
 -- What judging a log answers, and what is wrong with one of its lines.
-use Rattle.std.specs.Prelude.{◌≡◌, ℕ, ◌^◌, ◌<◌, ◌≤◌, ◌⊎◌, Result, Ok, Err, length}
+use Rattle.std.specs.Prelude.{◌≡◌, ℕ, ◌^◌, ◌<◌, ◌≤◌, ◌⊎◌, Result, Ok, Err, List, length}
 use Rattle.st_model.specs.declared.branch.Branch.{Branch}
 use Rattle.st_model.specs.Network.{Network}
 use Rattle.st_model.specs.declared.tree.Tree.{Tree}
 use Rattle.st_model.specs.Arborescence.{IsTree, cost}
 use Rattle.cut_packing.specs.Packing.{Fits, weight}
 use Rattle.cut_packing.specs.ProofTree.{IsSplit, Closes}
+use Rattle.lift_back.specs.declared.step.Step.{Step}
+use Rattle.lift_back.specs.State.{State, whole}
+use Rattle.lift_back.specs.Steps.{MayTake}
 use Rattle.log_format.specs.declared.kind.Kind.{Kind}
-use Rattle.log_format.specs.declared.kind.Kind.TheVariants.{NotTree, WrongCost, DualAbovePrimal, BadSplit, BadPacking, TooLight}
+use Rattle.log_format.specs.declared.kind.Kind.TheVariants.{NotTree, WrongCost, DualAbovePrimal, BadStep, BadSplit, BadPacking, TooLight}
 use Rattle.log_format.specs.declared.log.Log.{Log}
 use Rattle.log_format.specs.declared.proof_line.ProofLine.{ProofLine}
 use Rattle.log_format.specs.declared.proof_line.ProofLine.TheVariants.{Split, Close}
-use Rattle.log_format.specs.Accepts.{Accepts, Rejects, FailsFirst}
+use Rattle.log_format.specs.Accepts.{Accepts, Rejects, FailsFirst, IsFirstBad}
 use Rattle.log_format.specs.Text.{log_lines}
 use Rattle.cert_checker.specs.declared.fault.JudgeError.{JudgeError}
 use Rattle.cert_checker.specs.declared.fault.JudgeError.TheVariants.{Fault, NoMemory}
@@ -44,6 +47,14 @@ IsFault result line kind = (result ≡ Err (Fault (record { line = line; kind = 
 abbrev pub IsRightLine : Network → ℕ → Branch → ProofLine → Type 0
 IsRightLine I x B (Split v) = IsSplit I B v
 IsRightLine I x B (Close P) = Closes I B x P
+
+-- the step may not be taken; at is the number of its line
+abbrev pub IsBadStep : State → ℕ → Step → ℕ → Kind → Type 0
+IsBadStep s at step line kind = FailsFirst (MayTake step s) at BadStep line kind ⊥
+
+-- the first of the steps that may not be taken; at is the number of the first step's line
+abbrev pub AreBadSteps : Network → ℕ → List Step → ℕ → Kind → Type 0
+AreBadSteps I at steps line kind = IsFirstBad (whole I) at steps line kind (λ s. ⊥)
 
 -- the first check of the line that fails; at is its number
 abbrev pub IsWrongLine : Network → ℕ → Branch → ℕ → ProofLine → ℕ → Kind → Type 0

@@ -1,5 +1,5 @@
 -- The way from the branch of all trees to one of the open branches. Helpers' clauses cite this, and no public one.
-use Rattle.std.specs.Prelude.{ℕ, nat_lt, if◌then◌else◌, List, [], ◌∷◌, Option, Some, None}
+use Rattle.std.specs.Prelude.{ℕ, nat_lt, if◌then◌else◌, List, [], ◌∷◌, Option, Some, None, map, reverse}
 use Rattle.std.specs.List.{prefix_len}
 use Rattle.std.specs.List.Sorted.{IsNonDecreasing}
 use Rattle.st_model.specs.declared.branch.Branch.{Branch}
@@ -25,6 +25,10 @@ turned B (Outside v) = with_outside B v
 abbrev pub branch_of : List Turn → Branch
 branch_of [] = all_trees
 branch_of (turn ∷ path) = turned (branch_of path) turn
+
+-- the turns that leave some vertices out, the first of them first
+abbrev pub leaving_out : List ℕ → List Turn
+leaving_out vertices = reverse (map Outside vertices)
 
 -- the halves that wait: of each turn to the inside, the other one
 abbrev pub waiting : List Turn → List Branch

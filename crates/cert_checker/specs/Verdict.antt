@@ -20,5 +20,5 @@ Concludes I NoTree = (t : Tree) → IsTree I t → ⊥
 
 -- the verdict on an accepted claim: the tree is best where the bound is its cost
 abbrev pub verdict_of : Claim → Verdict
-verdict_of (claim.Found primal dual tree proof) = if dual == primal then Optimal primal else Bound dual primal
+verdict_of (claim.Found primal dual tree steps proof) = if dual == primal then Optimal primal else Bound dual primal
 verdict_of (claim.NoTree wall) = NoTree

@@ -32,7 +32,6 @@ pub fn check(alloc: Global, stp: &[u8], log: &[u8]) -> Result<Verdict, CheckFaul
         → Answers result (Err (Log (record { line = line; kind = kind }))) }
 {
     log_format::one_spelling();
-    log_format::accepted_holds();
     log_format::rejected_exactly();
     log_format::refused_exactly();
     stp_reader::refused_exactly();
@@ -41,8 +40,10 @@ pub fn check(alloc: Global, stp: &[u8], log: &[u8]) -> Result<Verdict, CheckFaul
 
 // The verdict, or the first fault.
 fn answer(alloc: Global, stp: &[u8], log: &[u8]) -> Result<Verdict, CheckFault>
-    ensures { IsAnswer stp.now log.now result }
+    ensures exact { IsAnswer stp.now log.now result }
+    ensures concludes { (I : Network) → Reads stp.now I → IfOk result (Concludes I) }
 {
+    stp_reader::refused_exactly();
     let instance = read_stp(alloc, stp)?;
     let log = read_log(alloc, log)?;
     let verdict = judge(alloc, &instance, &log)?;

@@ -11,6 +11,7 @@ mod judging;
 mod line;
 mod path;
 mod proof;
+mod steps;
 #[cfg(test)]
 mod tests;
 mod turn;

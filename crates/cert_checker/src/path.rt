@@ -1,7 +1,7 @@
 ghost use Rattle.std.specs.Prelude.{◌≡◌, ◌≤◌, [], ◌∷◌, length, IfOk, MatchOption};
 ghost use Rattle.std.specs.List.Sorted.{IsNonDecreasing};
 ghost use Rattle.st_model.specs.Branch.{with_vertex};
-ghost use Rattle.cert_checker.specs.Path.{IsInOrder, branch_of, next_path, turned, turned_back, place_of, without};
+ghost use Rattle.cert_checker.specs.Path.{IsInOrder, branch_of, leaving_out, next_path, turned, turned_back, place_of, without};
 
 use crate::turn::Turn;
 use st_model::{Branch, Listed};
@@ -32,7 +32,7 @@ impl Model for Path {
 
 impl Path {
     // The path to the branch of all trees.
-    pub fn new(alloc: Global) -> Self
+    fn new(alloc: Global) -> Self
         ensures { result ≡ [] }
     {
         Path {
@@ -42,6 +42,17 @@ impl Path {
                 outside: Listed::of(Vec::new(alloc)),
             },
         }
+    }
+
+    // The path to the branch of the trees that reach none of these.
+    pub fn leaving_out(alloc: Global, vertices: &[u32]) -> Result<Self, AllocError>
+        ensures { IfOk result (λ path. path ≡ leaving_out vertices.now) }
+    {
+        let mut path = Path::new(alloc);
+        for vertex in vertices {
+            path = path.push(Turn::Outside(*vertex))?;
+        }
+        Ok(path)
     }
 
     // The branch that the path leads to.

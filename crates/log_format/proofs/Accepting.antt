@@ -1,9 +1,9 @@
--- What is accepted holds: a proved bound bounds every tree, and no tree gets past a wall.
-use Rattle.std.proofs.Common.{◌≡◌, ℕ, List, [], ◌∷◌, sym, ap, subst, ◌∙◌}
+-- What is accepted holds: a bound that is proved of what steps leave bounds every tree, and no tree gets past a wall.
+use Rattle.std.proofs.Common.{◌≡◌, ℕ, List, [], ◌∷◌, sym, ap, subst, ◌∙◌, arith}
 use Rattle.std.proofs.lemmas.Bool.{both_ways}
 use Rattle.st_model.specs.declared.tree.Tree.{Tree}
 use Rattle.st_model.specs.Lists.{has}
-use Rattle.st_model.specs.Network.{Network}
+use Rattle.st_model.specs.Network.{Network, IsInstance}
 use Rattle.st_model.specs.Arborescence.{IsTree, IsBound}
 use Rattle.st_model.proofs.Members.{has-one}
 use Rattle.st_model.proofs.Reaching.{one_side}
@@ -12,13 +12,24 @@ use Rattle.log_format.specs.declared.log.Claim.{Claim}
 use Rattle.log_format.specs.declared.log.Claim.TheVariants.{Found, NoTree}
 use Rattle.log_format.specs.declared.proof_line.ProofLine.{ProofLine}
 use Rattle.st_model.specs.Wall.{IsWall}
-use Rattle.st_model.specs.Branch.{all_trees}
-use Rattle.log_format.specs.Accepts.{AcceptsFound, AcceptsClaim, Holds, AcceptedHolds}
-use Rattle.log_format.proofs.AllTrees.{belongs_to_all}
+use Rattle.lift_back.specs.declared.step.Step.{Step}
+use Rattle.lift_back.specs.State.{IsTreeOf, whole}
+use Rattle.lift_back.proofs.Beginning.{whole_state}
+use Rattle.lift_back.proofs.Stepwise.{steps_keep_the_least}
+use Rattle.log_format.specs.Accepts.{left_over, left_of, AcceptsFound, AcceptsClaim, Holds, AcceptedHolds}
+use Rattle.log_format.proofs.AllTrees.{belongs_left_over}
 
--- a proved bound bounds every tree
-bounds : (I : Network) (primal dual : ℕ) (tree : Tree) (proof : List ProofLine) → AcceptsFound I primal dual tree proof → IsBound I dual
-bounds I primal dual tree proof accepts t is_tree = proof_tree_bounds_lem I all_trees dual accepts.is_proved.0 t accepts.is_proved.2 is_tree (belongs_to_all t)
+-- a tree of an instance is one of its state, of which nobody is gone
+whole_tree : (I : Network) (t : Tree) → IsTree I t → IsTreeOf (whole I) t
+whole_tree I t is_tree = record { tree = is_tree; avoids = λ v gone. absurd cc }
+
+-- a bound that is proved of what steps leave bounds every tree
+bounds : (I : Network) (primal dual : ℕ) (tree : Tree) (steps : List Step) (proof : List ProofLine) → IsInstance I → AcceptsFound I primal dual tree steps proof → IsBound I dual
+bounds I primal dual tree steps proof instance accepts t is_tree =
+    let (s, applies, (p, lines, proves)) = accepts.is_proved in
+    let (left, is_left, less) = steps_keep_the_least steps (whole I) s t (whole_state I instance) applies (whole_tree I t is_tree) in
+    let bound = proof_tree_bounds_lem s.instance (left_over s) (left_of dual s) p left proves is_left.tree (belongs_left_over s left is_left) in
+    omega arith
 
 -- no tree gets past a wall
 no_tree : (I : Network) (wall : List ℕ) → IsWall I wall → (t : Tree) → IsTree I t → ⊥
@@ -32,11 +43,11 @@ no_tree I wall is_wall t is_tree =
     both_ways (has wall outer.0) outer.3 (sym same ∙ inner.3)
 
 -- what is claimed holds
-claim_holds : (I : Network) (claim : Claim) → AcceptsClaim I claim → Holds I claim
-claim_holds I (Found primal dual tree proof) accepts =
-    let bound = bounds I primal dual tree proof accepts in
+claim_holds : (I : Network) (claim : Claim) → IsInstance I → AcceptsClaim I claim → Holds I claim
+claim_holds I (Found primal dual tree steps proof) instance accepts =
+    let bound = bounds I primal dual tree steps proof instance accepts in
     (accepts.is_tree, sym accepts.is_cost, bound, λ equal. record { tree = accepts.is_tree; least = subst (IsBound I) (equal ∙ accepts.is_cost) bound })
-claim_holds I (NoTree wall) accepts = no_tree I wall accepts
+claim_holds I (NoTree wall) instance accepts = no_tree I wall accepts
 
 pub accepted_holds_lem : AcceptedHolds
-accepted_holds_lem I log accepts = claim_holds I log.claim accepts
+accepted_holds_lem I log instance accepts = claim_holds I log.claim instance accepts

@@ -5,6 +5,8 @@ use Rattle.std.proofs.lemmas.List.{append-nil}
 use Rattle.std.proofs.lemmas.List.Elements.{All-from_recursion}
 use Rattle.cut_packing.specs.declared.cut.Cut.{Cut}
 use Rattle.cut_packing.specs.declared.packing.Packing.{Packing}
+use Rattle.lift_back.specs.declared.step.Step.{Step}
+use Rattle.lift_back.specs.declared.step.Step.TheVariants.{Pendant}
 use Rattle.log_format.specs.declared.log.Log.{Log}
 use Rattle.log_format.specs.declared.log.Claim.{Claim}
 use Rattle.log_format.specs.declared.log.Claim.TheVariants.{Found, NoTree}
@@ -13,15 +15,15 @@ use Rattle.log_format.specs.declared.proof_line.ProofLine.TheVariants.{Close}
 use Rattle.log_format.specs.declared.stage.Answer.{Answer}
 use Rattle.log_format.specs.declared.stage.Proving.{Proving}
 use Rattle.log_format.specs.declared.stage.Stage.{Stage}
-use Rattle.log_format.specs.declared.stage.Stage.TheVariants.{AtHeader, AtClaim, AtTree, AtArcs, AtProof, AtHalf, AtCuts, AtWall, AtEnd, AtNothing}
-use Rattle.log_format.specs.Text.{words, arc_line, cut_line, header, log_lines, IsLog, AreWhole, Begins, IsWritableCut, IsWritablePacking}
-use Rattle.log_format.specs.Reading.{most, closed, cuts_left, step, run}
+use Rattle.log_format.specs.declared.stage.Stage.TheVariants.{AtHeader, AtClaim, AtTree, AtArcs, AtSteps, AtHalf, AtCuts, AtWall, AtEnd, AtNothing}
+use Rattle.log_format.specs.Text.{words, arc_line, cut_line, step_line, header, log_lines, IsLog, AreWhole, Begins, IsWritableCut, IsWritablePacking}
+use Rattle.log_format.specs.Reading.{most, closed, cuts_left, no_step_yet, with_step, step, run}
 use Rattle.log_format.specs.Reached.{lines_read, IsReached, IsRead}
 use Rattle.plain_text.proofs.Steps.{step_some}
 use Rattle.log_format.proofs.LineLaws.{pair_judges, wall_judges, IsAscending}
 use Rattle.log_format.proofs.StageLaws.{step_takes}
 use Rattle.log_format.proofs.Sets.{cut_from}
-use Rattle.log_format.proofs.Runs.{run-cons, run-nil, arc_again, cut_again, head_again, log_again}
+use Rattle.log_format.proofs.Runs.{run-cons, run-nil, arc_again, step_again, count_again, cut_again, head_again, log_again}
 
 -- some lines lead from here to the end of a claim
 abbrev Finishes : Stage → Type 0
@@ -43,7 +45,7 @@ empty_fits : IsWritablePacking empty
 empty_fits = record { root = tt; few_cuts = omega arith; cuts = All-from_recursion IsWritableCut [] tt }
 
 closed_finishes : (a : Answer) (lines : List ProofLine) (w : ℕ) → Finishes (closed a lines w)
-closed_finishes a lines zero = end_finishes (Found a.primal a.dual a.tree lines)
+closed_finishes a lines zero = end_finishes (Found a.primal a.dual a.tree a.steps lines)
 closed_finishes a lines (suc w) =
     let p : Proving = record { answer = a; lines = lines; waiting = w } in
     by_line (AtHalf p) (closed a (lines ++ Close empty ∷ []) w) (words (codes "C") (0 ∷ 0 ∷ [])) (head_again p empty empty_fits) (closed_finishes a (lines ++ Close empty ∷ []) w)
@@ -67,15 +69,17 @@ cuts_finish p root cuts zero = closed_finishes p.answer (p.lines ++ Close (recor
 cuts_finish p root cuts (suc left) =
     by_line (AtCuts p root cuts (suc left)) (cuts_left p root (cuts ++ least_cut ∷ []) left) (cut_line least_cut) (cut_again p root cuts least_cut left least_fits) (cuts_finish p root (cuts ++ least_cut ∷ []) left)
 
-proof_finishes : (a : Answer) → Finishes (AtProof a)
+steps_finish : (a : Answer) (left : ℕ) → Finishes (AtSteps a left)
 unfolding step
-proof_finishes a = let p : Proving = record { answer = a; lines = []; waiting = 0 } in by_line (AtProof a) (AtHalf p) (codes "PROOF") refl (half_finishes p)
+steps_finish a zero = let p : Proving = record { answer = a; lines = []; waiting = 0 } in by_line (AtSteps a 0) (AtHalf p) (codes "PROOF") refl (half_finishes p)
+steps_finish a (suc left) =
+    let s : Step = Pendant 1 in
+    by_line (AtSteps a (suc left)) (AtSteps (with_step a s) left) (step_line s) (step_again a s left (omega arith, omega arith)) (steps_finish (with_step a s) left)
 
 arcs_finish : (primal dual start : ℕ) (arcs : List (ℕ × ℕ)) (left : ℕ) → Finishes (AtArcs primal dual start arcs left)
-unfolding step
 arcs_finish primal dual start arcs zero =
-    let a : Answer = record { primal = primal; dual = dual; tree = record { start = start; arcs = arcs } } in
-    by_line (AtArcs primal dual start arcs 0) (AtProof a) (codes "STEPS 0") refl (proof_finishes a)
+    let a = no_step_yet primal dual start arcs in
+    by_line (AtArcs primal dual start arcs 0) (AtSteps a 0) (words (codes "STEPS") (0 ∷ [])) (count_again primal dual start arcs 0 (omega arith)) (steps_finish a 0)
 arcs_finish primal dual start arcs (suc left) =
     let arc : ℕ × ℕ = (1, 1) in
     by_line (AtArcs primal dual start arcs (suc left)) (AtArcs primal dual start (arcs ++ arc ∷ []) left) (arc_line arc) (arc_again primal dual start arcs arc left ((omega arith, omega arith), (omega arith, omega arith))) (arcs_finish primal dual start (arcs ++ arc ∷ []) left)
@@ -103,7 +107,7 @@ finishes AtHeader fits = by_line AtHeader AtClaim header refl claim_finishes
 finishes AtClaim fits = claim_finishes
 finishes (AtTree primal dual) fits = tree_finishes primal dual
 finishes (AtArcs primal dual start arcs left) fits = arcs_finish primal dual start arcs left
-finishes (AtProof a) fits = proof_finishes a
+finishes (AtSteps a left) fits = steps_finish a left
 finishes (AtHalf p) fits = half_finishes p
 finishes (AtCuts p root cuts zero) fits = absurd (let some : 1 ≤ 0 = fits.some_left in omega arith)
 finishes (AtCuts p root cuts (suc left)) fits = cuts_finish p root cuts (suc left)

@@ -2,6 +2,7 @@ pub mod Cut
 pub mod Preorders
 pub mod Loop
 pub mod LineLaws
+pub mod StepLaws
 pub mod Sets
 pub mod StageLaws
 pub mod Runs
@@ -10,6 +11,8 @@ pub mod Lines
 pub mod WholeLines
 pub mod Texts
 pub mod AllTrees
+pub mod Alike
+pub mod Nexts
 pub mod Accepting
 pub mod Refusing
 pub mod Rejecting

@@ -1,16 +1,17 @@
 -- Each kind of line is read just where it is spelled so.
 use Rattle.std.proofs.Common.{◌≡◌, ℕ, zero, suc, ◌+◌, ◌^◌, ◌<◌, ◌≤◌, true, eqb, List, [], ◌∷◌, ◌++◌, length, Option, Some, refl, sym, ap, subst, ◌∙◌, arith}
-use Rattle.std.specs.Prelude.{codes, ⊤}
-use Rattle.std.specs.List.{flat_map}
+use Rattle.std.specs.Prelude.{codes, ⊤, nat_lt}
+use Rattle.std.specs.List.{flat_map, AllByRecursion}
 use Rattle.std.specs.Fmt.{decimal}
 use Rattle.std.specs.Str.{bytes_eq}
-use Rattle.std.proofs.lemmas.Bool.{eqb-true}
+use Rattle.std.proofs.lemmas.Bool.{eqb-true, and_parts}
+use Rattle.std.proofs.lemmas.Bool.Decides.{nat_tests}
 use Rattle.std.proofs.lemmas.List.{nil_from_length}
 use Rattle.std.proofs.lemmas.Option.{cond_some}
 use Rattle.std.proofs.lemmas.Slice.Eq.{bytes_eq-Decides}
 use Rattle.cut_packing.specs.declared.cut.Cut.{Cut}
 use Rattle.log_format.specs.Text.{spaced, words, cut_line}
-use Rattle.log_format.specs.Reading.{after, word_at, number_at, only, number_of, pair_of, set_at, counted_set_at, cut_head_of, cut_of, wall_of, most}
+use Rattle.log_format.specs.Reading.{after, word_at, number_at, only, number_of, pair_of, vertices_at, counted_at, ascends, set_at, cut_head_of, cut_of, wall_of, most}
 use Rattle.plain_text.specs.Numbers.{number}
 use Rattle.plain_text.proofs.Steps.{step_some}
 use Rattle.log_format.proofs.Cut.{after_takes, after_again, begins_word, word_takes, word_again}
@@ -123,6 +124,59 @@ pair_judges keyword low high low' high' lt lt' = record {
   again = λ p fits. pair_again keyword low high low' high' p lt lt' fits;
 }
 
+-- ---- vertices
+
+-- so many vertices that were read are written so
+vertices_take : (count : ℕ) (bytes vs : List ℕ) → vertices_at count bytes ≡ Some vs → (length vs ≡ count) × AllByRecursion (IsBetween 1 1000000) vs × (bytes ≡ flat_map spaced vs)
+unfolding vertices_at
+vertices_take zero bytes vs e =
+    let o = only_takes [] bytes vs e in
+    subst (λ (s : List ℕ). (length s ≡ 0) × AllByRecursion (IsBetween 1 1000000) s × (bytes ≡ flat_map spaced s)) o.1 (refl, tt, o.0)
+vertices_take (suc count) bytes vs e =
+    let v = step_some (number_at 1 1000000 bytes) _ vs e in
+    let others = step_some (vertices_at count v.0.1) _ vs v.2 in
+    let made : List ℕ = v.0.0 ∷ others.0 in
+    let same : made ≡ vs = cc in
+    let t = number_at_takes 1 1000000 bytes v.0 (omega arith) v.1 in
+    let u = vertices_take count v.0.1 others.0 others.1 in
+    let spelled : bytes ≡ flat_map spaced made = t.1 ∙ ap (λ (r : List ℕ). spaced v.0.0 ++ r) u.2 in
+    subst (λ (s : List ℕ). (length s ≡ suc count) × AllByRecursion (IsBetween 1 1000000) s × (bytes ≡ flat_map spaced s)) same (ap suc u.0, (t.0, u.1), spelled)
+
+-- vertices are read
+vertices_again : (vs : List ℕ) → AllByRecursion (IsBetween 1 1000000) vs → vertices_at (length vs) (flat_map spaced vs) ≡ Some vs
+unfolding vertices_at
+vertices_again [] fits = refl
+vertices_again (v ∷ vs) fits =
+    rw (number_at_again 1 1000000 v (flat_map spaced vs) (omega arith) fits.0 (begins_spaced vs), vertices_again vs fits.1) refl
+
+-- some vertices that can be counted
+pub record AreCounted (vs : List ℕ) : Type 0 where
+  pub some : 1 ≤ length vs
+  pub few : length vs ≤ most
+  pub vertices : AllByRecursion (IsBetween 1 1000000) vs
+
+-- how many there are, and these
+abbrev pub counted : List ℕ → List ℕ
+counted vs = flat_map spaced (length vs ∷ vs)
+
+-- vertices that were read are written after their number
+counted_takes : (bytes vs : List ℕ) → counted_at bytes ≡ Some vs → AreCounted vs × (bytes ≡ counted vs)
+unfolding counted_at
+counted_takes bytes vs e =
+    let n = step_some (number_at 1 most bytes) _ vs e in
+    let t = number_at_takes 1 most bytes n.0 (omega arith) n.1 in
+    let u = vertices_take n.0.0 n.0.1 vs n.2 in
+    let spelled = t.1 ∙ (ap (λ (r : List ℕ). spaced n.0.0 ++ r) u.2 ∙ ap (λ (k : ℕ). spaced k ++ flat_map spaced vs) (sym u.0)) in
+    (record { some = omega (arith, t.0, u.0); few = omega (arith, t.0, u.0); vertices = u.1 }, spelled)
+
+-- vertices that are written after their number are read
+counted_again : (vs : List ℕ) → AreCounted vs → counted_at (counted vs) ≡ Some vs
+unfolding counted_at
+counted_again vs fits = rw (number_at_again 1 most (length vs) (flat_map spaced vs) (omega arith) (fits.some, fits.few) (begins_spaced vs)) (vertices_again vs fits.vertices)
+
+pub counted_judges : Judges counted_at counted AreCounted
+counted_judges = record { takes = counted_takes; again = counted_again }
+
 -- ---- sets
 
 -- vertices that ascend above the last one
@@ -130,28 +184,26 @@ abbrev pub AscendAbove : ℕ → List ℕ → Type 0
 AscendAbove last [] = ⊤
 AscendAbove last (v ∷ vs) = IsBetween (last + 1) 1000000 v × AscendAbove v vs
 
--- so many vertices that were read ascend, and are written so
-set_takes : (count last : ℕ) (bytes set : List ℕ) → set_at count last bytes ≡ Some set → (length set ≡ count) × AscendAbove last set × (bytes ≡ flat_map spaced set)
-unfolding set_at
-set_takes zero last bytes set e =
-    let o = only_takes [] bytes set e in
-    subst (λ (s : List ℕ). (length s ≡ 0) × AscendAbove last s × (bytes ≡ flat_map spaced s)) o.1 (refl, tt, o.0)
-set_takes (suc count) last bytes set e =
-    let v = step_some (number_at (last + 1) 1000000 bytes) _ set e in
-    let others = step_some (set_at count v.0.0 v.0.1) _ set v.2 in
-    let made : List ℕ = v.0.0 ∷ others.0 in
-    let same : made ≡ set = cc in
-    let t = number_at_takes (last + 1) 1000000 bytes v.0 (omega arith) v.1 in
-    let u = set_takes count v.0.0 v.0.1 others.0 others.1 in
-    let spelled : bytes ≡ flat_map spaced made = t.1 ∙ ap (λ (r : List ℕ). spaced v.0.0 ++ r) u.2 in
-    subst (λ (s : List ℕ). (length s ≡ suc count) × AscendAbove last s × (bytes ≡ flat_map spaced s)) same (ap suc u.0, (t.0, u.1), spelled)
+-- vertices that pass the test ascend
+ascend_above : (last : ℕ) (vs : List ℕ) → AllByRecursion (IsBetween 1 1000000) vs → ascends last vs ≡ true → AscendAbove last vs
+ascend_above last [] vertices passes = tt
+ascend_above last (v ∷ vs) vertices passes =
+    let p = and_parts (nat_lt last v) (ascends v vs) passes in
+    let above : last < v = grind (arith, nat_tests, p.0) in
+    ((omega arith, vertices.0.1), ascend_above v vs vertices.1 p.1)
 
--- vertices that ascend are read
-set_again : (last : ℕ) (set : List ℕ) → AscendAbove last set → set_at (length set) last (flat_map spaced set) ≡ Some set
-unfolding set_at
-set_again last [] fits = refl
-set_again last (v ∷ vs) fits =
-    rw (number_at_again (last + 1) 1000000 v (flat_map spaced vs) (omega arith) fits.0 (begins_spaced vs), set_again v vs fits.1) refl
+-- what ascends passes the test
+pass : (last : ℕ) (vs : List ℕ) → AscendAbove last vs → ascends last vs ≡ true
+pass last [] h = refl
+pass last (v ∷ vs) h =
+    let low : last + 1 ≤ v = h.0.0 in
+    let above : nat_lt last v ≡ true = grind (arith, nat_tests) in
+    rw above (pass v vs h.1)
+
+-- what ascends are vertices
+pub are_vertices : (last : ℕ) (vs : List ℕ) → AscendAbove last vs → AllByRecursion (IsBetween 1 1000000) vs
+are_vertices last [] h = tt
+are_vertices last (v ∷ vs) h = let above : last + 1 ≤ v = h.0.0 in ((omega arith, h.0.1), are_vertices v vs h.1)
 
 -- some vertices that ascend, and can be counted
 pub record IsAscending (set : List ℕ) : Type 0 where
@@ -159,23 +211,19 @@ pub record IsAscending (set : List ℕ) : Type 0 where
   pub few : length set ≤ most
   pub ascend : AscendAbove 0 set
 
--- how many there are, and these
-abbrev pub counted : List ℕ → List ℕ
-counted set = flat_map spaced (length set ∷ set)
-
 -- a set that was read is written after its number
-counted_takes : (bytes set : List ℕ) → counted_set_at bytes ≡ Some set → IsAscending set × (bytes ≡ counted set)
-unfolding counted_set_at
-counted_takes bytes set e =
-    let n = step_some (number_at 1 most bytes) _ set e in
-    let t = number_at_takes 1 most bytes n.0 (omega arith) n.1 in
-    let u = set_takes n.0.0 0 n.0.1 set n.2 in
-    (record { some = omega (arith, t.0, u.0); few = omega (arith, t.0, u.0); ascend = u.1 }, t.1 ∙ (ap (λ (r : List ℕ). spaced n.0.0 ++ r) u.2 ∙ ap (λ (k : ℕ). spaced k ++ flat_map spaced set) (sym u.0)))
+set_takes : (bytes set : List ℕ) → set_at bytes ≡ Some set → IsAscending set × (bytes ≡ counted set)
+unfolding set_at
+set_takes bytes set e =
+    let vs = step_some (counted_at bytes) _ set e in
+    let g = cond_some (ascends 0 vs.0) vs.0 set vs.2 in
+    let t = counted_takes bytes vs.0 vs.1 in
+    subst (λ (s : List ℕ). IsAscending s × (bytes ≡ counted s)) g.1 (record { some = t.0.some; few = t.0.few; ascend = ascend_above 0 vs.0 t.0.vertices g.0 }, t.1)
 
 -- a set that is written after its number is read
-counted_again : (set : List ℕ) → IsAscending set → counted_set_at (counted set) ≡ Some set
-unfolding counted_set_at
-counted_again set fits = rw (number_at_again 1 most (length set) (flat_map spaced set) (omega arith) (fits.some, fits.few) (begins_spaced set)) (set_again 0 set fits.ascend)
+set_again : (set : List ℕ) → IsAscending set → set_at (counted set) ≡ Some set
+unfolding set_at
+set_again set fits = rw (counted_again set (record { some = fits.some; few = fits.few; vertices = are_vertices 0 set fits.ascend }), pass 0 set fits.ascend) refl
 
 -- ---- cuts and walls
 
@@ -189,7 +237,7 @@ cut_takes : (line : List ℕ) (c : Cut) → cut_of line ≡ Some c → IsCut c �
 unfolding cut_of cut_head_of
 cut_takes line c e =
     let head = step_some (cut_head_of line) _ c e in
-    let set = step_some (counted_set_at head.0.2) _ c head.2 in
+    let set = step_some (set_at head.0.2) _ c head.2 in
     let a = step_some (after (codes "U") line) _ head.0 head.1 in
     let q = step_some (number_at 1 1000000 a.0) _ head.0 a.2 in
     let y = step_some (number_at 0 most q.0.1) _ head.0 q.2 in
@@ -199,7 +247,7 @@ cut_takes line c e =
     let same : made ≡ c = cc in
     let t = number_at_takes 1 1000000 a.0 q.0 (omega arith) q.1 in
     let u = number_at_takes 0 most q.0.1 y.0 (omega arith) y.1 in
-    let s = counted_takes head.0.2 set.0 set.1 in
+    let s = set_takes head.0.2 set.0 set.1 in
     let is_q : q.0.0 ≡ head.0.0 = ap (λ (x : ℕ × ℕ × List ℕ). x.0) is_front in
     let is_y : y.0.0 ≡ head.0.1 = ap (λ (x : ℕ × ℕ × List ℕ). x.1) is_front in
     let is_rest : y.0.1 ≡ counted set.0 = ap (λ (x : ℕ × ℕ × List ℕ). x.2) is_front ∙ s.1 in
@@ -211,7 +259,7 @@ cut_takes line c e =
 cut_again : (c : Cut) → IsCut c → cut_of (cut_line c) ≡ Some c
 unfolding cut_of cut_head_of
 cut_again c fits =
-    rw (number_at_again 1 1000000 c.q (spaced c.y ++ counted c.set) (omega arith) fits.q refl, number_at_again 0 most c.y (counted c.set) (omega arith) fits.y refl, counted_again c.set fits.set) refl
+    rw (number_at_again 1 1000000 c.q (spaced c.y ++ counted c.set) (omega arith) fits.q refl, number_at_again 0 most c.y (counted c.set) (omega arith) fits.y refl, set_again c.set fits.set) refl
 
 pub cut_judges : Judges cut_of cut_line IsCut
 cut_judges = record { takes = cut_takes; again = cut_again }
@@ -225,13 +273,13 @@ wall_takes : (line wall : List ℕ) → wall_of line ≡ Some wall → IsAscendi
 unfolding wall_of
 wall_takes line wall e =
     let a = step_some (after (codes "WALL") line) _ wall e in
-    let s = counted_takes a.0 wall a.2 in
+    let s = set_takes a.0 wall a.2 in
     (s.0, after_takes (codes "WALL") line a.0 a.1 ∙ ap (λ (r : List ℕ). codes "WALL" ++ r) s.1)
 
 -- the spelling of a wall is read
 wall_again : (wall : List ℕ) → IsAscending wall → wall_of (wall_line wall) ≡ Some wall
 unfolding wall_of
-wall_again wall fits = counted_again wall fits
+wall_again wall fits = set_again wall fits
 
 pub wall_judges : Judges wall_of wall_line IsAscending
 wall_judges = record { takes = wall_takes; again = wall_again }

@@ -10,8 +10,10 @@ use Rattle.log_format.specs.declared.log.Claim.TheVariants.{Found, NoTree}
 use Rattle.log_format.specs.declared.proof_line.ProofLine.{ProofLine}
 use Rattle.log_format.specs.declared.proof_line.ProofLine.TheVariants.{Split, Close}
 use Rattle.cut_packing.specs.declared.cut.Cut.{Cut}
+use Rattle.lift_back.specs.declared.step.Step.{Step}
+use Rattle.lift_back.specs.declared.step.Step.TheVariants.{Pendant, Through, Forced, Detour}
 use Rattle.plain_text.specs.Lines.{ended}
-use Rattle.log_format.specs.Text.{spaced, words, root_number, arc_line, cut_line, lines_of, claim_lines, log_lines, log_text, with_byte, cut_lines, whole_lines, unfinished, IsAnyVertex, IsWritableCut, IsWritableLine, IsClaimInRange, IsInLogRange}
+use Rattle.log_format.specs.Text.{spaced, words, root_number, arc_line, cut_line, step_line, lines_of, claim_lines, log_lines, log_text, with_byte, cut_lines, whole_lines, unfinished, IsAnyVertex, IsWritableCut, IsWritableStep, IsWritableLine, IsClaimInRange, IsInLogRange}
 use Rattle.plain_text.specs.Pieces.{cut}
 use Rattle.log_format.specs.Reading.{most}
 use Rattle.plain_text.proofs.Lacking.{lacks, lacks-append, lacks-decimal}
@@ -117,6 +119,23 @@ cuts_lack (c ∷ cuts) fits =
     let few : length c.set ≤ most = (set_to c.set fits.0.set).few in
     (words_lack (codes "U") (c.q ∷ c.y ∷ length c.set ∷ c.set) refl (omega arith, (fits.0.y, (omega arith, vertices_are c.set (recursion_from_All _ c.set fits.0.set.vertices.in_range)))), cuts_lack cuts fits.1)
 
+-- a letter and a vertex end no line
+vertex_lacks : (letter : List ℕ) (v : ℕ) → lacks 10 letter ≡ true → IsAnyVertex v → lacks 10 (words letter (v ∷ [])) ≡ true
+vertex_lacks letter v h fits = let high : v ≤ 1000000 = fits.1 in words_lack letter (v ∷ []) h (omega arith, tt)
+
+step_lacks : (s : Step) → IsWritableStep s → lacks 10 (step_line s) ≡ true
+step_lacks (Pendant v) fits = vertex_lacks (codes "P") v refl fits
+step_lacks (Through v) fits = vertex_lacks (codes "H") v refl fits
+step_lacks (Forced v) fits = vertex_lacks (codes "F") v refl fits
+step_lacks (Detour a b inner) fits =
+    let a_high : a ≤ 1000000 = fits.0.1 in
+    let b_high : b ≤ 1000000 = fits.1.1 in
+    words_lack (codes "D") (a ∷ b ∷ length inner ∷ inner) refl (omega arith, (omega arith, (fits.2.few, vertices_are inner (recursion_from_All _ inner fits.2.vertices))))
+
+steps_lack : (steps : List Step) → AllByRecursion IsWritableStep steps → AreLines (map step_line steps)
+steps_lack [] fits = tt
+steps_lack (s ∷ steps) fits = (step_lacks s fits.0, steps_lack steps fits.1)
+
 proof_lacks : (lines : List ProofLine) → AllByRecursion IsWritableLine lines → AreLines (flat_map lines_of lines)
 proof_lacks [] fits = tt
 proof_lacks (Split v ∷ lines) fits =
@@ -127,9 +146,17 @@ proof_lacks (Close P ∷ lines) fits =
     lines-append (lines_of (Close P)) (flat_map lines_of lines) (words_lack (codes "C") (root_number P.root ∷ length P.cuts ∷ []) refl (omega (arith, root), (fits.0.few_cuts, tt)), cuts_lack P.cuts (recursion_from_All _ P.cuts fits.0.cuts)) (proof_lacks lines fits.1)
 
 claim_lacks : (claim : Claim) → IsClaimInRange claim → AreLines (claim_lines claim)
-claim_lacks (Found primal dual tree proof) fits =
+claim_lacks (Found primal dual tree steps proof) fits =
+    let proof_lines : List (List ℕ) = codes "PROOF" ∷ flat_map lines_of proof in
+    let steps_lines : List (List ℕ) = words (codes "STEPS") (length steps ∷ []) ∷ (map step_line steps ++ proof_lines) in
     let start : tree.start ≤ 1000000 = fits.tree_fits.start.1 in
-    (words_lack (codes "CLAIM TREE") (primal ∷ dual ∷ []) refl (fits.primal_fits, (fits.dual_fits, tt)), (words_lack (codes "TREE") (tree.start ∷ length tree.arcs ∷ []) refl (omega arith, (fits.tree_fits.few_arcs, tt)), lines-append (map arc_line tree.arcs) (codes "STEPS 0" ∷ codes "PROOF" ∷ flat_map lines_of proof) (arcs_lack tree.arcs (recursion_from_All _ tree.arcs fits.tree_fits.arcs)) (refl, (refl, proof_lacks proof (recursion_from_All _ proof fits.lines_fit)))))
+    let claim_is = words_lack (codes "CLAIM TREE") (primal ∷ dual ∷ []) refl (fits.primal_fits, (fits.dual_fits, tt)) in
+    let tree_is = words_lack (codes "TREE") (tree.start ∷ length tree.arcs ∷ []) refl (omega arith, (fits.tree_fits.few_arcs, tt)) in
+    let arcs_are = arcs_lack tree.arcs (recursion_from_All _ tree.arcs fits.tree_fits.arcs) in
+    let count_is = words_lack (codes "STEPS") (length steps ∷ []) refl (fits.few_steps, tt) in
+    let steps_are = steps_lack steps (recursion_from_All _ steps fits.steps_fit) in
+    let proof_is = proof_lacks proof (recursion_from_All _ proof fits.lines_fit) in
+    (claim_is, (tree_is, lines-append (map arc_line tree.arcs) steps_lines arcs_are (count_is, lines-append (map step_line steps) proof_lines steps_are (refl, proof_is))))
 claim_lacks (NoTree wall) fits =
     let few : length wall ≤ most = (set_to wall fits).few in
     (refl, (words_lack (codes "WALL") (length wall ∷ wall) refl (omega arith, vertices_are wall (recursion_from_All _ wall fits.vertices.in_range)), tt))

@@ -6,7 +6,7 @@ use Rattle.log_format.specs.declared.kind.Kind.TheVariants.{BadLine, EndsEarly}
 use Rattle.log_format.specs.declared.log.Log.{Log}
 use Rattle.log_format.specs.declared.log.Claim.{Claim}
 use Rattle.log_format.specs.declared.stage.Stage.{Stage}
-use Rattle.log_format.specs.declared.stage.Stage.TheVariants.{AtHeader, AtClaim, AtTree, AtArcs, AtProof, AtHalf, AtCuts, AtWall, AtEnd, AtNothing}
+use Rattle.log_format.specs.declared.stage.Stage.TheVariants.{AtHeader, AtClaim, AtTree, AtArcs, AtSteps, AtHalf, AtCuts, AtWall, AtEnd, AtNothing}
 use Rattle.log_format.specs.Text.{log_lines, whole_lines, unfinished, AreWhole, Begins}
 use Rattle.log_format.specs.Reading.{step}
 use Rattle.log_format.specs.Reached.{lines_read, IsRead}
@@ -46,7 +46,7 @@ at_end AtHeader = inr (λ claim e. cc)
 at_end AtClaim = inr (λ claim e. cc)
 at_end (AtTree primal dual) = inr (λ claim e. cc)
 at_end (AtArcs primal dual start arcs left) = inr (λ claim e. cc)
-at_end (AtProof a) = inr (λ claim e. cc)
+at_end (AtSteps a left) = inr (λ claim e. cc)
 at_end (AtHalf p) = inr (λ claim e. cc)
 at_end (AtCuts p root cuts left) = inr (λ claim e. cc)
 at_end AtWall = inr (λ claim e. cc)

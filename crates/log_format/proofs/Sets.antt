@@ -7,7 +7,7 @@ use Rattle.std.proofs.lemmas.List.Elements.{recursion_from_All, All-from_recursi
 use Rattle.st_model.specs.Network.{IsVertex}
 use Rattle.cut_packing.specs.declared.cut.Cut.{Cut}
 use Rattle.log_format.specs.Text.{IsWritableSet, IsWritableCut}
-use Rattle.log_format.proofs.LineLaws.{AscendAbove, IsAscending, IsCut}
+use Rattle.log_format.proofs.LineLaws.{AscendAbove, are_vertices, IsAscending, IsCut}
 
 -- what ascends rises strictly
 rises : (last : ℕ) (set : List ℕ) → AscendAbove last set → IsStrictlyIncreasing set
@@ -17,11 +17,6 @@ rises last (v ∷ w ∷ vs) h zero lt = let above : v + 1 ≤ w = h.1.0.0 in ome
 rises last (v ∷ w ∷ vs) h (suc k) lt =
     let e : suc (k + 1) ≡ suc k + 1 = omega arith in
     subst (λ (j : ℕ). slice_index (w ∷ vs) k < slice_index (v ∷ w ∷ vs) j) e (rises v (w ∷ vs) h.1 k (omega arith))
-
--- what ascends are vertices
-are_vertices : (last : ℕ) (set : List ℕ) → AscendAbove last set → AllByRecursion (IsVertex 1000000) set
-are_vertices last [] h = tt
-are_vertices last (v ∷ vs) h = let above : last + 1 ≤ v = h.0.0 in ((omega arith, h.0.1), are_vertices v vs h.1)
 
 -- what stands after the first rises too
 tail_rises : (v : ℕ) (vs : List ℕ) → IsStrictlyIncreasing (v ∷ vs) → IsStrictlyIncreasing vs

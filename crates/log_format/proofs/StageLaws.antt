@@ -11,19 +11,21 @@ use Rattle.std.proofs.lemmas.List.Elements.{All-from_recursion}
 use Rattle.std.proofs.lemmas.Option.{cond_some}
 use Rattle.cut_packing.specs.declared.cut.Cut.{Cut}
 use Rattle.cut_packing.specs.declared.packing.Packing.{Packing}
+use Rattle.lift_back.specs.declared.step.Step.{Step}
 use Rattle.log_format.specs.declared.log.Claim.TheVariants.{Found, NoTree}
 use Rattle.log_format.specs.declared.proof_line.ProofLine.{ProofLine}
 use Rattle.log_format.specs.declared.proof_line.ProofLine.TheVariants.{Split, Close}
 use Rattle.log_format.specs.declared.stage.Answer.{Answer}
 use Rattle.log_format.specs.declared.stage.Proving.{Proving}
 use Rattle.log_format.specs.declared.stage.Stage.{Stage}
-use Rattle.log_format.specs.declared.stage.Stage.TheVariants.{AtHeader, AtClaim, AtTree, AtArcs, AtProof, AtHalf, AtCuts, AtWall, AtEnd, AtNothing}
-use Rattle.log_format.specs.Text.{words, root_number, arc_line, cut_line, lines_of, header, IsAnyVertex, IsWritableCut, IsWritableLine}
-use Rattle.log_format.specs.Reading.{number_of, pair_of, cut_of, wall_of, most, stage_if, root_of, closed, cuts_left, split_at, half_at, step, open_after}
+use Rattle.log_format.specs.declared.stage.Stage.TheVariants.{AtHeader, AtClaim, AtTree, AtArcs, AtSteps, AtHalf, AtCuts, AtWall, AtEnd, AtNothing}
+use Rattle.log_format.specs.Text.{words, root_number, arc_line, cut_line, step_line, lines_of, header, IsAnyVertex, IsWritableCut, IsWritableTree, IsWritableStep, IsWritableLine, IsWritableFound}
+use Rattle.log_format.specs.Reading.{number_of, pair_of, cut_of, wall_of, most, step_of, stage_if, root_of, closed, cuts_left, split_at, half_at, no_step_yet, with_step, step, open_after}
 use Rattle.plain_text.specs.Steps.{◌>>=◌}
-use Rattle.log_format.specs.Reached.{tree_lines, answer_lines, proof_lines, close_lines, lines_read, IsProving, IsReached}
+use Rattle.log_format.specs.Reached.{tree_lines, answer_lines, proof_lines, close_lines, lines_read, IsAnswer, IsProving, IsReached}
 use Rattle.plain_text.proofs.Steps.{step_some, chosen}
 use Rattle.log_format.proofs.LineLaws.{bytes_are, number_of_judges, pair_judges, cut_judges, wall_judges}
+use Rattle.log_format.proofs.StepLaws.{step_judges}
 use Rattle.log_format.proofs.Sets.{set_from, cut_from}
 use Rattle.log_format.proofs.Preorders.{are_proofs-append, open_after-append, one_from}
 
@@ -84,14 +86,24 @@ tree_lines-push primal dual start arcs arc count = ap (λ (r : List (List ℕ)).
 at_arcs_takes : (primal dual start : ℕ) (arcs : List (ℕ × ℕ)) (left : ℕ) (line : List ℕ) (t : Stage) → IsReached (AtArcs primal dual start arcs left) → step (AtArcs primal dual start arcs left) line ≡ Some t → Takes (lines_read (AtArcs primal dual start arcs left)) line t
 unfolding step
 at_arcs_takes primal dual start arcs left line t fits e =
-    let a : Answer = record { primal = primal; dual = dual; tree = record { start = start; arcs = arcs } } in
-    elim (chosen (eqb left 0) (stage_if (codes "STEPS 0") line (AtProof a)) (pair_of (codes "A") 1 1000000 1 1000000 line >>= λ arc. Some (AtArcs primal dual start (arcs ++ arc ∷ []) (left - 1))) (Some t) e) [
+    let a = no_step_yet primal dual start arcs in
+    let by_count = number_of (codes "STEPS") 0 most line >>= λ count. Some (AtSteps a count) in
+    let by_arc = pair_of (codes "A") 1 1000000 1 1000000 line >>= λ arc. Some (AtArcs primal dual start (arcs ++ arc ∷ []) (left - 1)) in
+    elim (chosen (eqb left 0) by_count by_arc (Some t) e) [
       | inl h ↦
           let none : left ≡ 0 = eqb-true left 0 h.0 in
-          let count : length arcs ≡ length arcs + left = omega arith in
-          if_takes (codes "STEPS 0") line (AtProof a) t (lines_read (AtArcs primal dual start arcs left)) h.1 (
-            record { primal_fits = fits.primal_fits; dual_fits = fits.dual_fits; tree_fits = record { start = fits.start_fits; few_arcs = omega (arith, fits.few_arcs); arcs = All-from_recursion _ arcs fits.arcs_fit } },
-            ap (λ (k : ℕ). tree_lines primal dual start arcs k ++ codes "STEPS 0" ∷ []) count,
+          let few : length arcs < 2 ^ 64 = omega (arith, fits.few_arcs) in
+          let b = step_some (number_of (codes "STEPS") 0 most line) _ t h.1 in
+          let same : AtSteps a b.0 ≡ t = cc in
+          let j = (number_of_judges (codes "STEPS") 0 most (omega arith)).takes line b.0 b.1 in
+          let in_all : length arcs ≡ length arcs + left = omega arith in
+          let to_come : 0 + b.0 ≡ b.0 = omega arith in
+          let tree_fits : IsWritableTree a.tree = record { start = fits.start_fits; few_arcs = few; arcs = All-from_recursion _ arcs fits.arcs_fit } in
+          let answer_fits : IsAnswer a = record { primal_fits = fits.primal_fits; dual_fits = fits.dual_fits; tree_fits = tree_fits; few_steps = omega arith; steps_fit = tt } in
+          subst (λ (u : Stage). Takes (lines_read (AtArcs primal dual start arcs left)) line u) same (
+            record { answer_fits = answer_fits; few_in_all = omega (arith, j.0) },
+            ap (λ (k : ℕ). tree_lines primal dual start arcs (length arcs) ++ words (codes "STEPS") (k ∷ []) ∷ []) to_come
+                ∙ (ap (λ (k : ℕ). tree_lines primal dual start arcs k ++ words (codes "STEPS") (b.0 ∷ []) ∷ []) in_all ∙ ap (λ (l : List ℕ). lines_read (AtArcs primal dual start arcs left) ++ l ∷ []) (sym j.1)),
           )
       | inr h ↦
           let b = step_some (pair_of (codes "A") 1 1000000 1 1000000 line) _ t h.1 in
@@ -105,20 +117,73 @@ at_arcs_takes primal dual start arcs left line t fits e =
           )
     ]
 
+-- ---- steps
+
+-- the lines of the steps with one more step
+answer_lines-push : (a : Answer) (s : Step) (count : ℕ) → answer_lines (with_step a s) count ≡ answer_lines a count ++ step_line s ∷ []
+answer_lines-push a s count =
+    let tree : List (List ℕ) = tree_lines a.primal a.dual a.tree.start a.tree.arcs (length a.tree.arcs) in
+    let head : List ℕ = words (codes "STEPS") (count ∷ []) in
+    ap (λ (r : List (List ℕ)). tree ++ head ∷ r) (map-push step_line a.steps s) ∙ sym (append_assoc tree (head ∷ map step_line a.steps) (step_line s ∷ []))
+
+at_steps_takes : (a : Answer) (left : ℕ) (line : List ℕ) (t : Stage) → IsReached (AtSteps a left) → step (AtSteps a left) line ≡ Some t → Takes (lines_read (AtSteps a left)) line t
+unfolding step
+at_steps_takes a left line t fits e =
+    let begun : Stage = AtHalf (record { answer = a; lines = []; waiting = 0 }) in
+    elim (chosen (eqb left 0) (stage_if (codes "PROOF") line begun) (step_of line >>= λ s. Some (AtSteps (with_step a s) (left - 1))) (Some t) e) [
+      | inl h ↦
+          let none : left ≡ 0 = eqb-true left 0 h.0 in
+          let in_all : length a.steps ≡ length a.steps + left = omega arith in
+          if_takes (codes "PROOF") line begun t (lines_read (AtSteps a left)) h.1 (
+            record { answer_fits = fits.answer_fits; lines_fit = tt; halves = record { still = refl; few = omega arith } },
+            ap (λ (k : ℕ). answer_lines a k ++ codes "PROOF" ∷ []) in_all,
+          )
+      | inr h ↦
+          let b = step_some (step_of line) _ t h.1 in
+          let same : AtSteps (with_step a b.0) (left - 1) ≡ t = cc in
+          let j = step_judges.takes line b.0 b.1 in
+          let some : 0 < left = grind (arith, nat_tests, h.0) in
+          let longer : length (a.steps ++ b.0 ∷ []) ≡ length a.steps + 1 = length-append a.steps (b.0 ∷ []) in
+          let in_all : length (a.steps ++ b.0 ∷ []) + (left - 1) ≡ length a.steps + left = omega (arith, longer) in
+          let old = fits.answer_fits in
+          let steps_fit = AllByRecursion-push IsWritableStep a.steps b.0 old.steps_fit j.0 in
+          let few : length (a.steps ++ b.0 ∷ []) < 2 ^ 64 = omega (arith, fits.few_in_all, longer) in
+          let answer_fits : IsAnswer (with_step a b.0) = record { primal_fits = old.primal_fits; dual_fits = old.dual_fits; tree_fits = old.tree_fits; few_steps = few; steps_fit = steps_fit } in
+          subst (λ (u : Stage). Takes (lines_read (AtSteps a left)) line u) same (
+            record { answer_fits = answer_fits; few_in_all = omega (arith, fits.few_in_all, in_all) },
+            ap (λ (k : ℕ). answer_lines (with_step a b.0) k) in_all ∙ (answer_lines-push a b.0 (length a.steps + left) ∙ ap (λ (l : List ℕ). lines_read (AtSteps a left) ++ l ∷ []) (sym j.1)),
+          )
+    ]
+
 -- ---- the proof
 
 -- the lines of a proof with one more line of it
 proof_lines-push : (a : Answer) (lines : List ProofLine) (x : ProofLine) (w w' : ℕ) → proof_lines (record { answer = a; lines = lines ++ x ∷ []; waiting = w }) ≡ proof_lines (record { answer = a; lines = lines; waiting = w' }) ++ lines_of x
 proof_lines-push a lines x w w' =
-    ap (λ (r : List (List ℕ)). answer_lines a ++ codes "PROOF" ∷ r) (flat-push lines x) ∙ sym (append_assoc (answer_lines a) (codes "PROOF" ∷ flat_map lines_of lines) (lines_of x))
+    ap (λ (r : List (List ℕ)). answer_lines a (length a.steps) ++ codes "PROOF" ∷ r) (flat-push lines x)
+    ∙ sym (append_assoc (answer_lines a (length a.steps)) (codes "PROOF" ∷ flat_map lines_of lines) (lines_of x))
 
 -- one more line leaves open what it leaves of the halves that were
 open-push : (lines : List ProofLine) (x : ProofLine) (left : ℕ) → open_after 1 lines ≡ Some left → open_after 1 (lines ++ x ∷ []) ≡ open_after left (x ∷ [])
 open-push lines x left e = open_after-append 1 lines (x ∷ []) left e
 
 -- the lines of a claim whose proof is read to its end
-claim_lines-read : (a : Answer) (lines : List ProofLine) (w : ℕ) → lines_read (AtEnd (Found a.primal a.dual a.tree lines)) ≡ proof_lines (record { answer = a; lines = lines; waiting = w })
-claim_lines-read a lines w = ap (λ (r : List (List ℕ)). tree_lines a.primal a.dual a.tree.start [] (length a.tree.arcs) ++ r) (sym (append_assoc (map arc_line a.tree.arcs) (codes "STEPS 0" ∷ []) (codes "PROOF" ∷ flat_map lines_of lines)))
+claim_lines-read : (a : Answer) (lines : List ProofLine) (w : ℕ) → lines_read (AtEnd (Found a.primal a.dual a.tree a.steps lines)) ≡ proof_lines (record { answer = a; lines = lines; waiting = w })
+claim_lines-read a lines w =
+    let steps_lines : List (List ℕ) = words (codes "STEPS") (length a.steps ∷ []) ∷ map step_line a.steps in
+    let regrouped = append_assoc (map arc_line a.tree.arcs) steps_lines (codes "PROOF" ∷ flat_map lines_of lines) in
+    ap (λ (r : List (List ℕ)). tree_lines a.primal a.dual a.tree.start [] (length a.tree.arcs) ++ r) (sym regrouped)
+
+-- a claim whose proof is read to its end
+claim_fits : (a : Answer) (lines : List ProofLine) → IsAnswer a → AllByRecursion IsWritableLine lines → IsWritableFound a.primal a.dual a.tree a.steps lines
+claim_fits a lines fits lines_fit = record {
+  primal_fits = fits.primal_fits;
+  dual_fits = fits.dual_fits;
+  tree_fits = fits.tree_fits;
+  few_steps = fits.few_steps;
+  steps_fit = All-from_recursion IsWritableStep a.steps fits.steps_fit;
+  lines_fit = All-from_recursion IsWritableLine lines lines_fit;
+}
 
 -- a close that is read to its end
 closed_takes : (p : Proving) (P : Packing) → IsProving p → IsWritableLine (Close P) → IsReached (closed p.answer (p.lines ++ Close P ∷ []) p.waiting) × (lines_read (closed p.answer (p.lines ++ Close P ∷ []) p.waiting) ≡ proof_lines p ++ lines_of (Close P))
@@ -130,7 +195,7 @@ closed_takes p P fits close_fits = by_waiting p.waiting fits.halves.still fits.h
     by_waiting : (w : ℕ) → open_after 1 p.lines ≡ Some (w + 1) → w ≤ length p.lines → IsReached (closed p.answer (p.lines ++ Close P ∷ []) w) × (lines_read (closed p.answer (p.lines ++ Close P ∷ []) w) ≡ proof_lines p ++ lines_of (Close P))
     by_waiting zero e few =
         let whole = are_proofs-append 1 p.lines (Close P ∷ []) 1 e in (
-          (record { primal_fits = fits.answer_fits.primal_fits; dual_fits = fits.answer_fits.dual_fits; tree_fits = fits.answer_fits.tree_fits; lines_fit = All-from_recursion IsWritableLine (p.lines ++ Close P ∷ []) all_fit }, one_from (p.lines ++ Close P ∷ []) whole),
+          (claim_fits p.answer (p.lines ++ Close P ∷ []) fits.answer_fits all_fit, one_from (p.lines ++ Close P ∷ []) whole),
           claim_lines-read p.answer (p.lines ++ Close P ∷ []) 0 ∙ proof_lines-push p.answer p.lines (Close P) 0 p.waiting,
         )
     by_waiting (suc w) e few =
@@ -212,8 +277,7 @@ step_takes AtHeader line t fits e = if_takes header line AtClaim t [] e (tt, ref
 step_takes AtClaim line t fits e = at_claim_takes line t e
 step_takes (AtTree primal dual) line t fits e = at_tree_takes primal dual line t fits e
 step_takes (AtArcs primal dual start arcs left) line t fits e = at_arcs_takes primal dual start arcs left line t fits e
-step_takes (AtProof a) line t fits e =
-    if_takes (codes "PROOF") line (AtHalf (record { answer = a; lines = []; waiting = 0 })) t (answer_lines a) e (record { answer_fits = fits; lines_fit = tt; halves = record { still = refl; few = omega arith } }, refl)
+step_takes (AtSteps a left) line t fits e = at_steps_takes a left line t fits e
 step_takes (AtHalf p) line t fits e = half_takes p line t (number_of (codes "S") 1 1000000 line) fits refl e
 step_takes (AtCuts p root cuts left) line t fits e = at_cuts_takes p root cuts left line t fits e
 step_takes AtWall line t fits e = at_wall_takes line t e

@@ -1,7 +1,9 @@
 -- Reading a log line by line. Helpers' clauses cite this, and no public one.
-use Rattle.std.specs.Prelude.{◌≡◌, ℕ, zero, suc, ◌+◌, ◌-◌, ◌≤◌, ◌==◌, List, [], ◌∷◌, ◌++◌, length, Option, Some, None, Result, Ok, Err, if◌then◌else◌, codes}
+use Rattle.std.specs.Prelude.{◌≡◌, ℕ, zero, suc, ◌+◌, ◌-◌, ◌≤◌, ◌==◌, ◌&&◌, Bool, true, nat_lt, List, [], ◌∷◌, ◌++◌, length, Option, Some, None, Result, Ok, Err, if◌then◌else◌, codes}
 use Rattle.std.specs.Str.{bytes_eq}
 use Rattle.cut_packing.specs.declared.cut.Cut.{Cut}
+use Rattle.lift_back.specs.declared.step.Step.{Step}
+use Rattle.lift_back.specs.declared.step.Step.TheVariants.{Pendant, Through, Forced, Detour}
 use Rattle.plain_text.specs.Numbers.{number}
 use Rattle.plain_text.specs.Steps.{◌>>=◌}
 use Rattle.log_format.specs.declared.fault.LineError.{LineError}
@@ -12,7 +14,7 @@ use Rattle.log_format.specs.declared.proof_line.ProofLine.TheVariants.{Split, Cl
 use Rattle.log_format.specs.declared.stage.Answer.{Answer}
 use Rattle.log_format.specs.declared.stage.Proving.{Proving}
 use Rattle.log_format.specs.declared.stage.Stage.{Stage}
-use Rattle.log_format.specs.declared.stage.Stage.TheVariants.{AtHeader, AtClaim, AtTree, AtArcs, AtProof, AtHalf, AtCuts, AtWall, AtEnd, AtNothing}
+use Rattle.log_format.specs.declared.stage.Stage.TheVariants.{AtHeader, AtClaim, AtTree, AtArcs, AtSteps, AtHalf, AtCuts, AtWall, AtEnd, AtNothing}
 use Rattle.log_format.specs.Text.{header}
 
 -- What a function returned, seen by view, is what reading gives, unless memory ran out.
@@ -61,22 +63,33 @@ pair_of keyword low high low' high' line = do
   n ← number_at low' high' m.1
   only (m.0, n.0) n.1
 
--- this many ascending vertices above the last one, and nothing else
-unfoldable pub set_at : ℕ → ℕ → List ℕ → Option (List ℕ)
-set_at zero last bytes = only [] bytes
-set_at (suc count) last bytes = do
-  v ← number_at (last + 1) 1000000 bytes
-  others ← set_at count v.0 v.1
+-- this many vertices, and nothing else
+unfoldable pub vertices_at : ℕ → List ℕ → Option (List ℕ)
+vertices_at zero bytes = only [] bytes
+vertices_at (suc count) bytes = do
+  v ← number_at 1 1000000 bytes
+  others ← vertices_at count v.1
   Some (v.0 ∷ others)
 
 abbrev pub most : ℕ
 most = 18446744073709551615
 
--- how many vertices, and these
-unfoldable pub counted_set_at : List ℕ → Option (List ℕ)
-counted_set_at bytes = do
+-- how many vertices, some at least, and these
+unfoldable pub counted_at : List ℕ → Option (List ℕ)
+counted_at bytes = do
   count ← number_at 1 most bytes
-  set_at count.0 0 count.1
+  vertices_at count.0 count.1
+
+-- whether each is above the one before it, and the first above the last one
+abbrev pub ascends : ℕ → List ℕ → Bool
+ascends last [] = true
+ascends last (v ∷ vs) = nat_lt last v && ascends v vs
+
+-- how many vertices, and these, ascending
+unfoldable pub set_at : List ℕ → Option (List ℕ)
+set_at bytes = do
+  vertices ← counted_at bytes
+  if ascends 0 vertices then Some vertices else None
 
 -- the vertex and the value of a cut, and what stands after them
 unfoldable pub cut_head_of : List ℕ → Option (ℕ × ℕ × List ℕ)
@@ -89,13 +102,37 @@ cut_head_of line = do
 unfoldable pub cut_of : List ℕ → Option Cut
 cut_of line = do
   head ← cut_head_of line
-  set ← counted_set_at head.2
+  set ← set_at head.2
   Some (record { set = set; q = head.0; y = head.1 })
 
 unfoldable pub wall_of : List ℕ → Option (List ℕ)
 wall_of line = do
   rest ← after (codes "WALL") line
-  counted_set_at rest
+  set_at rest
+
+-- the ends of a detour, and what stands after them
+unfoldable pub detour_head_of : List ℕ → Option (ℕ × ℕ × List ℕ)
+detour_head_of line = do
+  rest ← after (codes "D") line
+  a ← number_at 1 1000000 rest
+  b ← number_at 1 1000000 a.1
+  Some (a.0, b.0, b.1)
+
+unfoldable pub detour_of : List ℕ → Option Step
+detour_of line = do
+  head ← detour_head_of line
+  inner ← counted_at head.2
+  Some (Detour head.0 head.1 inner)
+
+-- the step of a vertex, or else the other
+abbrev pub of_vertex : (ℕ → Step) → Option ℕ → Option Step → Option Step
+of_vertex kind (Some v) other = Some (kind v)
+of_vertex kind None other = other
+
+unfoldable pub step_of : List ℕ → Option Step
+step_of line = of_vertex (λ v. Pendant v) (number_of (codes "P") 1 1000000 line)
+    (of_vertex (λ v. Through v) (number_of (codes "H") 1 1000000 line)
+    (of_vertex (λ v. Forced v) (number_of (codes "F") 1 1000000 line) (detour_of line)))
 
 -- this stage, if the line is this one
 abbrev pub stage_if : List ℕ → List ℕ → Stage → Option Stage
@@ -108,7 +145,7 @@ root_of (suc n) = Some (suc n)
 
 -- a half is closed: the next one comes, or the end
 abbrev pub closed : Answer → List ProofLine → ℕ → Stage
-closed a lines zero = AtEnd (Found a.primal a.dual a.tree lines)
+closed a lines zero = AtEnd (Found a.primal a.dual a.tree a.steps lines)
 closed a lines (suc waiting) = AtHalf (record { answer = a; lines = lines; waiting = waiting })
 
 -- the cuts of a close come, or there are none left
@@ -124,14 +161,23 @@ abbrev pub half_at : Proving → Option ℕ → List ℕ → Option Stage
 half_at p (Some v) line = Some (split_at p v)
 half_at p None line = pair_of (codes "C") 0 1000000 0 most line >>= λ head. Some (cuts_left p (root_of head.0) [] head.1)
 
+-- the tree is read to its end, and no step yet
+abbrev pub no_step_yet : ℕ → ℕ → ℕ → List (ℕ × ℕ) → Answer
+no_step_yet primal dual start arcs = record { primal = primal; dual = dual; tree = record { start = start; arcs = arcs }; steps = [] }
+
+-- one more step is read
+abbrev pub with_step : Answer → Step → Answer
+with_step a s = record a { steps = a.steps ++ s ∷ [] }
+
 -- what is to come after a line, if it may stand here
 unfoldable pub step : Stage → List ℕ → Option Stage
 step AtHeader line = stage_if header line AtClaim
 step AtClaim line = if bytes_eq line (codes "CLAIM NONE") then Some AtWall else (pair_of (codes "CLAIM TREE") 0 most 0 most line >>= λ b. Some (AtTree b.0 b.1))
 step (AtTree primal dual) line = pair_of (codes "TREE") 1 1000000 0 most line >>= λ t. Some (AtArcs primal dual t.0 [] t.1)
-step (AtArcs primal dual start arcs left) line = if left == 0 then stage_if (codes "STEPS 0") line (AtProof (record { primal = primal; dual = dual; tree = record { start = start; arcs = arcs } }))
+step (AtArcs primal dual start arcs left) line = if left == 0 then (number_of (codes "STEPS") 0 most line >>= λ count. Some (AtSteps (no_step_yet primal dual start arcs) count))
     else (pair_of (codes "A") 1 1000000 1 1000000 line >>= λ arc. Some (AtArcs primal dual start (arcs ++ arc ∷ []) (left - 1)))
-step (AtProof a) line = stage_if (codes "PROOF") line (AtHalf (record { answer = a; lines = []; waiting = 0 }))
+step (AtSteps a left) line = if left == 0 then stage_if (codes "PROOF") line (AtHalf (record { answer = a; lines = []; waiting = 0 }))
+    else (step_of line >>= λ s. Some (AtSteps (with_step a s) (left - 1)))
 step (AtHalf p) line = half_at p (number_of (codes "S") 1 1000000 line) line
 step (AtCuts p root cuts left) line = cut_of line >>= λ c. Some (cuts_left p root (cuts ++ c ∷ []) (left - 1))
 step AtWall line = wall_of line >>= λ wall. Some (AtEnd (NoTree wall))

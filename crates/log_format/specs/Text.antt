@@ -8,6 +8,8 @@ use Rattle.st_model.specs.Branch.{IsVertexSet}
 use Rattle.cut_packing.specs.declared.cut.Cut.{Cut}
 use Rattle.plain_text.specs.Lines.{ended}
 use Rattle.cut_packing.specs.declared.packing.Packing.{Packing}
+use Rattle.lift_back.specs.declared.step.Step.{Step}
+use Rattle.lift_back.specs.declared.step.Step.TheVariants.{Pendant, Through, Forced, Detour}
 use Rattle.log_format.specs.declared.log.Log.{Log}
 use Rattle.log_format.specs.declared.log.Claim.{Claim}
 use Rattle.log_format.specs.declared.log.Claim.TheVariants.{Found, NoTree}
@@ -34,6 +36,13 @@ arc_line arc = words (codes "A") (arc.0 ∷ arc.1 ∷ [])
 abbrev pub cut_line : Cut → List ℕ
 cut_line c = words (codes "U") (c.q ∷ c.y ∷ length c.set ∷ c.set)
 
+-- the line of a step: a letter for its kind, and its vertices; of a detour the ends, and how many inner vertices, and these
+abbrev pub step_line : Step → List ℕ
+step_line (Pendant v) = words (codes "P") (v ∷ [])
+step_line (Through v) = words (codes "H") (v ∷ [])
+step_line (Forced v) = words (codes "F") (v ∷ [])
+step_line (Detour a b inner) = words (codes "D") (a ∷ b ∷ length inner ∷ inner)
+
 -- the lines of a split, and of a close
 abbrev pub lines_of : ProofLine → List (List ℕ)
 lines_of (Split v) = words (codes "S") (v ∷ []) ∷ []
@@ -42,9 +51,10 @@ lines_of (Close P) = words (codes "C") (root_number P.root ∷ length P.cuts ∷
 abbrev pub header : List ℕ
 header = codes "STEINERLOG 1"
 
--- the lines of a claim; no step is taken
+-- the lines of a claim
 abbrev pub claim_lines : Claim → List (List ℕ)
-claim_lines (Found primal dual tree proof) = words (codes "CLAIM TREE") (primal ∷ dual ∷ []) ∷ words (codes "TREE") (tree.start ∷ length tree.arcs ∷ []) ∷ (map arc_line tree.arcs ++ (codes "STEPS 0" ∷ codes "PROOF" ∷ flat_map lines_of proof))
+claim_lines (Found primal dual tree steps proof) = words (codes "CLAIM TREE") (primal ∷ dual ∷ []) ∷ words (codes "TREE") (tree.start ∷ length tree.arcs ∷ [])
+    ∷ (map arc_line tree.arcs ++ (words (codes "STEPS") (length steps ∷ []) ∷ (map step_line steps ++ (codes "PROOF" ∷ flat_map lines_of proof))))
 claim_lines (NoTree wall) = codes "CLAIM NONE" ∷ words (codes "WALL") (length wall ∷ wall) ∷ []
 
 -- the lines of a log, without their ends
@@ -83,15 +93,29 @@ pub record IsWritableTree (tree : Tree) : Type 0 where
   pub few_arcs : length tree.arcs < 2 ^ 64
   pub arcs : All (λ arc. IsAnyVertex arc.0 × IsAnyVertex arc.1) tree.arcs
 
-pub record IsWritableFound (primal dual : ℕ) (tree : Tree) (proof : List ProofLine) : Type 0 where
+-- the inner vertices of a detour that can be written: some vertex, in any order
+pub record IsWritableInner (inner : List ℕ) : Type 0 where
+  pub some : 1 ≤ length inner
+  pub few : length inner < 2 ^ 64
+  pub vertices : All IsAnyVertex inner
+
+abbrev pub IsWritableStep : Step → Type 0
+IsWritableStep (Pendant v) = IsAnyVertex v
+IsWritableStep (Through v) = IsAnyVertex v
+IsWritableStep (Forced v) = IsAnyVertex v
+IsWritableStep (Detour a b inner) = IsAnyVertex a × IsAnyVertex b × IsWritableInner inner
+
+pub record IsWritableFound (primal dual : ℕ) (tree : Tree) (steps : List Step) (proof : List ProofLine) : Type 0 where
   pub primal_fits : primal < 2 ^ 64
   pub dual_fits : dual < 2 ^ 64
   pub tree_fits : IsWritableTree tree
+  pub few_steps : length steps < 2 ^ 64
+  pub steps_fit : All IsWritableStep steps
   pub lines_fit : All IsWritableLine proof
 
 -- vertices from 1 to 1,000,000, other numbers below 2^64
 abbrev pub IsClaimInRange : Claim → Type 0
-IsClaimInRange (Found primal dual tree proof) = IsWritableFound primal dual tree proof
+IsClaimInRange (Found primal dual tree steps proof) = IsWritableFound primal dual tree steps proof
 IsClaimInRange (NoTree wall) = IsWritableSet wall
 
 abbrev pub IsInLogRange : Log → Type 0
@@ -99,7 +123,7 @@ IsInLogRange log = IsClaimInRange log.claim
 
 -- the lines of the proof are exactly one proof tree
 abbrev pub IsProved : Claim → Type 0
-IsProved (Found primal dual tree proof) = IsOneProof proof
+IsProved (Found primal dual tree steps proof) = IsOneProof proof
 IsProved (NoTree wall) = Unit {0}
 
 -- a log: one that can be written, and whose proof is one proof tree

@@ -14,7 +14,7 @@ pub fn refused_exactly()
     ensures { (bytes : List ℕ) → RefusedExactly bytes }
 {}
 
-/// What an accepted log claims holds of the instance.
+/// What an accepted log claims holds of the instance, whatever steps it takes.
 pub fn accepted_holds()
     ensures { AcceptedHolds }
 {}

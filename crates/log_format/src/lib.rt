@@ -1,6 +1,7 @@
 //! Certificate logs of the Steiner tree problem, and the one text of each.
 //!
-//! A `Log` claims a tree and a bound with a proof tree of splits and packings, or that there is no
+//! A `Log` claims a tree and a bound with reduction steps and a proof
+//! tree of splits and packings, or that there is no
 //! tree. `read_log` and `write_log` compute the definition *log text*: a caller may rely on both
 //! directions, and on the line and kind of each fault. What a log must meet to be right of an
 //! instance are the definitions *accepts* and *rejects*, with the laws that a caller rests on.
@@ -17,6 +18,7 @@ mod proving;
 mod read;
 mod reader;
 mod stage;
+mod step_line;
 #[cfg(test)]
 mod tests;
 mod write;

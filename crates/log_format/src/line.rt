@@ -1,5 +1,5 @@
-ghost use Rattle.std.specs.Prelude.{◌≡◌, ◌+◌, ◌^◌, ◌≤◌, ◌<◌, ◌==◌, List, IfSome, IfOk, length, take, drop, option_map, position};
-ghost use Rattle.log_format.specs.Reading.{Gives, after, word_at, number_at, only, number_of, pair_of, set_at, counted_set_at, cut_head_of, cut_of, wall_of};
+ghost use Rattle.std.specs.Prelude.{◌≡◌, ◌+◌, ◌^◌, ◌≤◌, ◌<◌, ◌==◌, List, IfSome, length, take, drop, option_map, position};
+ghost use Rattle.log_format.specs.Reading.{Gives, after, word_at, number_at, only, number_of, pair_of, vertices_at, counted_at, ascends, set_at, cut_head_of, cut_of, wall_of};
 
 use crate::fault::LineError;
 use cut_packing::Cut;
@@ -11,7 +11,7 @@ use std::alloc::Global;
 pub const MAX_VERTEX: u64 = 1_000_000;
 
 /// What stands after a keyword.
-fn after<'a>(keyword: &[u8], bytes: &'a [u8]) -> Option<&'a [u8]>
+pub fn after<'a>(keyword: &[u8], bytes: &'a [u8]) -> Option<&'a [u8]>
     ensures { option_map (λ rest. rest.now) result ≡ after keyword.now bytes.now }
 {
     bytes.strip_prefix(keyword)
@@ -35,7 +35,7 @@ fn word_length(bytes: &[u8]) -> usize
 
 /// The number on a line from low to high that stands after a space, and what stands after it.
 #[tactic(auto, unfolding(crate::specs::Reading::number_at))]
-fn number_at(bytes: &[u8], low: u64, high: u64) -> Option<(u64, &[u8])>
+pub fn number_at(bytes: &[u8], low: u64, high: u64) -> Option<(u64, &[u8])>
     ensures value { option_map (λ x. (x.0, x.1.now)) result ≡ number_at low high bytes.now }
     ensures in_range { IfSome result (λ x. (low ≤ x.0) × (x.0 ≤ high)) }
 {
@@ -80,44 +80,64 @@ pub fn pair_of(
     Some((first, second))
 }
 
-/// The vertex above another that stands after a space, and what stands after it.
-fn vertex_above(bytes: &[u8], last: u32) -> Result<(u32, &[u8]), LineError>
-    requires { last ≤ 1000000 }
-    ensures value { Gives (λ x. (x.0, x.1.now)) result (number_at (last + 1) 1000000 bytes.now) }
-    ensures in_range { IfOk result (λ x. x.0 ≤ 1000000) }
+/// The vertex that stands after a space, and what stands after it.
+fn vertex_at(bytes: &[u8]) -> Result<(u32, &[u8]), LineError>
+    ensures { Gives (λ x. (x.0, x.1.now)) result (number_at 1 1000000 bytes.now) }
 {
-    let (vertex, rest) = number_at(bytes, u64::from(last) + 1, MAX_VERTEX).ok_or(
-        LineError::BadLine,
-    )?;
+    let (vertex, rest) = number_at(bytes, 1, MAX_VERTEX).ok_or(LineError::BadLine)?;
     Ok((vertex as u32, rest))
 }
 
-/// This many ascending vertices, and nothing after them.
-fn set_at(alloc: Global, bytes: &[u8], count: u64) -> Result<Vec<u32>, LineError>
-    ensures { Gives (λ set. set.items) result (set_at count 0 bytes.now) }
+/// This many vertices, and nothing after them.
+fn vertices_at(alloc: Global, bytes: &[u8], count: u64) -> Result<Vec<u32>, LineError>
+    ensures { Gives (λ vertices. vertices.items) result (vertices_at count bytes.now) }
 {
-    let mut set = Vec::new(alloc);
+    let mut vertices = Vec::new(alloc);
     let mut rest = bytes;
-    let mut last = 0;
     for _ in 0..count {
-        let (vertex, others) = vertex_above(rest, last)?;
-        set.push(vertex)?;
-        last = vertex;
+        let (vertex, others) = vertex_at(rest)?;
+        vertices.push(vertex)?;
         rest = others;
     }
     if !rest.is_empty() {
         return Err(LineError::BadLine);
     }
-    Ok(set)
+    Ok(vertices)
 }
 
-/// How many vertices there are, and these.
-#[tactic(auto, unfolding(crate::specs::Reading::counted_set_at))]
-fn counted_set_at(alloc: Global, bytes: &[u8]) -> Result<Vec<u32>, LineError>
-    ensures { Gives (λ set. set.items) result (counted_set_at bytes.now) }
+/// How many vertices there are, some at least, and these.
+#[tactic(auto, unfolding(crate::specs::Reading::counted_at))]
+pub fn counted_at(alloc: Global, bytes: &[u8]) -> Result<Vec<u32>, LineError>
+    ensures { Gives (λ vertices. vertices.items) result (counted_at bytes.now) }
 {
     let (count, rest) = number_at(bytes, 1, u64::MAX).ok_or(LineError::BadLine)?;
-    set_at(alloc, rest, count)
+    vertices_at(alloc, rest, count)
+}
+
+/// Whether each vertex is above the one before it.
+fn ascends(vertices: &[u32]) -> bool
+    ensures { result ≡ ascends 0 vertices.now }
+{
+    let mut last = 0;
+    for vertex in vertices {
+        if *vertex <= last {
+            return false;
+        }
+        last = *vertex;
+    }
+    true
+}
+
+/// How many vertices there are, and these, ascending.
+#[tactic(auto, unfolding(crate::specs::Reading::set_at))]
+fn set_at(alloc: Global, bytes: &[u8]) -> Result<Vec<u32>, LineError>
+    ensures { Gives (λ set. set.items) result (set_at bytes.now) }
+{
+    let set = counted_at(alloc, bytes)?;
+    if !ascends(&set) {
+        return Err(LineError::BadLine);
+    }
+    Ok(set)
 }
 
 /// The vertex and the value of a cut, and what stands after them.
@@ -136,7 +156,7 @@ pub fn cut_of(alloc: Global, line: &[u8]) -> Result<Cut, LineError>
     ensures { Gives (λ c. c) result (cut_of line.now) }
 {
     let (q, y, rest) = cut_head_of(line).ok_or(LineError::BadLine)?;
-    let set = counted_set_at(alloc, rest)?;
+    let set = set_at(alloc, rest)?;
     Ok(Cut {
         set: Listed::of(set),
         q,
@@ -150,6 +170,6 @@ pub fn wall_of(alloc: Global, line: &[u8]) -> Result<Listed<u32>, LineError>
     ensures { Gives (λ set. set) result (wall_of line.now) }
 {
     let rest = after(b"WALL", line).ok_or(LineError::BadLine)?;
-    let set = counted_set_at(alloc, rest)?;
+    let set = set_at(alloc, rest)?;
     Ok(Listed::of(set))
 }

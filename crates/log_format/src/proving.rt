@@ -31,12 +31,18 @@ fn closed(proving: Proving, packing: Packing) -> Result<Stage, AllocError>
     } = proving;
     let lines = with_line(lines, ProofLine::Close(packing))?;
     if waiting == 0 {
-        let Answer { primal, dual, tree } = answer;
+        let Answer {
+            primal,
+            dual,
+            tree,
+            steps,
+        } = answer;
         let proof = Proof::whole(lines.into_vec());
         return Ok(Stage::AtEnd(Claim::Found {
             primal,
             dual,
             tree,
+            steps,
             proof,
         }));
     }

@@ -1,12 +1,14 @@
 ghost use Rattle.std.specs.Prelude.{◌≡◌, ◌∷◌, [], ◌++◌, codes, option_map};
 ghost use Rattle.log_format.specs.Reached.{IsReached};
-ghost use Rattle.log_format.specs.Reading.{Gives, pair_of, stage_if, step};
+ghost use Rattle.log_format.specs.Reading.{Gives, pair_of, step_of, stage_if, with_step, step};
 
 use crate::fault::LineError;
-use crate::line::{MAX_VERTEX, pair_of, wall_of};
+use crate::line::{MAX_VERTEX, number_of, pair_of, wall_of};
 use crate::proving::{at_cuts, at_half};
+use crate::step_line::step_of;
 use crate::{Claim, ProofLine};
 use cut_packing::Cut;
+use lift_back::Step;
 use st_model::{Listed, Tree};
 use std::alloc::Global;
 
@@ -16,6 +18,7 @@ pub struct Answer {
     pub primal: u64,
     pub dual: u64,
     pub tree: Tree,
+    pub steps: Listed<Step>,
 }
 
 /// A proof of which a half is expected, and more halves that wait.
@@ -42,7 +45,10 @@ pub enum Stage {
         arcs: Listed<(u32, u32)>,
         left: u64,
     },
-    AtProof(Answer),
+    AtSteps {
+        answer: Answer,
+        left: u64,
+    },
     AtHalf(Proving),
     AtCuts {
         proving: Proving,
@@ -120,6 +126,7 @@ fn with_arc(arcs: Listed<(u32, u32)>, line: &[u8]) -> Result<Listed<(u32, u32)>,
 // What comes after a line where arcs may stand.
 #[tactic(auto, unfolding(crate::specs::Reading::step))]
 fn at_arcs(
+    alloc: Global,
     primal: u64,
     dual: u64,
     start: u32,
@@ -130,12 +137,14 @@ fn at_arcs(
     ensures { Gives (λ s. s) result (step (Stage.AtArcs primal dual start arcs left) line.now) }
 {
     if left == 0 {
-        let tree = Tree { start, arcs };
-        return stage_if(
-            b"STEPS 0",
-            line,
-            Stage::AtProof(Answer { primal, dual, tree }),
-        );
+        let left = number_of(line, b"STEPS", 0, u64::MAX).ok_or(LineError::BadLine)?;
+        let answer = Answer {
+            primal,
+            dual,
+            tree: Tree { start, arcs },
+            steps: Listed::of(Vec::new(alloc)),
+        };
+        return Ok(Stage::AtSteps { answer, left });
     }
     let arcs = with_arc(arcs, line)?;
     Ok(Stage::AtArcs {
@@ -147,17 +156,45 @@ fn at_arcs(
     })
 }
 
-// What comes after the word that begins a proof.
-#[tactic(auto, unfolding(crate::specs::Reading::step))]
-fn at_proof(alloc: Global, answer: Answer, line: &[u8]) -> Result<Stage, LineError>
-    ensures { Gives (λ s. s) result (step (Stage.AtProof answer) line.now) }
+// What was said, with the step of one more line.
+fn with_step(alloc: Global, answer: Answer, line: &[u8]) -> Result<Answer, LineError>
+    ensures { Gives (λ a. a) result (option_map (λ s. with_step answer s) (step_of line.now)) }
 {
-    let proving = Proving {
+    let next = step_of(alloc, line)?;
+    let Answer {
+        primal,
+        dual,
+        tree,
+        steps,
+    } = answer;
+    let mut steps = steps.into_vec();
+    steps.push(next)?;
+    Ok(Answer {
+        primal,
+        dual,
+        tree,
+        steps: Listed::of(steps),
+    })
+}
+
+// What comes after a line where steps may stand.
+#[tactic(auto, unfolding(crate::specs::Reading::step))]
+fn at_steps(alloc: Global, answer: Answer, left: u64, line: &[u8]) -> Result<Stage, LineError>
+    ensures { Gives (λ s. s) result (step (Stage.AtSteps answer left) line.now) }
+{
+    if left == 0 {
+        let proving = Proving {
+            answer,
+            lines: Listed::of(Vec::new(alloc)),
+            waiting: 0,
+        };
+        return stage_if(b"PROOF", line, Stage::AtHalf(proving));
+    }
+    let answer = with_step(alloc, answer, line)?;
+    Ok(Stage::AtSteps {
         answer,
-        lines: Listed::of(Vec::new(alloc)),
-        waiting: 0,
-    };
-    stage_if(b"PROOF", line, Stage::AtHalf(proving))
+        left: left - 1,
+    })
 }
 
 // What comes after a line where a wall stands.
@@ -185,8 +222,8 @@ pub fn step(alloc: Global, stage: Stage, line: &[u8]) -> Result<Stage, LineError
             start,
             arcs,
             left,
-        } => at_arcs(primal, dual, start, arcs, left, line),
-        Stage::AtProof(answer) => at_proof(alloc, answer, line),
+        } => at_arcs(alloc, primal, dual, start, arcs, left, line),
+        Stage::AtSteps { answer, left } => at_steps(alloc, answer, left, line),
         Stage::AtHalf(proving) => at_half(alloc, proving, line),
         Stage::AtCuts {
             proving,

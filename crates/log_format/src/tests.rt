@@ -1,5 +1,6 @@
 use super::*;
 use cut_packing::Packing;
+use lift_back::Step;
 use st_model::Listed;
 use std::test::Fail;
 
@@ -7,9 +8,21 @@ use std::test::Fail;
 const STAR: &str = "STEINERLOG 1\nCLAIM TREE 6 6\nTREE 1 3\nA 1 4\nA 4 2\nA 4 3\nSTEPS 0\nPROOF\n\
     C 1 3\nU 2 2 1 2\nU 3 2 1 3\nU 2 2 3 2 3 4\nEND\n";
 
+/// A log of the same tree, whose proof takes the star away step by step.
+const REDUCED: &str =
+    "STEINERLOG 1\nCLAIM TREE 6 6\nTREE 1 3\nA 1 4\nA 4 2\nA 4 3\nSTEPS 6\nD 1 2 1 4\n\
+    D 1 3 1 4\nD 2 3 1 4\nF 1\nF 2\nF 3\nPROOF\nC 0 0\nEND\n";
+
+/// Each kind of step, with the least and the greatest numbers.
+const STEPS: &str =
+    "STEINERLOG 1\nCLAIM TREE 0 0\nTREE 1 0\nSTEPS 5\nP 1\nH 1000000\nF 7\nD 1000000 1 3 9 2 9\n\
+    D 1 1 1 1000000\nPROOF\nC 0 0\nEND\n";
+
 /// The least and the greatest numbers that can stand in a log, and each kind of line.
-const RIGHT: [&str; 8] = [
+const RIGHT: [&str; 10] = [
     STAR,
+    REDUCED,
+    STEPS,
     "STEINERLOG 1\nCLAIM TREE 3 3\nTREE 2 0\nSTEPS 0\nPROOF\nS 2\nC 2 1\nU 1 3 1 1\nC 0 0\nEND\n",
     "STEINERLOG 1\nCLAIM NONE\nWALL 2 1 2\nEND\n",
     "STEINERLOG 1\nCLAIM NONE\nWALL 1 1000000\nEND\n",
@@ -42,6 +55,7 @@ fn reads_what_the_star_says(rt: HostRuntime) -> Result<(), Fail> {
         primal,
         dual,
         tree,
+        steps,
         proof,
     } = &log.claim
     else {
@@ -49,6 +63,7 @@ fn reads_what_the_star_says(rt: HostRuntime) -> Result<(), Fail> {
     };
     assert_eq!(rt; (*primal, *dual, tree.start), (6, 6, 1));
     assert_eq!(rt; tree.arcs.as_slice(), [(1, 4), (4, 2), (4, 3)].as_slice());
+    assert!(rt; steps.as_slice().is_empty());
     let [ProofLine::Close(packing)] = proof.lines() else {
         return Err("the proof is one close".into());
     };
@@ -97,7 +112,7 @@ const CHANGES: [(&str, &str, u64, Kind); 44] = [
     ("A 4 2", "A 0 2", 5, Kind::BadLine),
     ("A 4 2", "A 4 1000001", 5, Kind::BadLine),
     ("A 4 2", "A 4 2 ", 5, Kind::BadLine),
-    ("STEPS 0", "STEPS 1", 7, Kind::BadLine),
+    ("STEPS 0", "STEPS 1", 8, Kind::BadLine),
     ("STEPS 0\n", "", 7, Kind::BadLine),
     ("PROOF\n", "", 8, Kind::BadLine),
     ("PROOF", "S 1\nPROOF", 8, Kind::BadLine),
@@ -120,14 +135,127 @@ const CHANGES: [(&str, &str, u64, Kind); 44] = [
     ("END\n", "END", 13, Kind::EndsEarly),
 ];
 
+/// What is refused of a text in which a part is written otherwise.
+fn fault_of_change(
+    rt: &impl AllocGlobal,
+    text: &str,
+    right: &str,
+    wrong: &str,
+) -> Result<LogFault, Fail> {
+    let (before, after) = text.split_once(right).ok_or("the log has no such part")?;
+    let text = format!(in rt.alloc(); "{before}{wrong}{after}")?;
+    fault_of(rt, text.as_bytes())
+}
+
 #[test]
 fn refuses_each_change(rt: HostRuntime) -> Result<(), Fail> {
     for (right, wrong, line, kind) in CHANGES {
-        let (before, after) = STAR.split_once(right).ok_or("the log has no such part")?;
-        let text = format!(in rt.alloc(); "{before}{wrong}{after}")?;
-        let fault = fault_of(&rt, text.as_bytes())?;
-        assert_eq!(rt; fault, LogFault { line, kind }, "in {text}");
+        let fault = fault_of_change(&rt, STAR, right, wrong)?;
+        assert_eq!(rt; fault, LogFault { line, kind }, "{wrong} for {right}");
     }
+    Ok(())
+}
+
+/// What stands in the log of steps, what is written in its place, and the line that is bad then.
+const STEP_CHANGES: [(&str, &str, u64); 49] = [
+    ("STEPS 6", "STEPS 5", 13),
+    ("STEPS 6", "STEPS 7", 14),
+    ("STEPS 6", "STEPS 0", 8),
+    ("STEPS 6", "STEPS 18446744073709551615", 14),
+    ("STEPS 6", "STEPS 18446744073709551616", 7),
+    ("STEPS 6", "STEPS 06", 7),
+    ("STEPS 6", "STEPS  6", 7),
+    ("STEPS 6", "STEPS 6 ", 7),
+    ("STEPS 6", "STEPS 6 6", 7),
+    ("STEPS 6", "STEPS", 7),
+    ("STEPS 6", "STEPS -6", 7),
+    ("D 1 2 1 4", "D 1 2 0", 8),
+    ("D 1 2 1 4", "D 1 2 0 4", 8),
+    ("D 1 2 1 4", "D 1 2 1", 8),
+    ("D 1 2 1 4", "D 1 2", 8),
+    ("D 1 2 1 4", "D 1 2 2 4", 8),
+    ("D 1 2 1 4", "D 1 2 1 4 4", 8),
+    ("D 1 2 1 4", "D 1 2 1 4 ", 8),
+    ("D 1 2 1 4", "D 1 2 1  4", 8),
+    ("D 1 2 1 4", "D 1 2 1 04", 8),
+    ("D 1 2 1 4", "D 1 2 1 0", 8),
+    ("D 1 2 1 4", "D 1 2 1 1000001", 8),
+    ("D 1 2 1 4", "D 1 2 01 4", 8),
+    ("D 1 2 1 4", "D 1 2 18446744073709551615 4", 8),
+    ("D 1 2 1 4", "D 1 2 18446744073709551616 4", 8),
+    ("D 1 2 1 4", "D 0 2 1 4", 8),
+    ("D 1 2 1 4", "D 1 0 1 4", 8),
+    ("D 1 2 1 4", "D 1000001 2 1 4", 8),
+    ("D 1 2 1 4", "D 1 1000001 1 4", 8),
+    ("D 1 2 1 4", "D1 2 1 4", 8),
+    ("D 1 2 1 4", "d 1 2 1 4", 8),
+    ("F 1", "F 0", 11),
+    ("F 1", "F 1000001", 11),
+    ("F 1", "F 1 2", 11),
+    ("F 1", "F 01", 11),
+    ("F 1", "F", 11),
+    ("F 1", "G 1", 11),
+    ("F 1", "", 11),
+    ("F 1", "A 1 4", 11),
+    ("F 1", "S 1", 11),
+    ("F 1", "P 0", 11),
+    ("F 1", "P 1 1", 11),
+    ("F 1", "P 1000001", 11),
+    ("F 1", "H 0", 11),
+    ("F 1", "H 1 ", 11),
+    ("F 1", "H 1000001", 11),
+    ("F 2\n", "", 13),
+    ("F 3", "F 3\nF 3", 14),
+    ("PROOF\n", "", 14),
+];
+
+#[test]
+fn refuses_each_change_of_steps(rt: HostRuntime) -> Result<(), Fail> {
+    for (right, wrong, line) in STEP_CHANGES {
+        let fault = fault_of_change(&rt, REDUCED, right, wrong)?;
+        let wanted = LogFault {
+            line,
+            kind: Kind::BadLine,
+        };
+        assert_eq!(rt; fault, wanted, "{wrong} for {right}");
+    }
+    Ok(())
+}
+
+#[test]
+fn reads_what_the_steps_say(rt: HostRuntime) -> Result<(), Fail> {
+    let log = read_log(rt.alloc(), STEPS.as_bytes())?;
+    let Claim::Found { steps, .. } = &log.claim else {
+        return Err("a tree is claimed".into());
+    };
+    let [
+        Step::Pendant(1),
+        Step::Through(1_000_000),
+        Step::Forced(7),
+        Step::Detour { a, b, inner },
+        Step::Detour { .. },
+    ] = steps.as_slice()
+    else {
+        return Err("the steps are others".into());
+    };
+    assert_eq!(rt; (*a, *b), (1_000_000, 1));
+    assert_eq!(rt; inner.as_slice(), [9, 2, 9].as_slice());
+    Ok(())
+}
+
+#[test]
+fn reads_and_writes_many_steps(rt: HostRuntime) -> Result<(), Fail> {
+    let mut text = format!(in rt.alloc();
+        "STEINERLOG 1\nCLAIM TREE 0 0\nTREE 1 0\nSTEPS 100001\nD 1 2 100000"
+    )?;
+    for _ in 0..100_000 {
+        text.push_str(" 3")?;
+    }
+    for _ in 0..50_000 {
+        text.push_str("\nP 4\nD 5 6 2 7 7")?;
+    }
+    text.push_str("\nPROOF\nC 0 0\nEND\n")?;
+    assert!(rt; is_read_and_written(&rt, text.as_str())?);
     Ok(())
 }
 

@@ -1,11 +1,12 @@
 ghost use Rattle.std.specs.Prelude.{◌≡◌, ◌<◌, ◌^◌, ◌∷◌, [], ◌++◌, length, map, OnOk, IfOk, codes, Some, None};
 ghost use Rattle.std.specs.List.{flat_map};
 ghost use Rattle.plain_text.specs.Lines.{ended};
-ghost use Rattle.log_format.specs.Text.{spaced, words, root_number, arc_line, cut_line, lines_of, claim_lines, log_text, IsInLogRange};
+ghost use Rattle.log_format.specs.Text.{spaced, words, root_number, arc_line, cut_line, step_line, lines_of, claim_lines, log_text, IsInLogRange};
 
 use crate::{Claim, Log, ProofLine};
 use cut_packing::{Cut, Packing};
 use itoa::Buffer;
+use lift_back::Step;
 use st_model::Tree;
 use std::alloc::{AllocError, Global};
 
@@ -58,12 +59,12 @@ fn write_vertices(text: &mut Text, vertices: &[u32]) -> Result<(), AllocError>
 }
 
 // Writes how many vertices there are, and these, and the end of the line.
-fn write_set(text: &mut Text, set: &[u32]) -> Result<(), AllocError>
+fn write_counted(text: &mut Text, vertices: &[u32]) -> Result<(), AllocError>
     ensures { OnOk result (text.new.items
-        ≡ text.old.items ++ ended (flat_map spaced (length set.now ∷ set.now))) }
+        ≡ text.old.items ++ ended (flat_map spaced (length vertices.now ∷ vertices.now))) }
 {
-    write_number(text, set.len() as u64)?;
-    write_vertices(text, set)?;
+    write_number(text, vertices.len() as u64)?;
+    write_vertices(text, vertices)?;
     write_end(text)
 }
 
@@ -74,7 +75,7 @@ fn write_cut(text: &mut Text, cut: &Cut) -> Result<(), AllocError>
     write_word(text, b"U")?;
     write_number(text, u64::from(cut.q))?;
     write_number(text, cut.y)?;
-    write_set(text, cut.set.as_slice())
+    write_counted(text, cut.set.as_slice())
 }
 
 // Writes the lines of some cuts.
@@ -105,18 +106,26 @@ fn write_close(text: &mut Text, packing: &Packing) -> Result<(), AllocError>
     write_cuts(text, cuts)
 }
 
+// Writes a line of a keyword and a number.
+fn write_single(text: &mut Text, word: &[u8], number: u64) -> Result<(), AllocError>
+    ensures { OnOk result (text.new.items
+        ≡ text.old.items ++ ended (words word.now (number ∷ []))) }
+{
+    write_word(text, word)?;
+    write_number(text, number)?;
+    write_end(text)
+}
+
 // Writes the line of a split.
 fn write_split(text: &mut Text, vertex: u32) -> Result<(), AllocError>
     ensures { OnOk result (text.new.items
         ≡ text.old.items ++ flat_map ended (lines_of (ProofLine.Split vertex))) }
 {
-    write_word(text, b"S")?;
-    write_number(text, u64::from(vertex))?;
-    write_end(text)
+    write_single(text, b"S", u64::from(vertex))
 }
 
-// Writes the lines of a proof.
-fn write_proof(text: &mut Text, lines: &[ProofLine]) -> Result<(), AllocError>
+// Writes the lines of splits and closes.
+fn write_lines(text: &mut Text, lines: &[ProofLine]) -> Result<(), AllocError>
     ensures { OnOk result (text.new.items
         ≡ text.old.items ++ flat_map ended (flat_map lines_of lines.now)) }
 {
@@ -127,6 +136,58 @@ fn write_proof(text: &mut Text, lines: &[ProofLine]) -> Result<(), AllocError>
         }
     }
     Ok(())
+}
+
+// Writes a proof, after the word that begins it.
+fn write_proof(text: &mut Text, lines: &[ProofLine]) -> Result<(), AllocError>
+    ensures { OnOk result (text.new.items
+        ≡ text.old.items ++ flat_map ended (codes "PROOF" ∷ flat_map lines_of lines.now)) }
+{
+    write_word(text, b"PROOF\n")?;
+    write_lines(text, lines)
+}
+
+// Writes the line of a detour.
+fn write_detour(text: &mut Text, a: u32, b: u32, inner: &[u32]) -> Result<(), AllocError>
+    ensures { OnOk result (text.new.items
+        ≡ text.old.items ++ ended (step_line (Step.Detour a b inner.now))) }
+{
+    write_word(text, b"D")?;
+    write_number(text, u64::from(a))?;
+    write_number(text, u64::from(b))?;
+    write_counted(text, inner)
+}
+
+// Writes the line of a step.
+fn write_step(text: &mut Text, step: &Step) -> Result<(), AllocError>
+    ensures { OnOk result (text.new.items ≡ text.old.items ++ ended (step_line step.now)) }
+{
+    match step {
+        Step::Pendant(vertex) => write_single(text, b"P", u64::from(*vertex)),
+        Step::Through(vertex) => write_single(text, b"H", u64::from(*vertex)),
+        Step::Forced(vertex) => write_single(text, b"F", u64::from(*vertex)),
+        Step::Detour { a, b, inner } => write_detour(text, *a, *b, inner.as_slice()),
+    }
+}
+
+// Writes the line of each step.
+fn write_each_step(text: &mut Text, steps: &[Step]) -> Result<(), AllocError>
+    ensures { OnOk result (text.new.items
+        ≡ text.old.items ++ flat_map ended (map step_line steps.now)) }
+{
+    for step in steps {
+        write_step(text, step)?;
+    }
+    Ok(())
+}
+
+// Writes the lines of some steps, after how many there are.
+fn write_steps(text: &mut Text, steps: &[Step]) -> Result<(), AllocError>
+    ensures { OnOk result (text.new.items ≡ text.old.items
+        ++ flat_map ended (words (codes "STEPS") (length steps.now ∷ []) ∷ map step_line steps.now)) }
+{
+    write_single(text, b"STEPS", steps.len() as u64)?;
+    write_each_step(text, steps)
 }
 
 // Writes the lines of some arcs.
@@ -161,16 +222,17 @@ fn write_claim(text: &mut Text, claim: &Claim) -> Result<(), AllocError>
             primal,
             dual,
             tree,
+            steps,
             proof,
         } => {
             write_pair(text, b"CLAIM TREE", *primal, *dual)?;
             write_tree(text, tree)?;
-            write_word(text, b"STEPS 0\nPROOF\n")?;
+            write_steps(text, steps.as_slice())?;
             write_proof(text, proof.lines())
         }
         Claim::NoTree { wall } => {
             write_word(text, b"CLAIM NONE\nWALL")?;
-            write_set(text, wall.as_slice())
+            write_counted(text, wall.as_slice())
         }
     }
 }

@@ -1,14 +1,11 @@
-use Rattle.cert_checker.proofs.Checks.{answer_concludes, accepted_answers, file_answers, wrong_answers}
+use Rattle.cert_checker.proofs.Checks.{accepted_answers, file_answers, wrong_answers}
 use Rattle.cert_checker.proofs.checking.check.Goals as goal
 
-pub returns-clause-concludes : goal.returns-clause-concludes
-returns-clause-concludes c = answer_concludes c.args.stp.now c.args.log.now (c.refused_exactly-2.ensures c.args.stp.now) c.accepted_holds.ensures c.answer.result c.answer.ensures
-
 pub returns-clause-accepted : goal.returns-clause-accepted
-returns-clause-accepted c = accepted_answers c.args.stp.now c.args.log.now (c.refused_exactly-2.ensures c.args.stp.now) c.one_spelling.ensures (c.refused_exactly.ensures c.args.log.now) c.rejected_exactly.ensures c.answer.result c.answer.ensures
+returns-clause-accepted c = accepted_answers c.args.stp.now c.args.log.now (c.refused_exactly-2.ensures c.args.stp.now) c.one_spelling.ensures (c.refused_exactly.ensures c.args.log.now) c.rejected_exactly.ensures c.answer.result c.answer.ensures.exact
 
 pub returns-clause-file : goal.returns-clause-file
-returns-clause-file c = file_answers c.args.stp.now c.args.log.now (c.refused_exactly-2.ensures c.args.stp.now) c.answer.result c.answer.ensures
+returns-clause-file c = file_answers c.args.stp.now c.args.log.now (c.refused_exactly-2.ensures c.args.stp.now) c.answer.result c.answer.ensures.exact
 
 pub returns-clause-log : goal.returns-clause-log
-returns-clause-log c = wrong_answers c.args.stp.now c.args.log.now (c.refused_exactly-2.ensures c.args.stp.now) c.one_spelling.ensures (c.refused_exactly.ensures c.args.log.now) c.rejected_exactly.ensures c.answer.result c.answer.ensures
+returns-clause-log c = wrong_answers c.args.stp.now c.args.log.now (c.refused_exactly-2.ensures c.args.stp.now) c.one_spelling.ensures (c.refused_exactly.ensures c.args.log.now) c.rejected_exactly.ensures c.answer.result c.answer.ensures.exact
