@@ -13,8 +13,8 @@ use Rattle.cut_packing.specs.Packing.{CutFits}
 use Rattle.cut_packing.specs.ProofTree.{ProofTree, Proves}
 use Rattle.log_format.specs.declared.proof_line.ProofLine.{ProofLine}
 use Rattle.log_format.specs.Accepts.{AcceptsFound}
-use Rattle.log_format.proofs.AllTrees.{all_trees-branch}
-use Rattle.log_format.specs.Text.{IsWritableCut, IsWritableLine, IsWritableFound}
+use Rattle.log_format.proofs.AllTrees.{all_trees-branch, proves_after_none, proves_of_all}
+use Rattle.log_format.specs.Text.{IsWritableCut, IsWritableStep, IsWritableLine, IsWritableFound}
 use Rattle.split_search.specs.declared.node.Node.{Node}
 use Rattle.split_search.specs.declared.searched.Searched.{Searched}
 use Rattle.std.specs.declared.alloc.AllocError.{AllocError}
@@ -63,14 +63,15 @@ begins I root start least is_all is_empty instance tree is_cost cheap = record {
   written = All-nil IsWritableLine;
 }
 
-pub ends_accepted : (I : Network) (best : Tree) (least : ℕ) (first : List ProofLine) (left : List Node) (lines : List ProofLine) (dual : ℕ) → IsTree I best → least ≡ cost I best → IsClosing I least first left lines [] dual → AcceptsFound I least dual best lines
+pub ends_accepted : (I : Network) (best : Tree) (least : ℕ) (first : List ProofLine) (left : List Node) (lines : List ProofLine) (dual : ℕ) → IsTree I best → least ≡ cost I best → IsClosing I least first left lines [] dual → AcceptsFound I least dual best [] lines
 ends_accepted I best least first left lines dual tree is_cost k =
     let p = continues_at_last I dual least k.light lines k.continues in
-    record { is_tree = tree; is_cost = is_cost; is_below = omega (arith, k.low, lowest_below least k.light); is_proved = (p.proof, p.written, p.proves) }
+    record { is_tree = tree; is_cost = is_cost; is_below = omega (arith, k.low, lowest_below least k.light); is_proved = proves_after_none I dual lines (p.proof, p.written, p.proves) }
 
 -- where the lines prove x, so does the one proof tree that they are
 pub ends_greatest : (I : Network) (least : ℕ) (first : List ProofLine) (left : List Node) (lines : List ProofLine) (dual : ℕ) → IsClosing I least first left lines [] dual → IsGreatestBound I least dual lines
-ends_greatest I least first left lines dual k x below (q, written, proves) =
+ends_greatest I least first left lines dual k x below after =
+    let (q, written, proves) = proves_of_all I x lines after in
     let p = continues_at_last I dual least k.light lines k.continues in
     let same : q ≡ p.proof = one_proof q p.proof (sym written ∙ p.written) in
     let low = proved_below I all_trees x least least p.proof below (subst (λ (t : ProofTree). Proves I all_trees x t) same proves) in
@@ -81,11 +82,13 @@ ends_spent I least first left lines dual k =
     let p = continues_at_last I dual least k.light lines k.continues in
     (p.proof, p.written, omega (arith, ap length p.weigh, k.few, k.more))
 
-pub ends_writable : (I : Network) (best : Tree) (least : ℕ) (first : List ProofLine) (left : List Node) (lines : List ProofLine) (dual : ℕ) → IsInstance I → IsTree I best → least ≡ cost I best → IsClosing I least first left lines [] dual → IsWritableFound least dual best lines
+pub ends_writable : (I : Network) (best : Tree) (least : ℕ) (first : List ProofLine) (left : List Node) (lines : List ProofLine) (dual : ℕ) → IsInstance I → IsTree I best → least ≡ cost I best → IsClosing I least first left lines [] dual → IsWritableFound least dual best [] lines
 ends_writable I best least first left lines dual instance tree is_cost k = record {
   primal_fits = omega (arith, is_cost, cost_fits I best instance tree.arborescence);
   dual_fits = omega (arith, is_cost, cost_fits I best instance tree.arborescence, k.low, lowest_below least k.light);
   tree_fits = writable_tree I best instance tree.arborescence;
+  few_steps = omega arith;
+  steps_fit = All-nil IsWritableStep;
   lines_fit = k.written;
 }
 
@@ -96,7 +99,7 @@ none_left I lines waiting best least budget u (inr spent) enough = absurd (omega
 
 -- where nothing is left, or else the budget is spent, the end is that of a search
 pub searched : (I : Network) (start : Tree) (budget : ℕ) (lines : List ProofLine) (waiting : List Node) (best : Tree) (least : ℕ) (r : Result Searched AllocError) → IsUnderWay I lines waiting best least → least ≤ cost I start → length lines ≤ budget → (waiting ≡ []) ⊎ (length lines ≡ budget)
-    → IfOk r (λ s. AcceptsFound I s.primal s.dual s.tree s.proof) → IfOk r (λ s. s.primal ≡ least) → IfOk r (λ s. IsGreatestBound I s.primal s.dual s.proof) → (waiting ≡ [] → IfOk r (λ s. s.dual ≡ s.primal)) → IfOk r (λ s. IsSpent (length lines) I s.primal s.proof) → IfOk r (λ s. length s.proof ≡ length lines + length waiting) → IfOk r (λ s. IsWritableFound s.primal s.dual s.tree s.proof)
+    → IfOk r (λ s. AcceptsFound I s.primal s.dual s.tree [] s.proof) → IfOk r (λ s. s.primal ≡ least) → IfOk r (λ s. IsGreatestBound I s.primal s.dual s.proof) → (waiting ≡ [] → IfOk r (λ s. s.dual ≡ s.primal)) → IfOk r (λ s. IsSpent (length lines) I s.primal s.proof) → IfOk r (λ s. length s.proof ≡ length lines + length waiting) → IfOk r (λ s. IsWritableFound s.primal s.dual s.tree [] s.proof)
     → IfOk r (IsSearched I start budget)
 searched I start budget lines waiting best least (Err e) u no_worse paid ended accepted primal greatest whole spent all writable = tt
 searched I start budget lines waiting best least (Ok s) u no_worse paid ended accepted primal greatest whole spent all writable = record {

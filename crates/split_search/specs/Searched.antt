@@ -10,7 +10,7 @@ use Rattle.cut_packing.specs.Packing.{weight}
 use Rattle.cut_packing.specs.ProofTree.{ProofTree, close, split}
 use Rattle.log_format.specs.declared.proof_line.ProofLine.{ProofLine}
 use Rattle.log_format.specs.Preorder.{preorder}
-use Rattle.log_format.specs.Accepts.{AcceptsFound, ProvesAll}
+use Rattle.log_format.specs.Accepts.{AcceptsFound, ProvesAfter}
 use Rattle.log_format.specs.Text.{IsWritableFound}
 use Rattle.split_search.specs.declared.searched.Searched.{Searched}
 
@@ -31,13 +31,13 @@ light_weights I B primal (split v inside outside) = light_weights I (with_inside
 abbrev pub IsSpent : ℕ → Network → ℕ → List ProofLine → Type 0
 IsSpent budget I primal lines = (p : ProofTree) × (lines ≡ preorder p) × (budget + length (light_weights I all_trees primal p) ≤ length lines)
 
--- of the numbers up to primal that the lines prove, dual is the greatest
+-- of the numbers up to primal that the lines prove where no step is taken, dual is the greatest
 abbrev pub IsGreatestBound : Network → ℕ → ℕ → List ProofLine → Type 0
-IsGreatestBound I primal dual lines = (x : ℕ) → x ≤ primal → ProvesAll I x lines → x ≤ dual
+IsGreatestBound I primal dual lines = (x : ℕ) → x ≤ primal → ProvesAfter I [] x lines → x ≤ dual
 
 -- a tree that is no dearer than the start, and a proof of a bound, which is its cost unless the budget was spent
 pub record IsSearched (I : Network) (start : Tree) (budget : ℕ) (s : Searched) : Type 0 where
-  pub accepted : AcceptsFound I s.primal s.dual s.tree s.proof
+  pub accepted : AcceptsFound I s.primal s.dual s.tree [] s.proof
   pub no_worse : s.primal ≤ cost I start
   pub greatest : IsGreatestBound I s.primal s.dual s.proof
   pub spent : s.dual < s.primal → IsSpent budget I s.primal s.proof
@@ -46,4 +46,4 @@ pub record IsSearched (I : Network) (start : Tree) (budget : ℕ) (s : Searched)
   -- a budget that is sure to suffice
   pub whole : 2 ^ (free_vertices I + 1) ≤ budget → s.dual ≡ s.primal
   -- all that the text of a log asks for
-  pub writable : IsWritableFound s.primal s.dual s.tree s.proof
+  pub writable : IsWritableFound s.primal s.dual s.tree [] s.proof

@@ -133,13 +133,13 @@ impl Progress {
     /// Closes what is left by the packings that it has.
     pub fn finish(mut self, instance: &Instance) -> Result<Searched, AllocError>
         requires { GoesOn instance.now self }
-        ensures accepted { IfOk result (λ s. AcceptsFound instance.now s.primal s.dual s.tree s.proof) }
+        ensures accepted { IfOk result (λ s. AcceptsFound instance.now s.primal s.dual s.tree [] s.proof) }
         ensures primal { IfOk result (λ s. s.primal ≡ self.least) }
         ensures greatest { IfOk result (λ s. IsGreatestBound instance.now s.primal s.dual s.proof) }
         ensures whole { self.waiting.items ≡ [] → IfOk result (λ s. s.dual ≡ s.primal) }
         ensures spent { IfOk result (λ s. IsSpent (length self.lines.items) instance.now s.primal s.proof) }
         ensures lines { IfOk result (λ s. length s.proof ≡ length self.lines.items + length self.waiting.items) }
-        ensures writable { IfOk result (λ s. IsWritableFound s.primal s.dual s.tree s.proof) }
+        ensures writable { IfOk result (λ s. IsWritableFound s.primal s.dual s.tree [] s.proof) }
     {
         let dual = self.close_left(instance)?;
         let Some(proof) = Proof::of(self.lines) else {

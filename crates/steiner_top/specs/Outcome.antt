@@ -1,5 +1,5 @@
 -- What solving a file gives: a tree and a bound with their certificate, or a certificate that there is no tree.
-use Rattle.std.specs.Prelude.{◌≡◌, ℕ, ◌+◌, ◌^◌, ◌<◌, ◌≤◌, List, Result, Ok, Err}
+use Rattle.std.specs.Prelude.{◌≡◌, ℕ, ◌+◌, ◌^◌, ◌<◌, ◌≤◌, List, [], Result, Ok, Err}
 use Rattle.st_model.specs.declared.tree.Tree.{Tree}
 use Rattle.st_model.specs.Network.{Network}
 use Rattle.st_model.specs.Arborescence.{IsTree, IsBound, cost}
@@ -17,10 +17,10 @@ use Rattle.steiner_top.specs.declared.outcome.Outcome.TheVariants.{Found, NoTree
 use Rattle.steiner_top.specs.declared.outcome.SolveFault.{SolveFault}
 use Rattle.steiner_top.specs.declared.outcome.SolveFault.TheVariants.{Stp, NoMemory}
 
--- the log claims this tree and this bound, the greatest that its proof shows; and the proof spent the budget if they are apart
+-- the log claims this tree and this bound, takes no step, and its proof shows no greater bound; and the proof spent the budget if they are apart
 pub record IsCertificate (nodes : ℕ) (I : Network) (tree : Tree) (primal dual : ℕ) (log : Log) : Type 0 where
   pub proof : List ProofLine
-  pub claims : log.claim ≡ claim.Found primal dual tree proof
+  pub claims : log.claim ≡ claim.Found primal dual tree [] proof
   pub greatest : IsGreatestBound I primal dual proof
   pub spent : dual < primal → IsSpent nodes I primal proof
   pub is_log : IsLog log

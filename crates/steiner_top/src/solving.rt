@@ -75,6 +75,7 @@ fn found(
     ensures { IfOk result (IsOutcome nodes instance.now) }
 {
     log_format::accepted_holds();
+    prove!(1 <= instance.vertices());
     let tree = copy_of(alloc, &searched.tree)?;
     Ok(Outcome::Found {
         tree,
@@ -85,6 +86,7 @@ fn found(
                 primal: searched.primal,
                 dual: searched.dual,
                 tree: searched.tree,
+                steps: Listed::of(Vec::new(alloc)),
                 proof: searched.proof,
             },
         },
@@ -109,6 +111,7 @@ fn without_tree(instance: &Instance, wall: Vec<u32>) -> Outcome
     ensures { (nodes : ℕ) → IsOutcome nodes instance.now result }
 {
     log_format::accepted_holds();
+    prove!(1 <= instance.vertices());
     Outcome::NoTree {
         certificate: Log {
             claim: Claim::NoTree {
