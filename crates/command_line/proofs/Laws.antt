@@ -5,11 +5,12 @@ use Rattle.std.specs.Option.{ok_or}
 use Rattle.std.proofs.lemmas.Bool.Decides.{nat_tests}
 use Rattle.clap.specs.Faults.{fault_of}
 use Rattle.clap.specs.Kinds.{Kinds, HasKind}
-use Rattle.clap.specs.Simple.{App, subcommand_of, is_simple}
+use Rattle.clap.specs.Simple.{App, HasMatchesOf, subcommand_of, subcommand_rows_of, is_simple}
 use Rattle.clap.specs.Faults.{is_simple_and_free}
 use Rattle.clap.specs.Values.{kind_of}
 use Rattle.clap.specs.Walk.{Row, Text, is_empty}
 use Rattle.clap.specs.declared.error.Error.{Error}
+use Rattle.clap.specs.declared.parser.matches.ArgMatches.{ArgMatches}
 use Rattle.clap.specs.declared.error.kind.ErrorKind.TheVariants.{OutOfMemory}
 use Rattle.clap.proofs.OnLiterals.{clap_on_literals}
 use Rattle.command_line.specs.declared.cmd.Cmd.{Cmd}
@@ -65,6 +66,14 @@ answer_usage words None result is means h = means
 pub refused_words : (app : App) (words : List Text) (e : Error) → app ≡ program → (is_simple_and_free app ≡ true → HasKind (fault_of app words) e) → (kind_of e ≡ OutOfMemory → ⊥) → is_empty (fault_of program words) ≡ false
 refused_words app words e same kinds other =
     some_fault (fault_of program words) e (subst (λ a. HasKind (fault_of a words) e) same (kinds (subst (λ a. is_simple_and_free a ≡ true) (sym same) program_is_free))) other
+
+-- matches of the program say that clap takes the words
+pub taken_words : (app : App) (words : List Text) → app ≡ program → (is_simple_and_free app ≡ true → fault_of app words ≡ []) → is_empty (fault_of program words) ≡ true
+taken_words app words same taken = ap is_empty (subst (λ a. fault_of a words ≡ []) same (taken (subst (λ a. is_simple_and_free a ≡ true) (sym same) program_is_free)))
+
+-- and are those that its words have
+pub matched_words : (app : App) (words : List Text) (m : ArgMatches) → app ≡ program → HasMatchesOf app words m → subcommand_rows_of m ≡ subcommand_of program words
+matched_words app words m same matched = subst (λ a. subcommand_rows_of m ≡ subcommand_of a words) same (matched (subst (λ a. is_simple a ≡ true) (sym same) program_is_simple)).1
 
 -- what stands after an error
 pub fault_is : (T : Type 0) (fault other : WordFault) → IsErrOf {T = T} (Err fault) other → fault ≡ other

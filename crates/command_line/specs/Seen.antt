@@ -1,10 +1,13 @@
 -- A command of the code as the command of the words that it stands for.
 use Rattle.std.specs.Prelude.{option_copied}
 use Rattle.command_line.specs.declared.cmd.Cmd.{Cmd}
-use Rattle.command_line.specs.declared.cmd.Cmd.TheVariants.{Solve, Check}
+use Rattle.command_line.specs.declared.cmd.Cmd.TheVariants.{Solve, Check, Gen, Trial}
 use Rattle.command_line.specs.declared.cmd.SolveWords.{SolveWords}
 use Rattle.command_line.specs.declared.cmd.CheckWords.{CheckWords}
-use Rattle.command_line.specs.Words.{SolveWords as Solved, CheckWords as Checked, Command, solve, check}
+use Rattle.command_line.specs.declared.cmd.DrawWords.{DrawWords}
+use Rattle.command_line.specs.declared.cmd.GenWords.{GenWords}
+use Rattle.command_line.specs.declared.cmd.TrialWords.{TrialWords}
+use Rattle.command_line.specs.Words.{SolveWords as Solved, CheckWords as Checked, DrawWords as Drawn, GenWords as Generated, TrialWords as Tried, Command, solve, check, gen, trial}
 
 abbrev pub solve_words : SolveWords → Solved
 solve_words w = record { file = w.file.now; workers = w.workers; nodes = w.nodes; log_name = option_copied w.log_name; plain = w.plain }
@@ -12,7 +15,18 @@ solve_words w = record { file = w.file.now; workers = w.workers; nodes = w.nodes
 abbrev pub check_words : CheckWords → Checked
 check_words w = record { file = w.file.now; log_name = w.log_name.now }
 
+abbrev pub draw_words : DrawWords → Drawn
+draw_words w = record { seed = w.seed; n = w.n; m = w.m; t = w.t }
+
+abbrev pub gen_words : GenWords → Generated
+gen_words w = record { drawn = draw_words w.drawn; prizes = w.prizes }
+
+abbrev pub trial_words : TrialWords → Tried
+trial_words w = record { drawn = draw_words w.drawn; workers = w.workers }
+
 -- the command without where its words lie in memory
 abbrev pub command : Cmd → Command
 command (Solve w) = solve (solve_words w)
 command (Check w) = check (check_words w)
+command (Gen w) = gen (gen_words w)
+command (Trial w) = trial (trial_words w)

@@ -1,5 +1,5 @@
 -- The words of the command line, after the program's name, and the command that they mean.
-use Rattle.std.specs.Prelude.{ℕ, Bool, true, false, ◌==◌, List, [], ◌∷◌, codes, Option, Some, None, if◌then◌else◌}
+use Rattle.std.specs.Prelude.{ℕ, ◌-◌, Bool, true, false, ◌==◌, List, [], ◌∷◌, codes, Option, Some, None, if◌then◌else◌}
 use Rattle.std.specs.Str.{bytes_eq}
 use Rattle.clap.specs.Walk.{Row, Rule, Text, first_of, is_empty}
 use Rattle.clap.specs.Simple.{App, new_app, new_rule, on_top, subcommand_of, with_rule, with_subcommand}
@@ -30,9 +30,24 @@ solve_app = with_rule (with_rule (with_rule (with_rule (with_rule (new_app (code
 abbrev pub check_app : App
 check_app = with_rule (with_rule (new_app (codes "check")) (place (codes "FILE"))) (place (codes "LOG"))
 
--- one of them
+-- a command with `SEED N M T` after it
+abbrev pub draw_app : App → App
+draw_app app = with_rule (with_rule (with_rule (with_rule app (place (codes "SEED"))) (place (codes "N"))) (place (codes "M"))) (place (codes "T"))
+
+-- `gen SEED N M T [--prizes]`
+abbrev pub gen_app : App
+gen_app = with_rule (draw_app (new_app (codes "gen"))) (flag (codes "prizes"))
+
+-- `trial SEED N M T [--workers W]`
+abbrev pub trial_app : App
+trial_app = with_rule (draw_app (new_app (codes "trial"))) (option (codes "workers"))
+
+-- the four commands, of which one stands
+abbrev pub no_command : App
+no_command = on_top (λ s. record s { no_binary_name = true }) (new_app (codes "steiner"))
+
 abbrev pub program : App
-program = with_subcommand (with_subcommand (on_top (λ s. record s { no_binary_name = true }) (new_app (codes "steiner"))) solve_app.top) check_app.top
+program = with_subcommand (with_subcommand (with_subcommand (with_subcommand no_command solve_app.top) check_app.top) gen_app.top) trial_app.top
 
 -- ---- what the words mean
 
@@ -49,9 +64,28 @@ pub record CheckWords : Type 0 where
   pub file : Text
   pub log_name : Text
 
+-- the numbers that say which instance is drawn: what the draws begin with, the vertices, the links and the chosen vertices
+pub record DrawWords : Type 0 where
+  pub seed : ℕ
+  pub n : ℕ
+  pub m : ℕ
+  pub t : ℕ
+
+-- an instance to be drawn, and whether the chosen vertices pay and aren't required
+pub record GenWords : Type 0 where
+  pub drawn : DrawWords
+  pub prizes : Bool
+
+-- an instance to be drawn and solved, by so many workers
+pub record TrialWords : Type 0 where
+  pub drawn : DrawWords
+  pub workers : ℕ
+
 pub data Command : Type 0 where
   solve : SolveWords → Command
   check : CheckWords → Command
+  gen : GenWords → Command
+  trial : TrialWords → Command
 
 -- a hyphen stands in front
 abbrev pub is_hyphened : Text → Bool
@@ -72,6 +106,11 @@ optional_name_of (Some text) = if is_hyphened text then None else Some (Some tex
 abbrev pub number_of : ℕ → ℕ → ℕ → Option Text → Option ℕ
 number_of missing low high None = Some missing
 number_of missing low high (Some text) = number low high text
+
+-- a number from low to high that has to be there
+abbrev pub needed_number_of : ℕ → ℕ → Option Text → Option ℕ
+needed_number_of low high None = None
+needed_number_of low high (Some text) = number low high text
 
 -- whether a flag was set
 abbrev pub is_set : Option Text → Bool
@@ -94,9 +133,35 @@ check_of rows = do
   log ← name_of (first_of (codes "LOG") rows)
   Some (record { file = file; log_name = log })
 
+-- which instance is drawn: a connected one takes n - 1 links at least
+unfoldable pub draw_of : List Row → Option DrawWords
+draw_of rows = do
+  seed ← needed_number_of 1 2147483646 (first_of (codes "SEED") rows)
+  n ← needed_number_of 1 1000000 (first_of (codes "N") rows)
+  m ← needed_number_of (n - 1) 4000000 (first_of (codes "M") rows)
+  t ← needed_number_of 1 n (first_of (codes "T") rows)
+  Some (record { seed = seed; n = n; m = m; t = t })
+
+-- what the words after `gen` mean
+unfoldable pub gen_of : List Row → Option GenWords
+gen_of rows = do
+  drawn ← draw_of rows
+  Some (record { drawn = drawn; prizes = is_set (first_of (codes "prizes") rows) })
+
+-- what the words after `trial` mean
+unfoldable pub trial_of : List Row → Option TrialWords
+trial_of rows = do
+  drawn ← draw_of rows
+  workers ← number_of 1 1 64 (first_of (codes "workers") rows)
+  Some (record { drawn = drawn; workers = workers })
+
 -- what a subcommand with these arguments means
 abbrev pub meant : Text × List Row → Option Command
-meant (name, rows) = if bytes_eq name (codes "solve") then (solve_of rows >>= λ words. Some (solve words)) else (if bytes_eq name (codes "check") then (check_of rows >>= λ words. Some (check words)) else None)
+meant (name, rows) =
+    if bytes_eq name (codes "solve") then (solve_of rows >>= λ words. Some (solve words)) else (
+    if bytes_eq name (codes "check") then (check_of rows >>= λ words. Some (check words)) else (
+    if bytes_eq name (codes "gen") then (gen_of rows >>= λ words. Some (gen words)) else (
+    if bytes_eq name (codes "trial") then (trial_of rows >>= λ words. Some (trial words)) else None)))
 
 -- what the words mean: clap takes them for the program, and the names and numbers are in form
 unfoldable pub command_of : List Text → Option Command

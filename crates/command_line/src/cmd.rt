@@ -1,8 +1,12 @@
+ghost use Rattle.std.specs.Prelude.{◌+◌, ◌≤◌};
+
 /// A command, with its words.
 #[derive(Clone, Copy, Debug, PartialEq, Eq)]
 pub enum Cmd<'a> {
     Solve(SolveWords<'a>),
     Check(CheckWords<'a>),
+    Gen(GenWords),
+    Trial(TrialWords),
 }
 
 /// `solve FILE [--workers W] [--nodes N] [--log NAME] [--plain]`.
@@ -27,4 +31,43 @@ pub struct CheckWords<'a> {
     pub file: &'a str,
     /// The name of the log.
     pub log_name: &'a str,
+}
+
+/// `SEED N M T`, the numbers that say which instance is drawn.
+#[derive(Clone, Copy, Debug, PartialEq, Eq)]
+pub struct DrawWords {
+    /// What the draws begin with, 1 to 2147483646.
+    pub seed: u32,
+    /// How many vertices there are, 1 to 1,000,000.
+    pub n: u32,
+    /// How many links are drawn, n - 1 to 4,000,000.
+    pub m: u32,
+    /// How many vertices are chosen, 1 to n.
+    pub t: u32,
+    ghost some_seed: { 1 ≤ seed },
+    ghost small_seed: { seed ≤ 2147483646 },
+    ghost some_vertex: { 1 ≤ n },
+    ghost few_vertices: { n ≤ 1000000 },
+    ghost enough_links: { n ≤ m + 1 },
+    ghost few_links: { m ≤ 4000000 },
+    ghost some_chosen: { 1 ≤ t },
+    ghost chosen_are_vertices: { t ≤ n },
+}
+
+/// `gen SEED N M T [--prizes]`.
+#[derive(Clone, Copy, Debug, PartialEq, Eq)]
+pub struct GenWords {
+    /// Which instance is drawn.
+    pub drawn: DrawWords,
+    /// Whether the chosen vertices pay where they are left out, and aren't required.
+    pub prizes: bool,
+}
+
+/// `trial SEED N M T [--workers W]`.
+#[derive(Clone, Copy, Debug, PartialEq, Eq)]
+pub struct TrialWords {
+    /// Which instance is drawn.
+    pub drawn: DrawWords,
+    /// How many workers search, 1 to 64; 1 where the words don't say.
+    pub workers: u32,
 }

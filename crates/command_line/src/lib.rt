@@ -13,5 +13,5 @@ mod program;
 #[cfg(test)]
 mod tests;
 
-pub use cmd::{CheckWords, Cmd, SolveWords};
+pub use cmd::{CheckWords, Cmd, DrawWords, GenWords, SolveWords, TrialWords};
 pub use parse::{WordFault, read_words};

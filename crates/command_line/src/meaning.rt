@@ -1,16 +1,23 @@
-ghost use Rattle.std.specs.Prelude.{◌≡◌, ◌^◌, ◌<◌, ◌≤◌, IfSome, option_map, option_copied};
+ghost use Rattle.std.specs.Prelude.{◌≡◌, ◌-◌, ◌^◌, ◌<◌, ◌≤◌, IfSome, option_map, option_copied};
 ghost use Rattle.clap.specs.Matches.{found_of};
 ghost use Rattle.clap.specs.Walk.{first_of, rows_of};
-ghost use Rattle.command_line.specs.Seen.{solve_words, check_words};
-ghost use Rattle.command_line.specs.Words.{solve_of, check_of, name_of, optional_name_of, number_of, is_set, is_hyphened};
+ghost use Rattle.command_line.specs.Seen.{solve_words, check_words, draw_words, gen_words, trial_words};
+ghost use Rattle.command_line.specs.Words.{solve_of, check_of, draw_of, gen_of, trial_of};
+ghost use Rattle.command_line.specs.Words.{name_of, optional_name_of, number_of, needed_number_of, is_set, is_hyphened};
 
-use crate::{CheckWords, SolveWords};
+use crate::{CheckWords, DrawWords, GenWords, SolveWords, TrialWords};
 use clap::ArgMatches;
 use plain_text::number;
 
 const MAX_WORKERS: u64 = 64;
 
 const MAX_NODES: u64 = 1_000_000;
+
+const MAX_SEED: u64 = 2_147_483_646;
+
+const MAX_VERTICES: u64 = 1_000_000;
+
+const MAX_LINKS: u64 = 4_000_000;
 
 // Whether a hyphen stands in front.
 fn is_hyphened(word: &str) -> bool
@@ -53,6 +60,14 @@ fn number_or(word: Option<&str>, missing: u64, low: u64, high: u64) -> Option<u6
         None => Some(missing),
         Some(text) => number(text.as_bytes(), low, high),
     }
+}
+
+// The number that a word gives, which has to be there.
+fn needed_number(word: Option<&str>, low: u64, high: u64) -> Option<u64>
+    ensures value { result ≡ needed_number_of low high (option_copied word.entry) }
+    ensures in_range { IfSome result (λ n. (low ≤ n) × (n ≤ high)) }
+{
+    number(word?.as_bytes(), low, high)
 }
 
 // Whether a flag was set.
@@ -98,4 +113,46 @@ pub fn check_words<'a>(matches: &ArgMatches<'a>) -> Option<CheckWords<'a>>
     let file = name(word(matches, "FILE"))?;
     let log_name = name(word(matches, "LOG"))?;
     Some(CheckWords { file, log_name })
+}
+
+// Which instance the words say.
+#[tactic(auto, unfolding(crate::specs::Words::draw_of))]
+fn draw_words(matches: &ArgMatches<'_>) -> Option<DrawWords>
+    ensures { option_map draw_words result ≡ draw_of (rows_of (found_of matches.now)) }
+{
+    let seed = needed_number(word(matches, "SEED"), 1, MAX_SEED)?;
+    let n = needed_number(word(matches, "N"), 1, MAX_VERTICES)?;
+    let m = needed_number(word(matches, "M"), n - 1, MAX_LINKS)?;
+    let t = needed_number(word(matches, "T"), 1, n)?;
+    Some(DrawWords {
+        seed: seed as u32,
+        n: n as u32,
+        m: m as u32,
+        t: t as u32,
+    })
+}
+
+// What the words after `gen` mean.
+#[tactic(auto, unfolding(crate::specs::Words::gen_of))]
+pub fn gen_words(matches: &ArgMatches<'_>) -> Option<GenWords>
+    ensures { option_map gen_words result ≡ gen_of (rows_of (found_of matches.now)) }
+{
+    let drawn = draw_words(matches)?;
+    Some(GenWords {
+        drawn,
+        prizes: is_set(word(matches, "prizes")),
+    })
+}
+
+// What the words after `trial` mean.
+#[tactic(auto, unfolding(crate::specs::Words::trial_of))]
+pub fn trial_words(matches: &ArgMatches<'_>) -> Option<TrialWords>
+    ensures { option_map trial_words result ≡ trial_of (rows_of (found_of matches.now)) }
+{
+    let drawn = draw_words(matches)?;
+    let workers = number_or(word(matches, "workers"), 1, 1, MAX_WORKERS)?;
+    Some(TrialWords {
+        drawn,
+        workers: workers as u32,
+    })
 }

@@ -7,7 +7,7 @@ ghost use Rattle.command_line.specs.Seen.{command};
 ghost use Rattle.command_line.specs.Words.{program, command_of, meant};
 
 use crate::Cmd;
-use crate::meaning::{check_words, solve_words};
+use crate::meaning::{check_words, gen_words, solve_words, trial_words};
 use crate::program::program;
 use clap::error::ErrorKind;
 use clap::{ArgMatches, Error};
@@ -74,6 +74,8 @@ fn meant<'a>(matches: &ArgMatches<'a>) -> Option<Cmd<'a>>
     match name {
         "solve" => Some(Cmd::Solve(solve_words(inner)?)),
         "check" => Some(Cmd::Check(check_words(inner)?)),
+        "gen" => Some(Cmd::Gen(gen_words(inner)?)),
+        "trial" => Some(Cmd::Trial(trial_words(inner)?)),
         _ => None,
     }
 }

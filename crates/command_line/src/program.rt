@@ -1,7 +1,7 @@
 ghost use Rattle.std.specs.Prelude.{◌≡◌, false, IfOk};
-ghost use Rattle.clap.specs.Words.{app_of, rule_of, with_rule};
+ghost use Rattle.clap.specs.Words.{app_of, rule_of, with_rule, with_subcommand};
 ghost use Rattle.clap.specs.declared.builder.command.Command.TheViews.{out-Command};
-ghost use Rattle.command_line.specs.Words.{program, solve_app, check_app, place, option, flag};
+ghost use Rattle.command_line.specs.Words.{program, solve_app, check_app, gen_app, trial_app, draw_app, place, option, flag};
 
 use clap::{Arg, ArgAction, Command};
 use std::alloc::{AllocError, Global};
@@ -65,12 +65,55 @@ fn check<'a>(alloc: Global) -> Result<Command<'a>, AllocError>
     Ok(command)
 }
 
+// The command with `SEED N M T` after it
+fn draw<'a>(command: Command<'a>, alloc: Global) -> Result<Command<'a>, AllocError>
+    ensures app { IfOk result (λ c. app_of c ≡ draw_app (app_of command.entry)) }
+    ensures local { IfOk result (λ c. (out-Command c).has_globals ≡ (out-Command command.entry).has_globals) }
+{
+    let command = with(command, place(alloc, "SEED"))?;
+    let command = with(command, place(alloc, "N"))?;
+    let command = with(command, place(alloc, "M"))?;
+    let command = with(command, place(alloc, "T"))?;
+    Ok(command)
+}
+
+// `gen SEED N M T [--prizes]`
+fn generate<'a>(alloc: Global) -> Result<Command<'a>, AllocError>
+    ensures app { IfOk result (λ c. app_of c ≡ gen_app) }
+    ensures local { IfOk result (λ c. (out-Command c).has_globals ≡ false) }
+{
+    let command = draw(Command::new(alloc, "gen"), alloc)?;
+    let command = with(command, flag(alloc, "prizes"))?;
+    Ok(command)
+}
+
+// `trial SEED N M T [--workers W]`
+fn trial<'a>(alloc: Global) -> Result<Command<'a>, AllocError>
+    ensures app { IfOk result (λ c. app_of c ≡ trial_app) }
+    ensures local { IfOk result (λ c. (out-Command c).has_globals ≡ false) }
+{
+    let command = draw(Command::new(alloc, "trial"), alloc)?;
+    let command = with(command, option(alloc, "workers"))?;
+    Ok(command)
+}
+
+// The command with one subcommand more.
+fn with_command<'a>(command: Command<'a>, inner: Command<'a>) -> Result<Command<'a>, AllocError>
+    requires { (out-Command inner).has_globals ≡ false }
+    ensures { IfOk result (λ c. app_of c ≡ with_subcommand (app_of command.entry) (app_of inner.entry).top) }
+{
+    let command = command.subcommand(inner)?;
+    Ok(command)
+}
+
 // All that may stand after the program's name.
 pub fn program<'a>(alloc: Global) -> Result<Command<'a>, AllocError>
     ensures app { IfOk result (λ c. app_of c ≡ program) }
 {
     let command = Command::new(alloc, "steiner").no_binary_name(true);
-    let command = command.subcommand(solve(alloc)?)?;
-    let command = command.subcommand(check(alloc)?)?;
+    let command = with_command(command, solve(alloc)?)?;
+    let command = with_command(command, check(alloc)?)?;
+    let command = with_command(command, generate(alloc)?)?;
+    let command = with_command(command, trial(alloc)?)?;
     Ok(command)
 }

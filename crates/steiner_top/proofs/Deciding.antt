@@ -3,7 +3,7 @@ use Rattle.cert_checker.specs.Checking.{IsAnswer}
 use Rattle.cert_checker.specs.Verdict.{verdict_of}
 use Rattle.log_format.specs.Text.{log_text}
 use Rattle.log_format.specs.declared.log.Log.{Log}
-use Rattle.std.proofs.Common.{◌≡◌, ◌≢◌, ◌⊎◌, ◌↔◌, inl, inr, ℕ, ◌^◌, ◌<◌, ◌≤◌, List, length, Result, Ok, Err, Option, Some, None, refl, sym, subst, ap, ◌∙◌, arith, cond, eqb}
+use Rattle.std.proofs.Common.{◌≡◌, ◌≢◌, ◌⊎◌, ◌↔◌, inl, inr, ℕ, ◌^◌, ◌<◌, ◌≤◌, List, [], length, Result, Ok, Err, Option, Some, None, refl, sym, subst, ap, ◌∙◌, arith, cond, eqb}
 use Rattle.std.specs.Prelude.{IfSome}
 use Rattle.std.specs.Io.KnownBytes.{append_known}
 use Rattle.st_edge.specs.Faults.{Rose}
@@ -14,16 +14,17 @@ use Rattle.cert_checker.specs.declared.fault.CheckFault.{CheckFault}
 use Rattle.cert_checker.specs.declared.fault.CheckFault.TheVariants as fault
 use Rattle.cert_checker.specs.declared.verdict.Verdict.{Verdict}
 use Rattle.cert_checker.specs.declared.verdict.Verdict.TheVariants as verdict
-use Rattle.command_line.specs.Words.{Command, SolveWords, CheckWords, solve, check}
+use Rattle.command_line.specs.Words.{Command, SolveWords, CheckWords, GenWords, TrialWords, solve, check, gen, trial}
 use Rattle.steiner_top.specs.declared.outcome.Outcome.{Outcome}
 use Rattle.steiner_top.specs.declared.outcome.Outcome.TheVariants.{Found, NoTree}
 use Rattle.steiner_top.specs.declared.status.Status.{Status}
 use Rattle.steiner_top.specs.declared.status.Status.TheVariants.{Optimal, Usage, Budget, Infeasible, RefusedFile, RefusedLog, ReadFault, WriteFault, NoMemory, TooLong}
 use Rattle.steiner_top.specs.Outcome.{IsFound}
 use Rattle.steiner_top.specs.Answer.{IsSolution, SolveAnswer, CheckAnswer, IsLineOf}
-use Rattle.steiner_top.specs.Causes.{Texts, EndsWith, IsLoaded, IsSaved}
+use Rattle.steiner_top.specs.Causes.{Texts, EndsWith, IsLoaded, IsSaved, IsStopped}
+use Rattle.steiner_top.specs.Drawn.{IsDrawn, IsTried}
 use Rattle.steiner_top.specs.Checked.{ChecksExactly, ChecksBothWays}
-use Rattle.steiner_top.specs.Headline.{Headline, NothingFails, SolvesFile, ChecksLog}
+use Rattle.steiner_top.specs.Headline.{Headline, NothingFails, SolvesFile, ChecksLog, Sends}
 use Rattle.steiner_top.specs.Output.{status_of_verdict}
 
 -- a check accepts the certificate of a solution
@@ -216,10 +217,42 @@ checks_exactly w stp log old status outcome taken now sent told told' read memor
   ]
 ]
 
+-- where no text is loaded, want of memory alone leaves a run without an answer
+none_stops : (texts : Texts) (status : Status) → status ≢ NoMemory → IsStopped [] texts status → ⊥
+none_stops texts NoMemory memory h = memory refl
+none_stops texts ReadFault memory h = h
+none_stops texts TooLong memory h = h
+none_stops texts Optimal memory h = h
+none_stops texts Usage memory h = h
+none_stops texts Budget memory h = h
+none_stops texts Infeasible memory h = h
+none_stops texts RefusedFile memory h = h
+none_stops texts RefusedLog memory h = h
+none_stops texts WriteFault memory h = h
+
+-- so what is drawn is sent
+sends_drawn : (w : GenWords) (texts : Texts) (status : Status) (outcome : Option Outcome) (taken now : Option (List ℕ)) (sent : List ℕ)
+    → status ≢ NoMemory → EndsWith (Some (gen w)) texts status outcome sent → now ≡ append_known taken sent → Sends (IsDrawn w) status outcome taken now
+sends_drawn w texts status outcome taken now sent memory (inl h) took = (sent, h, took)
+sends_drawn w texts status outcome taken now sent memory (inr h) took = absurd (none_stops texts status memory h.0)
+
+-- and what is tried
+sends_tried : (w : TrialWords) (texts : Texts) (status : Status) (outcome : Option Outcome) (taken now : Option (List ℕ)) (sent : List ℕ)
+    → status ≢ NoMemory → EndsWith (Some (trial w)) texts status outcome sent → now ≡ append_known taken sent → Sends (IsTried w) status outcome taken now
+sends_tried w texts status outcome taken now sent memory (inl h) took = (sent, h, took)
+sends_tried w texts status outcome taken now sent memory (inr h) took = absurd (none_stops texts status memory h.0)
+
 -- words that are a command don't end with the usage line
 no_usage : (command : Command) (texts : Texts) (outcome : Option Outcome) (sent : List ℕ) → EndsWith (Some command) texts Usage outcome sent → ⊥
 no_usage (solve w) texts outcome sent (inl h) = absurd h.2
 no_usage (check w) texts outcome sent (inl h) = (line_ends h.4.answer Usage sent h.4.line).1 refl
+no_usage (gen w) texts outcome sent (inl h) = let bad : Usage ≡ Optimal = h.ends in absurd cc
+no_usage (trial w) texts outcome sent (inl h) = elim h.ends [
+  | inl e ↦ let bad : Usage ≡ Optimal = e.0 in absurd cc
+  | inr e ↦ let bad : Usage ≡ Budget = e.0 in absurd cc
+]
+no_usage (gen w) texts outcome sent (inr h) = absurd h.0
+no_usage (trial w) texts outcome sent (inr h) = absurd h.0
 no_usage (solve w) texts outcome sent (inr h) = absurd h.0
 no_usage (check w) texts outcome sent (inr h) = absurd h.0
 
@@ -245,6 +278,8 @@ decides command old new reads reads_now saves saves_now writes writes_now status
   usage = λ fine. let e = ended fine in usage_ends command old status outcome e.0 fine.memory e.1;
   solves = λ w bytes is told fine. let e = ended fine in solves_file w bytes old new status outcome taken now e.0 (law bytes) told (λ r. fine.loaded (read r)) fine.memory (subst (λ c. EndsWith c old status outcome e.0) is e.1) e.2 (subst (λ c. IsSaved c new outcome) is saved);
   checks = λ w stp log is told told' fine. let e = ended fine in checks_log w stp log old status outcome taken now e.0 told told' (λ r. fine.loaded (read r)) fine.memory (subst (λ c. EndsWith c old status outcome e.0) is e.1) e.2;
+  draws = λ w is fine. let e = ended fine in sends_drawn w old status outcome taken now e.0 fine.memory (subst (λ c. EndsWith c old status outcome e.0) is e.1) e.2;
+  tries = λ w is fine. let e = ended fine in sends_tried w old status outcome taken now e.0 fine.memory (subst (λ c. EndsWith c old status outcome e.0) is e.1) e.2;
 } where
   no_write : NothingFails reads reads_now saves saves_now writes writes_now status → status ≢ WriteFault
   no_write fine failed = elim (write failed) [

@@ -3,3 +3,4 @@ mod Reasons
 mod Certifying
 mod Deciding
 mod Starting
+mod Trying

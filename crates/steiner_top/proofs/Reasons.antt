@@ -21,7 +21,7 @@ use Rattle.steiner_top.specs.declared.status.Status.{Status}
 use Rattle.steiner_top.specs.declared.status.Status.TheVariants.{Optimal, Usage, Budget, Infeasible, RefusedFile, RefusedLog, ReadFault, WriteFault, NoMemory as Exhausted, TooLong}
 use Rattle.steiner_top.specs.Outcome.{Solves}
 use Rattle.st_edge.specs.Sink.{TakesFront}
-use Rattle.command_line.specs.Words.{Command, solve, check}
+use Rattle.command_line.specs.Words.{Command, solve, check, gen, trial}
 use Rattle.steiner_top.specs.Output.{line_of}
 use Rattle.steiner_top.specs.Causes.{Texts, IsAnswered, IsCutShort, IsStopped, IsUnanswered}
 
@@ -106,6 +106,11 @@ write_or_not TooLong = inr (λ e. absurd cc)
 no_write : (command : Option Command) (texts : Texts) (outcome : Option Outcome) (sent : List ℕ) → IsAnswered command texts WriteFault outcome sent → ⊥
 no_write None texts outcome sent h = h
 no_write (Some (solve w)) texts outcome sent h = h.2
+no_write (Some (gen w)) texts outcome sent h = let bad : WriteFault ≡ Optimal = h.ends in absurd cc
+no_write (Some (trial w)) texts outcome sent h = elim h.ends [
+  | inl e ↦ let bad : WriteFault ≡ Optimal = e.0 in absurd cc
+  | inr e ↦ let bad : WriteFault ≡ Budget = e.0 in absurd cc
+]
 no_write (Some (check w)) texts outcome sent h = by_answer h.4.answer h.4.line
   where
     by_answer : (answer : Result Verdict CheckFault) → IsLineOf answer WriteFault sent → ⊥
@@ -122,6 +127,13 @@ lost_outcome command texts status outcome given sent answered lost = elim (write
   | inl failed ↦ absurd (no_write command texts outcome sent (subst (λ s. IsAnswered command texts s outcome sent) failed answered))
   | inr other ↦ lost other
 ]
+
+-- an answer that couldn't be handed out was cut short
+pub answer_cut_short : (command : Option Command) (texts : Texts) (taken now : Option (List ℕ)) (status : Status) (outcome : Option Outcome) (sent bytes : List ℕ)
+    → IsAnswered command texts status outcome sent → bytes ≡ sent → (status ≢ WriteFault → TakesFront taken now bytes) → IsCutShort command texts taken now
+answer_cut_short command texts taken now status outcome sent bytes answered same front =
+    let other : status ≢ WriteFault = λ failed. no_write command texts outcome sent (subst (λ s. IsAnswered command texts s outcome sent) failed answered) in
+    (status, outcome, sent, inl answered, inr (subst (λ b. TakesFront taken now b) same (front other)))
 
 -- a run without an answer that ends with a write fault: its line was cut short, or its log wasn't saved and nothing was sent
 pub stop_cut_short : (command : Option Command) (texts : Texts) (taken now : Option (List ℕ)) (status : Status) (bytes : List ℕ)

@@ -9,11 +9,12 @@ use Rattle.st_edge.specs.Sink.{TakesFront}
 use Rattle.log_format.specs.Text.{log_text}
 use Rattle.command_line.specs.declared.parse.WordFault.{WordFault}
 use Rattle.command_line.specs.declared.parse.WordFault.TheVariants as word
-use Rattle.command_line.specs.Words.{Command, SolveWords, CheckWords, solve, check}
+use Rattle.command_line.specs.Words.{Command, SolveWords, CheckWords, solve, check, gen, trial}
 use Rattle.steiner_top.specs.declared.outcome.Outcome.{Outcome}
 use Rattle.steiner_top.specs.declared.status.Status.{Status}
 use Rattle.steiner_top.specs.declared.status.Status.TheVariants.{Usage, ReadFault, WriteFault, NoMemory, TooLong}
 use Rattle.steiner_top.specs.Answer.{SolveAnswer, CheckAnswer}
+use Rattle.steiner_top.specs.Drawn.{IsDrawn, IsTried}
 use Rattle.steiner_top.specs.Outcome.{certificate_of}
 use Rattle.steiner_top.specs.Output.{line_of}
 
@@ -44,9 +45,14 @@ abbrev pub IsTooLong : List (List ℕ) → Texts → Type 0
 IsTooLong [] texts = ⊥
 IsTooLong (name ∷ names) texts = IfSome (texts name) (λ text. 2 ^ 34 < length text) ⊎ IsTooLong names texts
 
+-- some name is there
+abbrev pub IsNamed : List (List ℕ) → Type 0
+IsNamed [] = ⊥
+IsNamed (name ∷ names) = Unit {0}
+
 -- why there is no answer to the texts under these names: a load or memory failed, or one of them is too long
 abbrev pub IsStopped : List (List ℕ) → Texts → Status → Type 0
-IsStopped names texts ReadFault = Unit {0}
+IsStopped names texts ReadFault = IsNamed names
 IsStopped names texts NoMemory = Unit {0}
 IsStopped names texts TooLong = IsTooLong names texts
 IsStopped names texts _ = ⊥
@@ -64,11 +70,15 @@ abbrev pub IsAnswered : Option Command → Texts → Status → Option Outcome �
 IsAnswered None texts status outcome sent = ⊥
 IsAnswered (Some (solve w)) texts status outcome sent = IsSolveAnswered w texts status outcome sent
 IsAnswered (Some (check w)) texts status outcome sent = IsCheckAnswered w texts status outcome sent
+IsAnswered (Some (gen w)) texts status outcome sent = IsDrawn w status outcome sent
+IsAnswered (Some (trial w)) texts status outcome sent = IsTried w status outcome sent
 
 -- the names of the texts that the words ask for
 abbrev pub names_of : Command → List (List ℕ)
 names_of (solve w) = w.file ∷ []
 names_of (check w) = w.file ∷ w.log_name ∷ []
+names_of (gen w) = []
+names_of (trial w) = []
 
 -- the names of the texts that are loaded, in this order
 abbrev pub loads_of : Option Command → List (List ℕ)
@@ -89,6 +99,8 @@ abbrev pub log_name_of : Option Command → Option (List ℕ)
 log_name_of None = None
 log_name_of (Some (solve w)) = w.log_name
 log_name_of (Some (check w)) = None
+log_name_of (Some (gen w)) = None
+log_name_of (Some (trial w)) = None
 
 -- the certificate's text stands under the log's name
 abbrev pub IsSaved : Option Command → Texts → Option Outcome → Type 0

@@ -13,12 +13,13 @@ use Rattle.dimacs_writer.specs.Solution.{IsSolutionText}
 use Rattle.cert_checker.specs.declared.verdict.Verdict.{Verdict}
 use Rattle.cert_checker.specs.declared.verdict.Verdict.TheVariants as verdict
 use Rattle.cert_checker.specs.Checking.{IsAnswer}
-use Rattle.command_line.specs.Words.{Command, SolveWords, CheckWords, solve, check}
+use Rattle.command_line.specs.Words.{Command, SolveWords, CheckWords, GenWords, TrialWords, solve, check, gen, trial}
 use Rattle.steiner_top.specs.declared.outcome.Outcome.{Outcome}
 use Rattle.steiner_top.specs.declared.outcome.Outcome.TheVariants.{Found}
 use Rattle.steiner_top.specs.declared.status.Status.{Status}
 use Rattle.steiner_top.specs.declared.status.Status.TheVariants.{Optimal, Usage, Budget, Infeasible, RefusedFile, NoMemory, TooLong}
 use Rattle.steiner_top.specs.Causes.{Texts}
+use Rattle.steiner_top.specs.Drawn.{IsDrawn, IsTried}
 use Rattle.steiner_top.specs.Outcome.{IsFound}
 use Rattle.steiner_top.specs.Output.{status_of_verdict, verdict_line}
 
@@ -58,8 +59,14 @@ pub record ChecksLog (stp log : List ℕ) (status : Status) (taken now : Option 
   pub too_long : (status ≡ TooLong) ↔ ((2 ^ 34 < length stp) ⊎ (2 ^ 34 < length log))
   pub verdict : (v : Verdict) → length stp ≤ 2 ^ 34 → length log ≤ 2 ^ 34 → IsAnswer stp log (Ok v) → (status ≡ status_of_verdict v) × (now ≡ append_known taken (verdict_line v))
 
+-- the answer was sent
+abbrev pub Sends : (Status → Option Outcome → List ℕ → Type 0) → Status → Option Outcome → Option (List ℕ) → Option (List ℕ) → Type 0
+Sends IsAnswer status outcome taken now = (sent : List ℕ) × IsAnswer status outcome sent × (now ≡ append_known taken sent)
+
 -- the words and the texts that they name decide, where nothing fails
 pub record Headline (command : Option Command) (old new : Texts) (reads reads_now saves saves_now writes writes_now : ℕ) (status : Status) (outcome : Option Outcome) (taken now : Option (List ℕ)) : Type 0 where
   pub usage : NothingFails reads reads_now saves saves_now writes writes_now status → (status ≡ Usage) ↔ (command ≡ None)
   pub solves : (w : SolveWords) (bytes : List ℕ) → command ≡ Some (solve w) → old w.file ≡ Some bytes → NothingFails reads reads_now saves saves_now writes writes_now status → SolvesFile w bytes status outcome new taken now
   pub checks : (w : CheckWords) (stp log : List ℕ) → command ≡ Some (check w) → old w.file ≡ Some stp → old w.log_name ≡ Some log → NothingFails reads reads_now saves saves_now writes writes_now status → ChecksLog stp log status taken now
+  pub draws : (w : GenWords) → command ≡ Some (gen w) → NothingFails reads reads_now saves saves_now writes writes_now status → Sends (IsDrawn w) status outcome taken now
+  pub tries : (w : TrialWords) → command ≡ Some (trial w) → NothingFails reads reads_now saves saves_now writes writes_now status → Sends (IsTried w) status outcome taken now

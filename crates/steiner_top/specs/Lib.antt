@@ -1,6 +1,7 @@
 pub mod Output
 pub mod Outcome
 pub mod Answer
+pub mod Drawn
 pub mod Start
 pub mod Causes
 pub mod Checked

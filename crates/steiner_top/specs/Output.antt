@@ -5,6 +5,7 @@ use Rattle.stp_reader.specs.declared.reason.Reason.{Reason}
 use Rattle.stp_reader.specs.Reason as reason
 use Rattle.log_format.specs.declared.kind.Kind.{Kind}
 use Rattle.log_format.specs.Kind as kind
+use Rattle.dimacs_writer.specs.Solution.{remark}
 use Rattle.cert_checker.specs.declared.verdict.Verdict.{Verdict}
 use Rattle.cert_checker.specs.declared.verdict.Verdict.TheVariants as verdict
 use Rattle.steiner_top.specs.declared.status.Status.{Status}
@@ -44,6 +45,10 @@ abbrev pub verdict_line : Verdict → List ℕ
 verdict_line (verdict.Optimal primal) = codes "optimal " ++ (decimal primal ++ codes "\n")
 verdict_line (verdict.Bound dual primal) = codes "bound " ++ (decimal dual ++ (codes " " ++ (decimal primal ++ codes "\n")))
 verdict_line verdict.NoTree = codes "no tree\n"
+
+-- the cost of a tree that was found, the bound, and whether they are equal
+abbrev pub summary : ℕ → ℕ → List ℕ
+summary primal dual = codes "primal " ++ (decimal primal ++ (codes "\ndual " ++ (decimal dual ++ (codes "\nverdict " ++ (remark dual primal ++ codes "\n")))))
 
 -- the status with which a verdict ends a run
 abbrev pub status_of_verdict : Verdict → Status

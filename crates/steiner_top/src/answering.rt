@@ -10,7 +10,9 @@ ghost use Rattle.steiner_top.specs.declared.status.Status.TheVariants.{WriteFaul
 use crate::Status;
 use crate::answer::Answer;
 use crate::check_command::check_command;
+use crate::gen_command::gen_command;
 use crate::solve_command::solve_command;
+use crate::trial_command::trial_command;
 use command_line::{Cmd, read_words};
 use split_search::Gate;
 use st_edge::Shelf;
@@ -47,6 +49,8 @@ pub fn answer<F: Shelf, G: Gate>(
     match read_words(alloc, words) {
         Ok(Cmd::Solve(words)) => solve_command(alloc, &words, shelf, gate),
         Ok(Cmd::Check(words)) => check_command(alloc, &words, shelf),
+        Ok(Cmd::Gen(words)) => Ok(gen_command(alloc, &words)?),
+        Ok(Cmd::Trial(words)) => Ok(trial_command(alloc, &words, gate)?),
         Err(fault) => Err(Status::from(fault)),
     }
 }

@@ -8,6 +8,7 @@
 mod answer;
 mod answering;
 mod check_command;
+mod gen_command;
 mod lines;
 mod loading;
 mod outcome;
@@ -18,8 +19,11 @@ mod start;
 mod status;
 #[cfg(test)]
 mod tests;
+mod trial_command;
 
-pub use command_line::{CheckWords, Cmd, SolveWords, WordFault, read_words};
+pub use command_line::{
+    CheckWords, Cmd, DrawWords, GenWords, SolveWords, TrialWords, WordFault, read_words,
+};
 pub use outcome::{Outcome, SolveFault};
 pub use running::{Ended, run};
 pub use solving::solve_bytes;

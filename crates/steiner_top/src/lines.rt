@@ -1,5 +1,6 @@
 ghost use Rattle.std.specs.Prelude.{◌≡◌, IfOk, string_bytes};
-ghost use Rattle.steiner_top.specs.Output.{infeasible_line, refused_stp, refused_log, verdict_line};
+ghost use Rattle.dimacs_writer.specs.Solution.{remark};
+ghost use Rattle.steiner_top.specs.Output.{infeasible_line, refused_stp, refused_log, summary, verdict_line};
 
 use cert_checker::Verdict;
 use log_format::LogFault;
@@ -38,4 +39,19 @@ pub fn verdict(alloc: Global, verdict: Verdict) -> Result<String, AllocError>
         Verdict::Bound { dual, primal } => format!(in alloc; "bound {dual} {primal}\n"),
         Verdict::NoTree => String::from_str(alloc, "no tree\n"),
     }
+}
+
+// Whether a bound reaches the cost of a tree.
+fn remark(dual: u64, primal: u64) -> &'static str
+    ensures { result.now ≡ remark dual primal }
+{
+    if dual == primal { "optimal" } else { "budget" }
+}
+
+/// The lines of a tree's cost, of a bound, and of whether they are equal.
+pub fn summary(alloc: Global, primal: u64, dual: u64) -> Result<String, AllocError>
+    ensures { IfOk result (λ lines. string_bytes lines ≡ summary primal dual) }
+{
+    let verdict = remark(dual, primal);
+    format!(in alloc; "primal {primal}\ndual {dual}\nverdict {verdict}\n")
 }

@@ -19,7 +19,7 @@ use std::alloc::Global;
 #[derive(Debug, Drop)]
 pub struct Ended {
     pub status: Status,
-    /// What solving gave, where a file was solved and its answer was taken whole.
+    /// What solving gave, where a file or a drawn instance was solved and the answer was taken whole.
     pub outcome: Option<Outcome>,
 }
 
@@ -28,6 +28,8 @@ pub struct Ended {
 /// `solve FILE` loads the file from the shelf, reads it as an STP file and solves it within the
 /// budget of nodes, saves the log if the words ask for it, and then sends the solution to the sink.
 /// `check FILE LOG` loads both, and sends what may be concluded of the file from the log.
+/// `gen SEED N M T` draws an instance and sends its text. `trial SEED N M T` draws one and solves it within a budget of
+/// 1,000,000 nodes, and sends the cost of its tree and a bound; where they are equal the words say which cost that is.
 pub fn run<F: Shelf, K: Sink, G: Gate>(
     alloc: Global,
     words: &[String],

@@ -43,8 +43,8 @@ fn outcome_text(
     }
 }
 
-// The status of what solving a file gave.
-fn outcome_status(outcome: &Outcome) -> Status
+/// The status of what solving gave.
+pub fn outcome_status(outcome: &Outcome) -> Status
     ensures { result ≡ status_of_outcome outcome.now }
 {
     match outcome {

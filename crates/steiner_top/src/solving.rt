@@ -41,9 +41,21 @@ fn solve<G: Gate>(alloc: Global, stp: &[u8], nodes: u64, gate: &G) -> Result<Out
     ensures { Solves nodes stp.now result }
 {
     let instance = read_stp(alloc, stp)?;
-    let whole = Whole::of(alloc, instance)?;
-    let outcome = outcome_of(alloc, &whole, nodes, gate)?;
+    let outcome = solve_instance(alloc, instance, nodes, gate)?;
     Ok(outcome)
+}
+
+/// Solves an instance, expanding so many nodes at most.
+pub fn solve_instance<G: Gate>(
+    alloc: Global,
+    instance: Instance,
+    nodes: u64,
+    gate: &G,
+) -> Result<Outcome, AllocError>
+    ensures { IfOk result (IsOutcome nodes instance) }
+{
+    let whole = Whole::of(alloc, instance)?;
+    outcome_of(alloc, &whole, nodes, gate)
 }
 
 // Searches for a least tree, or says why there is none.

@@ -10,11 +10,11 @@ use std::alloc::AllocError;
 /// How a run ended.
 #[derive(Clone, Copy, Debug, PartialEq, Eq)]
 pub enum Status {
-    /// A best tree was sent, or a log shows that its tree is best.
+    /// A best tree was sent, or its cost, or a log shows that its tree is best; or a drawn instance was sent.
     Optimal,
     /// The words are no command.
     Usage,
-    /// A tree and a bound below its cost were sent, the whole budget being spent, or a log shows them.
+    /// A tree, or its cost, and a bound below it were sent, the whole budget being spent, or a log shows them.
     Budget,
     /// The file's instance has no tree, or a log shows that.
     Infeasible,

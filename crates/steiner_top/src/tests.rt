@@ -6,6 +6,7 @@ use std::test::Fail;
 
 mod checks;
 mod drawn;
+mod draws;
 mod faults;
 mod gates;
 mod lines;

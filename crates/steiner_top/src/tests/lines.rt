@@ -13,6 +13,11 @@ const NO_COMMANDS: &[&str] = &[
     "solve a.stp --workers 0",
     "check a.stp",
     "gen 1 3 1 2",
+    "gen 1 3 3 4",
+    "gen 0 3 3 2",
+    "gen 2147483647 3 3 2",
+    "trial 1 3 1 2",
+    "trial 1 3 3 4",
     "help",
     "--version",
 ];

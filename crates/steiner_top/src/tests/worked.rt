@@ -5,7 +5,7 @@ use std::process::Abort;
 use std::test::Fail;
 
 /// The vertices and the edges of a tree.
-type Shape = (&'static [u32], &'static [(u32, u32)]);
+pub type Shape = (&'static [u32], &'static [(u32, u32)]);
 
 /// Files, the cost of their best trees, and each of these.
 const BEST: &[(&str, u64, &[Shape])] = &[
@@ -74,7 +74,7 @@ const BEST: &[(&str, u64, &[Shape])] = &[
 ];
 
 /// The text of a solution of `a.stp` by one worker.
-fn solution_of(
+pub fn solution_of(
     alloc: Global,
     remark: &str,
     dual: u64,
