@@ -1,0 +1,3 @@
+pub mod Packings
+pub mod NoLighter
+pub mod InOrder

@@ -1,0 +1,30 @@
+-- Nodes of the search, and their halves.
+use Rattle.std.specs.Prelude.{ℕ, ◌≤◌, ◌==◌, not, filter}
+use Rattle.st_model.specs.Network.{Network}
+use Rattle.st_model.specs.Branch.{IsBranch, LeavesRequired, with_inside, with_outside}
+use Rattle.cut_packing.specs.declared.packing.Packing.{Packing}
+use Rattle.cut_packing.specs.Packing.{Fits, weight}
+use Rattle.branching.specs.declared.node.Node.{Node}
+
+-- a branch of the instance that leaves required vertices, and a packing that fits it
+pub record IsNode (I : Network) (N : Node) : Type 0 where
+  pub branch : IsBranch I N.branch
+  pub required : LeavesRequired I N.branch
+  pub fits : Fits I N.branch N.packing
+
+-- a node whose packing weighs no less than that of the other
+pub record IsNoLighter (I : Network) (N M : Node) : Type 0 where
+  pub node : IsNode I M
+  pub no_lighter : weight I N.branch N.packing ≤ weight I M.branch M.packing
+
+-- the packing without the cuts that name v
+abbrev pub without : Packing → ℕ → Packing
+without P v = record { root = P.root; cuts = filter (λ c. not (c.q == v)) P.cuts }
+
+-- the half with v inside, under this number: it keeps the packing
+abbrev pub inside_half : Node → ℕ → ℕ → Node
+inside_half N v id = record { id = id; branch = with_inside N.branch v; packing = N.packing }
+
+-- the half with v outside, under this number: it keeps the cuts that don't name v
+abbrev pub outside_half : Node → ℕ → ℕ → Node
+outside_half N v id = record { id = id; branch = with_outside N.branch v; packing = without N.packing v }
