@@ -1,20 +1,17 @@
 -- The sets of a branch are written in order, and are searched by halves.
-use Rattle.std.proofs.Common.{◌≡◌, ℕ, zero, suc, ◌<◌, ◌≤◌, Bool, true, false, cond, List, [], ◌∷◌, ◌⊎◌, inl, inr, length, get_or, Result, Ok, Err, refl, sym, subst, arith}
-use Rattle.std.specs.Prelude.{nat_lt, IsTrue, is_ok, MatchResult}
-use Rattle.std.specs.Ordering.{nat_cmp}
+use Rattle.std.proofs.Common.{◌≡◌, ℕ, zero, suc, ◌<◌, ◌≤◌, Bool, true, false, cond, List, [], ◌∷◌, ◌⊎◌, inl, inr, length, get_or, refl, arith}
+use Rattle.std.specs.Prelude.{nat_lt}
 use Rattle.std.specs.List.{AllByRecursion, prefix_len}
-use Rattle.std.specs.List.Sorted.{IsNonDecreasing, IsPartitionPoint, IsBinarySearchResult}
-use Rattle.std.proofs.lemmas.Bool.{both_ways, false_from_ne_true, cases_lt, cases_order}
+use Rattle.std.specs.List.Sorted.{IsNonDecreasing, IsPartitionPoint}
+use Rattle.std.proofs.lemmas.Bool.{both_ways, cases_order}
 use Rattle.std.proofs.lemmas.Bool.Decides.{nat_tests}
 use Rattle.std.proofs.lemmas.List.Sums.{prefix_len_passes, prefix_len_stops, prefix_len-le-length}
 use Rattle.std.proofs.lemmas.List.Sorted.{searched}
-use Rattle.st_model.specs.Lists.{has}
 use Rattle.st_model.specs.Branch.{with_vertex}
 use Rattle.cert_checker.specs.declared.turn.Turn.{Turn}
 use Rattle.cert_checker.specs.declared.turn.Turn.TheVariants.{Inside, Outside}
 use Rattle.cert_checker.specs.Path.{IsInOrder, branch_of}
 use Rattle.st_model.proofs.Branches.{all-with_vertex}
-use Rattle.st_model.proofs.Marked.{has_at, place_of}
 
 -- no number is above a later one
 abbrev Rises : List ℕ → Type 0
@@ -67,15 +64,3 @@ partition_is p xs r bound point = at (cases_order r (prefix_len p xs))
     at (inl same) = same
     at (inr (inl less)) = absurd (both_ways (p (get_or xs r 0)) (point.1 r 0 (omega arith) (omega (arith, prefix_len-le-length p xs))) (prefix_len_passes p xs r 0 less))
     at (inr (inr more)) = absurd (both_ways (p (get_or xs (prefix_len p xs) 0)) (prefix_len_stops p xs 0 (omega arith)) (point.0 (prefix_len p xs) 0 (omega arith) more))
-
--- a search by halves tells whether it is there
-pub search_has : (xs : List ℕ) (v : ℕ) (r : Result ℕ ℕ) → IsNonDecreasing xs → IsBinarySearchResult (λ y. nat_cmp y v) xs r → is_ok r ≡ has xs v
-search_has xs v r order found = at r (searched xs v r found (λ i j low below. order i j 0 low below))
-  where
-    at : (r : Result ℕ ℕ) → MatchResult r (λ i. (i < length xs) × (get_or xs i 0 ≡ v)) (λ i. (i ≤ length xs) × ((k : ℕ) → k < i → get_or xs k 0 < v) × ((k : ℕ) → i ≤ k → k < length xs → v < get_or xs k 0)) → is_ok r ≡ has xs v
-    at (Ok i) here = sym (subst (λ x. IsTrue (has xs x)) here.1 (has_at xs i 0 here.0))
-    at (Err i) here = sym (false_from_ne_true (has xs v) (λ there. let place = place_of xs v there in differs place.0 place.1 place.2 i here.1 here.2 (cases_lt place.0 i)))
-      where
-        differs : (k : ℕ) → k < length xs → get_or xs k 0 ≡ v → (i : ℕ) → ((k : ℕ) → k < i → get_or xs k 0 < v) → ((k : ℕ) → i ≤ k → k < length xs → v < get_or xs k 0) → (k < i) ⊎ (i ≤ k) → ⊥
-        differs k below same i low high (inl side) = omega (arith, low k side)
-        differs k below same i low high (inr side) = omega (arith, high k side below)

@@ -1,6 +1,4 @@
 ghost use Rattle.std.specs.Prelude.{◌≡◌, ◌↔◌, ◌∷◌, length, IsTrue, IfOk, OnOk, IfErr};
-ghost use Rattle.std.specs.List.Sorted.{IsNonDecreasing};
-ghost use Rattle.st_model.specs.Lists.{has};
 ghost use Rattle.cut_packing.specs.Packing.{Fits};
 ghost use Rattle.cut_packing.specs.ProofTree.{IsSplit, Closes};
 ghost use Rattle.log_format.specs.Text.{lines_of};
@@ -73,21 +71,7 @@ fn is_split(instance: &Instance, branch: &Branch, vertex: u32) -> bool
     if vertex < 1 || instance.vertices() < vertex {
         return false;
     }
-    if instance.need(vertex) == Need::Required {
-        return false;
-    }
-    if holds(branch.inside.as_slice(), vertex) {
-        return false;
-    }
-    !holds(branch.outside.as_slice(), vertex)
-}
-
-// Whether an ascending list has a vertex.
-fn holds(vertices: &[u32], vertex: u32) -> bool
-    requires { IsNonDecreasing vertices.now }
-    ensures { result ≡ has vertices.now vertex }
-{
-    vertices.binary_search(&vertex).is_ok()
+    instance.need(vertex) != Need::Required && branch.is_undecided(vertex)
 }
 
 // Judges a close. Where it is right, the path to the next branch that waits.
