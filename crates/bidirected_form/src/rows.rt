@@ -25,7 +25,8 @@ impl Model for Rows {
 
     ghost view = { λ r. rows_from 0 r.ends.items r.arcs.items };
 
-    ghost invariant = { λ r. IsLaidOut 0 r.ends.items (length r.arcs.items) × (r.tails.items ≡ map (λ a. a.tail) r.arcs.items) };
+    ghost invariant = { λ r. IsLaidOut 0 r.ends.items (length r.arcs.items)
+        × (r.tails.items ≡ map (λ a. a.tail) r.arcs.items) };
 }
 
 impl Rows {

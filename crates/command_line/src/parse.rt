@@ -47,7 +47,8 @@ pub fn read_words<'a>(alloc: Global, words: &'a [String]) -> Result<Cmd<'a>, Wor
 fn matches<'a>(alloc: Global, words: &'a [String]) -> Result<ArgMatches<'a>, WordFault>
     ensures taken { IfOk result (λ m. is_empty (fault_of program (map string_bytes words.now)) ≡ true) }
     ensures rows { IfOk result (λ m. subcommand_rows_of m ≡ subcommand_of program (map string_bytes words.now)) }
-    ensures refused { IsErrOf result WordFault.Usage → is_empty (fault_of program (map string_bytes words.now)) ≡ false }
+    ensures refused { IsErrOf result WordFault.Usage
+        → is_empty (fault_of program (map string_bytes words.now)) ≡ false }
 {
     let command = program(alloc)?;
     match command.try_get_matches_from(words) {

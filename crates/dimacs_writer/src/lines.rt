@@ -15,7 +15,8 @@ pub fn first_lines(alloc: Global) -> Result<Vec<u8>, AllocError>
 
 /// Puts the line of the name after the text.
 pub fn put_name(out: &mut Vec<u8>, name: &str) -> Result<(), AllocError>
-    ensures { OnOk result (IsWritten out.old.items out.new.items (quoted_line (codes "Name") (map Solution.name_byte name.now) ∷ [])) }
+    ensures { OnOk result (IsWritten out.old.items out.new.items
+        (quoted_line (codes "Name") (map Solution.name_byte name.now) ∷ [])) }
 {
     out.extend_from_slice("Name \"".as_bytes())?;
     put_name_bytes(out, name)?;
@@ -52,7 +53,8 @@ pub fn put_line(text: &mut String, line: &str) -> Result<(), AllocError>
 
 /// Puts a keyword and a number after the text.
 pub fn put_number(text: &mut String, keyword: &str, number: u64) -> Result<(), AllocError>
-    ensures { OnOk result (IsWritten (string_bytes text.old) (string_bytes text.new) (number_line keyword.now number ∷ [])) }
+    ensures { OnOk result (IsWritten (string_bytes text.old) (string_bytes text.new)
+        (number_line keyword.now number ∷ [])) }
 {
     writeln!(text, "{keyword} {number}")
 }

@@ -51,7 +51,8 @@ pub fn put_run(text: &mut String, workers: u32, dual: u64, primal: u64) -> Resul
 
 /// Puts the section of the tree and the last line after the text.
 pub fn put_tree(text: &mut String, vertices: &[u32], edges: &[(u32, u32)]) -> Result<(), AllocError>
-    ensures { OnOk result (IsWritten (string_bytes text.old) (string_bytes text.new) (tree_lines vertices.now edges.now ++ codes "EOF" ∷ [])) }
+    ensures { OnOk result (IsWritten (string_bytes text.old) (string_bytes text.new)
+        (tree_lines vertices.now edges.now ++ codes "EOF" ∷ [])) }
 {
     put_line(text, "SECTION Finalsolution")?;
     put_number(text, "Vertices", vertices.len() as u64)?;

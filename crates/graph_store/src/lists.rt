@@ -48,7 +48,9 @@ pub fn take_half(lists: &mut Vec<Vec<Half>>, at: u32, place: usize) -> Option<Ha
     ensures moved { result ≡ slice_get (halves_at lists.new.items at) place }
     ensures here { (k : ℕ) → slice_get (halves_at lists.new.items at) k
         ≡ (let old = halves_at lists.old.items at in
-        if nat_lt (k + 1) (length old) then (if k == place then slice_get old (length old - 1) else slice_get old k) else None) }
+        if nat_lt (k + 1) (length old)
+        then (if k == place then slice_get old (length old - 1) else slice_get old k)
+        else None) }
     ensures others { (v : ℕ) → (v ≡ at → ⊥) → halves_at lists.new.items v ≡ halves_at lists.old.items v }
 {
     let list = &mut lists[at as usize];

@@ -8,7 +8,8 @@ use std::alloc::AllocError;
 // Puts the first line and the section of the graph after the text.
 pub fn put_graph(text: &mut String, instance: &Instance) -> Result<(), AllocError>
     ensures { OnOk result
-        (IsWritten (string_bytes text.old) (string_bytes text.new) (header ∷ graph_lines instance.now.n instance.now.links)) }
+        (IsWritten (string_bytes text.old) (string_bytes text.new)
+            (header ∷ graph_lines instance.now.n instance.now.links)) }
 {
     let links = instance.links();
     put_header(text)?;
@@ -23,7 +24,8 @@ pub fn put_graph(text: &mut String, instance: &Instance) -> Result<(), AllocErro
 // Puts the section of the needs and the last line after the text.
 pub fn put_terminals(text: &mut String, needs: &[(u32, Need)]) -> Result<(), AllocError>
     ensures { OnOk result
-        (IsWritten (string_bytes text.old) (string_bytes text.new) (terminal_lines needs.now ++ (codes "EOF" ∷ []) ∷ [])) }
+        (IsWritten (string_bytes text.old) (string_bytes text.new)
+            (terminal_lines needs.now ++ (codes "EOF" ∷ []) ∷ [])) }
 {
     put_pair(text, "SECTION", "Terminals")?;
     put_number(text, "Terminals", needs.len() as u64)?;

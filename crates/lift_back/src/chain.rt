@@ -56,7 +56,9 @@ impl Chain {
 
     // Puts an arc behind the others.
     fn push(&mut self, tail: u32, head: u32)
-        ensures chain { (start : ℕ) (arcs : List (ℕ × ℕ)) → IsChainOf start arcs self.old → AreLed (length self.old.arrivals.items) start (arcs ++ (tail, head) ∷ []) → IsChainOf start (arcs ++ (tail, head) ∷ []) self.new }
+        ensures chain { (start : ℕ) (arcs : List (ℕ × ℕ)) → IsChainOf start arcs self.old
+            → AreLed (length self.old.arrivals.items) start (arcs ++ (tail, head) ∷ [])
+            → IsChainOf start (arcs ++ (tail, head) ∷ []) self.new }
         ensures count { length self.new.arrivals.items ≡ length self.old.arrivals.items }
     {
         let before = self.last;
@@ -66,7 +68,9 @@ impl Chain {
 
     // The arcs before one step.
     pub fn undo(&mut self, undo: Undo)
-        ensures chain { (start : ℕ) (arcs : List (ℕ × ℕ)) → IsChainOf start arcs self.old → AreLed (length self.old.arrivals.items) start (arcs_before undo arcs) → IsChainOf start (arcs_before undo arcs) self.new }
+        ensures chain { (start : ℕ) (arcs : List (ℕ × ℕ)) → IsChainOf start arcs self.old
+            → AreLed (length self.old.arrivals.items) start (arcs_before undo arcs)
+            → IsChainOf start (arcs_before undo arcs) self.new }
         ensures count { length self.new.arrivals.items ≡ length self.old.arrivals.items }
     {
         match undo {
@@ -78,7 +82,9 @@ impl Chain {
 
     // Leads an arc between a and b past the vertex, if there is one.
     fn past(&mut self, vertex: u32, a: u32, b: u32)
-        ensures chain { (start : ℕ) (arcs : List (ℕ × ℕ)) → IsChainOf start arcs self.old → AreLed (length self.old.arrivals.items) start (led_past vertex a b arcs) → IsChainOf start (led_past vertex a b arcs) self.new }
+        ensures chain { (start : ℕ) (arcs : List (ℕ × ℕ)) → IsChainOf start arcs self.old
+            → AreLed (length self.old.arrivals.items) start (led_past vertex a b arcs)
+            → IsChainOf start (led_past vertex a b arcs) self.new }
         ensures count { length self.new.arrivals.items ≡ length self.old.arrivals.items }
     {
         if !self.arc_past(vertex, a, b) {
@@ -88,8 +94,12 @@ impl Chain {
 
     // Leads the arc from a tail to a head past the vertex, and says whether there is one.
     fn arc_past(&mut self, vertex: u32, tail: u32, head: u32) -> bool
-        ensures led { OnTrue result ((start a b : ℕ) (arcs : List (ℕ × ℕ)) → IsTrue (is_between (a, b) tail head) → IsChainOf start arcs self.old → AreLed (length self.old.arrivals.items) start (led_past vertex a b arcs) → IsChainOf start (led_past vertex a b arcs) self.new) }
-        ensures none { OnFalse result ((before : ℕ) → arrival_at self.old.arrivals.items head ≢ Some (record { tail = tail; before = before })) }
+        ensures led { OnTrue result ((start a b : ℕ) (arcs : List (ℕ × ℕ))
+            → IsTrue (is_between (a, b) tail head) → IsChainOf start arcs self.old
+            → AreLed (length self.old.arrivals.items) start (led_past vertex a b arcs)
+            → IsChainOf start (led_past vertex a b arcs) self.new) }
+        ensures none { OnFalse result ((before : ℕ)
+            → arrival_at self.old.arrivals.items head ≢ Some (record { tail = tail; before = before })) }
         ensures same { OnFalse result (self.new ≡ self.old) }
         ensures count { length self.new.arrivals.items ≡ length self.old.arrivals.items }
     {
@@ -110,7 +120,8 @@ impl Chain {
 
     // All arcs in order.
     pub fn arcs(&self, alloc: Global) -> Result<Vec<(u32, u32)>, AllocError>
-        ensures { IfOk result (λ all. (start : ℕ) (arcs : List (ℕ × ℕ)) → IsChainOf start arcs self.now → AreLed (length self.now.arrivals.items) start arcs → all.items ≡ arcs) }
+        ensures { IfOk result (λ all. (start : ℕ) (arcs : List (ℕ × ℕ)) → IsChainOf start arcs self.now
+            → AreLed (length self.now.arrivals.items) start arcs → all.items ≡ arcs) }
     {
         let back = self.arcs_back(alloc)?;
         let all = turned(alloc, &back)?;
@@ -119,7 +130,8 @@ impl Chain {
 
     // All arcs, the last first.
     fn arcs_back(&self, alloc: Global) -> Result<Vec<(u32, u32)>, AllocError>
-        ensures { IfOk result (λ back. (start : ℕ) (arcs : List (ℕ × ℕ)) → IsChainOf start arcs self.now → AreLed (length self.now.arrivals.items) start arcs → reverse back.items ≡ arcs) }
+        ensures { IfOk result (λ back. (start : ℕ) (arcs : List (ℕ × ℕ)) → IsChainOf start arcs self.now
+            → AreLed (length self.now.arrivals.items) start arcs → reverse back.items ≡ arcs) }
     {
         let mut back = Vec::new(alloc);
         let mut at = self.last;
@@ -161,7 +173,8 @@ fn arrival_of(arrivals: &Vec<Option<Arrival>>, vertex: u32) -> Option<Arrival>
 
 // Says how a vertex is reached.
 fn put(arrivals: &mut Vec<Option<Arrival>>, vertex: u32, arrival: Arrival)
-    ensures items { vertex < length arrivals.old.items → arrivals.new.items ≡ slice_set arrivals.old.items vertex (Some arrival) }
+    ensures items { vertex < length arrivals.old.items
+        → arrivals.new.items ≡ slice_set arrivals.old.items vertex (Some arrival) }
     ensures count { length arrivals.new.items ≡ length arrivals.old.items }
 {
     if (vertex as usize) < arrivals.len() {

@@ -49,7 +49,8 @@ fn tidy_row(rows: &mut Vec<Vec<u32>>, links: &Links, vertex: u32)
     requires vertex { vertex < vec_len rows.old }
     requires covered { AreCovered (links_of links.now.entries) vertex (row_at rows.old.items vertex) }
     ensures length { vec_len rows.new ≡ vec_len rows.old }
-    ensures tidy { let row = row_at rows.new.items vertex in IsTidy (links_of links.now.entries) vertex (min (length row) 3) row }
+    ensures tidy { let row = row_at rows.new.items vertex in
+        IsTidy (links_of links.now.entries) vertex (min (length row) 3) row }
     ensures others { (v : ℕ) → (v ≡ vertex → ⊥) → row_at rows.new.items v ≡ row_at rows.old.items v }
 {
     tidy(&mut rows[vertex as usize], links, vertex);

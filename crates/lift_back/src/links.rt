@@ -52,9 +52,12 @@ pub fn cost_between(links: &Links, u: u32, w: u32) -> Option<u64>
 pub fn take_link(links: &mut Links, u: u32, w: u32) -> Option<u64>
     requires { ArePairs links.old.entries }
     ensures value { result ≡ link (links_of links.old.entries) u w }
-    ensures others { (x y : ℕ) → link (links_of links.new.entries) x y ≡ (if is_between (u, w) x y then None else link (links_of links.old.entries) x y) }
-    ensures total { total (λ l. l.cost) (links_of links.new.entries) + unwrap_or result 0 ≡ total (λ l. l.cost) (links_of links.old.entries) }
-    ensures ends { (n : ℕ) → All (IsLinkBetween n) (links_of links.old.entries) → All (IsLinkBetween n) (links_of links.new.entries) }
+    ensures others { (x y : ℕ) → link (links_of links.new.entries) x y
+        ≡ (if is_between (u, w) x y then None else link (links_of links.old.entries) x y) }
+    ensures total { total (λ l. l.cost) (links_of links.new.entries) + unwrap_or result 0
+        ≡ total (λ l. l.cost) (links_of links.old.entries) }
+    ensures ends { (n : ℕ) → All (IsLinkBetween n) (links_of links.old.entries)
+        → All (IsLinkBetween n) (links_of links.new.entries) }
     ensures pairs { ArePairs links.new.entries }
 {
     links.swap_remove(&(u.min(w), u.max(w)))
@@ -64,9 +67,15 @@ pub fn take_link(links: &mut Links, u: u32, w: u32) -> Option<u64>
 pub fn put_link(links: &mut Links, a: u32, b: u32, cost: u64) -> Result<(), AllocError>
     requires pairs { ArePairs links.old.entries }
     requires different { a ≢ b }
-    ensures ok { OnOk result ((x y : ℕ) → link (links_of links.new.entries) x y ≡ (if is_between (a, b) x y then Some (min cost (unwrap_or (link (links_of links.old.entries) a b) cost)) else link (links_of links.old.entries) x y)) }
-    ensures total { OnOk result (total (λ l. l.cost) (links_of links.new.entries) ≤ total (λ l. l.cost) (links_of links.old.entries) + cost) }
-    ensures ends { OnOk result ((n : ℕ) → IsVertex n a → IsVertex n b → All (IsLinkBetween n) (links_of links.old.entries) → All (IsLinkBetween n) (links_of links.new.entries)) }
+    ensures ok { OnOk result ((x y : ℕ) → link (links_of links.new.entries) x y
+        ≡ (if is_between (a, b) x y
+           then Some (min cost (unwrap_or (link (links_of links.old.entries) a b) cost))
+           else link (links_of links.old.entries) x y)) }
+    ensures total { OnOk result (total (λ l. l.cost) (links_of links.new.entries)
+        ≤ total (λ l. l.cost) (links_of links.old.entries) + cost) }
+    ensures ends { OnOk result ((n : ℕ) → IsVertex n a → IsVertex n b
+        → All (IsLinkBetween n) (links_of links.old.entries)
+        → All (IsLinkBetween n) (links_of links.new.entries)) }
     ensures pairs { ArePairs links.new.entries }
     ensures err { OnErr result (links.new.entries ≡ links.old.entries) }
 {
@@ -112,9 +121,13 @@ pub fn take_all(links: &mut Links, vertex: u32, ends: Ends)
     requires pairs { ArePairs links.old.entries }
     requires ends { HasEnds (links_of links.old.entries) vertex ends }
     requires few { AreFew ends }
-    ensures others { (u w : ℕ) → link (links_of links.new.entries) u w ≡ (if (u == vertex) || (w == vertex) then None else link (links_of links.old.entries) u w) }
-    ensures total { total (λ l. l.cost) (links_of links.new.entries) + ends_cost (links_of links.old.entries) vertex ends ≡ total (λ l. l.cost) (links_of links.old.entries) }
-    ensures ends { (n : ℕ) → All (IsLinkBetween n) (links_of links.old.entries) → All (IsLinkBetween n) (links_of links.new.entries) }
+    ensures others { (u w : ℕ) → link (links_of links.new.entries) u w
+        ≡ (if (u == vertex) || (w == vertex) then None else link (links_of links.old.entries) u w) }
+    ensures total { total (λ l. l.cost) (links_of links.new.entries)
+        + ends_cost (links_of links.old.entries) vertex ends
+        ≡ total (λ l. l.cost) (links_of links.old.entries) }
+    ensures ends { (n : ℕ) → All (IsLinkBetween n) (links_of links.old.entries)
+        → All (IsLinkBetween n) (links_of links.new.entries) }
     ensures pairs { ArePairs links.new.entries }
 {
     match ends {

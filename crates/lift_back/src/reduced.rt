@@ -155,7 +155,8 @@ impl Reduced {
 
     fn through(&mut self, vertex: u32) -> Result<(), ApplyError>
         ensures ok { OnOk result (Takes (Step.Through vertex) self.old.state self.new.state) }
-        ensures fault { IsErrOf result ApplyError.StepFault → (a b x y : ℕ) → ¬ IsThrough self.old.state vertex a b x y }
+        ensures fault { IsErrOf result ApplyError.StepFault → (a b x y : ℕ)
+            → ¬ IsThrough self.old.state vertex a b x y }
         ensures err { OnErr result (self.new ≡ self.old) }
         ensures first { self.new.first ≡ self.old.first }
         ensures state { IsState self.new.state }

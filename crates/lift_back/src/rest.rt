@@ -85,7 +85,8 @@ impl Rest {
     // Puts a vertex behind the others if it is gone.
     fn push_gone(&self, gone: &mut Vec<u32>, vertex: u32) -> Result<(), AllocError>
         requires marks { vertex < length self.now.gone.items }
-        ensures { OnOk result (gone.new.items ≡ gone.old.items ++ (if slice_index_or self.now.gone.items vertex false then vertex ∷ [] else [])) }
+        ensures { OnOk result (gone.new.items ≡ gone.old.items
+            ++ (if slice_index_or self.now.gone.items vertex false then vertex ∷ [] else [])) }
     {
         if self.gone[vertex as usize] {
             gone.push(vertex)?;
@@ -174,7 +175,8 @@ impl Rest {
         requires { IsKept self.old }
         ensures kept { IsKept self.new }
         ensures same { state_of self.new ≡ state_of self.old }
-        ensures found { IfSome result (λ ends. IsPendant (state_of self.old) vertex × HasEnds (links_of self.new.links.entries) vertex ends × AreFew ends) }
+        ensures found { IfSome result (λ ends. IsPendant (state_of self.old) vertex
+            × HasEnds (links_of self.new.links.entries) vertex ends × AreFew ends) }
         ensures none { IfNone result (¬ IsPendant (state_of self.old) vertex) }
     {
         if self.left < 2 {
@@ -199,7 +201,8 @@ impl Rest {
         requires ends { HasEnds (links_of self.old.links.entries) vertex ends }
         requires few { AreFew ends }
         ensures kept { IsKept self.new }
-        ensures becomes { let s = state_of self.old in Becomes s (state_of self.new) (links_without s vertex) (need_of s.instance) (gone_with s vertex) s.offset }
+        ensures becomes { let s = state_of self.old in
+            Becomes s (state_of self.new) (links_without s vertex) (need_of s.instance) (gone_with s vertex) s.offset }
     {
         take_all(&mut self.links, vertex, ends);
         self.gone[vertex as usize] = true;
@@ -256,7 +259,8 @@ impl Rest {
     ) -> Result<(), AllocError>
         requires kept { IsKept self.old }
         requires through { IsThrough (state_of self.old) vertex a b first second }
-        requires listed { IsTrue (has (row_at self.old.rows.items a) b) × IsTrue (has (row_at self.old.rows.items b) a) }
+        requires listed { IsTrue (has (row_at self.old.rows.items a) b)
+            × IsTrue (has (row_at self.old.rows.items b) a) }
         ensures kept { IsKept self.new }
         ensures ok { OnOk result (TakesThrough (state_of self.old) (state_of self.new) vertex a b first second) }
         ensures err { OnErr result (state_of self.new ≡ state_of self.old) }
@@ -275,7 +279,8 @@ impl Rest {
         requires b { IsVertex self.old.vertices b }
         ensures kept { IsKept self.new }
         ensures same { self.new ≡ record self.old { rows = self.new.rows } }
-        ensures listed { OnOk result (IsTrue (has (row_at self.new.rows.items a) b) × IsTrue (has (row_at self.new.rows.items b) a)) }
+        ensures listed { OnOk result (IsTrue (has (row_at self.new.rows.items a) b)
+            × IsTrue (has (row_at self.new.rows.items b) a)) }
     {
         list_for(&mut self.rows, a, b)?;
         list_for(&mut self.rows, b, a)?;
@@ -388,7 +393,9 @@ impl Rest {
     fn paid_along(&self, a: u32, b: u32, limit: u64, paid: u64, from: u32, to: u32) -> Option<u64>
         requires kept { IsKept self.now }
         requires paid { paid ≤ limit }
-        ensures some { IfSome result (λ more. (more ≡ (let I = (state_of self.now).instance in if is_required I to then 0 else paid + arc_cost I (from, to))) × MayGo (state_of self.now).instance a b limit paid from to) }
+        ensures some { IfSome result (λ more. (more ≡ (let I = (state_of self.now).instance in
+                if is_required I to then 0 else paid + arc_cost I (from, to)))
+            × MayGo (state_of self.now).instance a b limit paid from to) }
         ensures none { IfNone result (¬ MayGo (state_of self.now).instance a b limit paid from to) }
     {
         if is_same_pair(a, b, from, to) {

@@ -64,7 +64,8 @@ impl<S: Sound> Owner<S> {
     pub fn put(&mut self, node: Node) -> Result<(), Node>
         requires { S.sound node }
         ensures same { self.new.queue ≡ self.old.queue }
-        ensures put { OnOk result (self.new.hand ≡ hand self.old.hand.parts (self.old.hand.put ++ node ∷ []) self.old.hand.taken) }
+        ensures put { OnOk result (self.new.hand
+            ≡ hand self.old.hand.parts (self.old.hand.put ++ node ∷ []) self.old.hand.taken) }
         ensures back { IfErr result (λ back. (back ≡ node) × (self.new.hand ≡ self.old.hand)) }
         ensures room { IfErr result (λ back. 128 ≤ length self.old.hand.put) }
     {
@@ -93,7 +94,8 @@ impl<S: Sound> Owner<S> {
     pub fn thief(&mut self) -> Result<Thief<S>, AllocError>
         requires { 1 < self.old.hand.parts }
         ensures same { self.new.queue ≡ self.old.queue }
-        ensures kept { OnOk result (self.new.hand ≡ hand (self.old.hand.parts - 1) self.old.hand.put self.old.hand.taken) }
+        ensures kept { OnOk result (self.new.hand
+            ≡ hand (self.old.hand.parts - 1) self.old.hand.put self.old.hand.taken) }
         ensures new { IfOk result (λ t. (t.queue ≡ self.old.queue) × (t.hand ≡ hand 1 [] [])) }
     {
         let stealer = self.worker.stealer()?;
@@ -133,7 +135,9 @@ impl<S: Sound> Thief<S> {
     // Takes the first node, unless another end was faster.
     fn attempt(&mut self) -> Steal<Kept<S>>
         ensures same { self.new.queue ≡ self.old.queue }
-        ensures took { MatchSteal result ((self.new.hand ≡ self.old.hand) × WasEmpty self.old.hand) (self.new.hand ≡ self.old.hand)
+        ensures took { MatchSteal result
+            ((self.new.hand ≡ self.old.hand) × WasEmpty self.old.hand)
+            (self.new.hand ≡ self.old.hand)
             (λ node. self.new.hand ≡ hand self.old.hand.parts self.old.hand.put (self.old.hand.taken ++ node ∷ [])) }
     {
         self.stealer.steal_as::<Takes>(&mut self.token)

@@ -105,7 +105,8 @@ fn keep<S: Sound>(list: &mut VecDeque<Kept<S>>, node: Node) -> Result<(), Node>
 fn steal<S: Sound, R: Wait>(rt: &R, ends: &mut Vec<Thief<S>>) -> Option<Node>
     ensures queues { map queue_of ends.new.items ≡ map queue_of ends.old.items }
     ensures none { IfNone result ((ends.new.items ≡ ends.old.items) × All (λ e. WasEmpty e.hand) ends.old.items) }
-    ensures some { IfSome result (λ node. (h : NodeSpec → ℕ) → takes h ends.new.items ≡ takes h ends.old.items + h node) }
+    ensures some { IfSome result (λ node. (h : NodeSpec → ℕ)
+        → takes h ends.new.items ≡ takes h ends.old.items + h node) }
     ensures puts { (h : NodeSpec → ℕ) → puts h ends.new.items ≡ puts h ends.old.items }
     ensures sound { IfSome result (λ node. S.sound node) }
 {
@@ -124,7 +125,8 @@ fn steal_at<S: Sound, R: Wait>(rt: &R, ends: &mut Vec<Thief<S>>, k: usize) -> Op
     ensures queues { map queue_of ends.new.items ≡ map queue_of ends.old.items }
     ensures none { IfNone result ((ends.new.items ≡ ends.old.items)
         × ((d : _) → WasEmpty (slice_index_or ends.old.items k d).hand)) }
-    ensures some { IfSome result (λ node. (h : NodeSpec → ℕ) → takes h ends.new.items ≡ takes h ends.old.items + h node) }
+    ensures some { IfSome result (λ node. (h : NodeSpec → ℕ)
+        → takes h ends.new.items ≡ takes h ends.old.items + h node) }
     ensures puts { (h : NodeSpec → ℕ) → puts h ends.new.items ≡ puts h ends.old.items }
     ensures sound { IfSome result (λ node. S.sound node) }
 {

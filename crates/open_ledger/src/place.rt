@@ -70,7 +70,8 @@ impl Place {
     pub fn see_open(&mut self) -> u64
         ensures same { self.new.ledger ≡ self.old.ledger }
         ensures tally { self.new.tally ≡ with_busy self.old.tally (if result == 0 then 0 else 1) }
-        ensures whole { self.old.tally.parts ≡ 65 → IsOpenWord result self.old.tally.ups self.old.tally.downs self.old.tally.busy }
+        ensures whole { self.old.tally.parts ≡ 65
+            → IsOpenWord result self.old.tally.ups self.old.tally.downs self.old.tally.busy }
     {
         let Place { table, seat } = self;
         let words: &Words = table;
@@ -81,7 +82,8 @@ impl Place {
     pub fn claim(&mut self) -> u64
         requires { self.old.tally.refused < self.old.tally.parts }
         ensures same { self.new.ledger ≡ self.old.ledger }
-        ensures tally { self.new.tally ≡ (if nat_lt result self.old.tally.budget then with_grant self.old.tally else with_refusal self.old.tally) }
+        ensures tally { self.new.tally ≡ (if nat_lt result self.old.tally.budget
+            then with_grant self.old.tally else with_refusal self.old.tally) }
         ensures within { self.new.tally.granted ≤ self.old.tally.budget }
     {
         let Place { table, seat } = self;
@@ -93,7 +95,8 @@ impl Place {
     pub fn see_claims(&mut self) -> u64
         ensures same { self.new.ledger ≡ self.old.ledger }
         ensures tally { self.new.tally ≡ self.old.tally }
-        ensures whole { self.old.tally.parts ≡ 65 → IsClaimWord self.old.tally.budget result self.old.tally.granted self.old.tally.refused }
+        ensures whole { self.old.tally.parts ≡ 65
+            → IsClaimWord self.old.tally.budget result self.old.tally.granted self.old.tally.refused }
     {
         let Place { table, seat } = self;
         let words: &Words = table;

@@ -74,7 +74,8 @@ impl LedgerSeat {
     /// Claims a unit of the budget: whether the claims before it numbered less than the budget.
     pub fn claim(&mut self) -> bool
         requires { self.old.tally.refused ≡ 0 }
-        ensures claimed { self.new ≡ counting self.old (if result then with_grant self.old.tally else with_refusal self.old.tally) }
+        ensures claimed { self.new ≡ counting self.old
+            (if result then with_grant self.old.tally else with_refusal self.old.tally) }
         ensures within { self.new.tally.granted ≤ self.old.tally.budget }
     {
         let budget = self.budget;
