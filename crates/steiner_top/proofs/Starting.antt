@@ -1,9 +1,7 @@
 -- The first tree of an instance that has one.
-use Rattle.std.proofs.Common.{◌≡◌, ◌≤◌, ◌-◌, eqb, ℕ, true, false, List, [], Option, Some, None, refl, sym, subst, ap₂, arith, replicate}
+use Rattle.std.proofs.Common.{◌≡◌, ◌≤◌, ℕ, List, [], Option, Some, None, refl, sym, subst, ap₂, arith}
 use Rattle.st_model.specs.declared.branch.Branch.{Branch}
-use Rattle.std.specs.Prelude.{IfSome, IfNone, IsTrue}
-use Rattle.std.proofs.lemmas.Bool.Decides.{nat_tests}
-use Rattle.std.proofs.lemmas.List.{get_or-replicate}
+use Rattle.std.specs.Prelude.{IfSome, IfNone}
 use Rattle.st_model.specs.declared.tree.Tree.{Tree}
 use Rattle.st_model.specs.Lists.{sum_to}
 use Rattle.st_model.specs.Network.{Network, IsInstance, IsVertex, pays}

@@ -1,6 +1,5 @@
 -- What solving a drawn instance gave is what `trial` is answered with.
-use Rattle.std.proofs.Common.{◌≡◌, ◌≢◌, ◌⊎◌, inl, inr, ℕ, ◌<◌, ◌≤◌, Bool, true, false, not, cond, eqb, List, Option, Some, refl, sym, subst, ap, ap₂, ◌∙◌, arith}
-use Rattle.std.specs.Prelude.{IsTrue}
+use Rattle.std.proofs.Common.{◌≡◌, ◌⊎◌, inl, inr, ℕ, ◌<◌, Bool, true, false, not, cond, eqb, List, Some, refl, sym, subst, ap, ap₂, ◌∙◌, arith}
 use Rattle.std.proofs.lemmas.Bool.Decides.{nat_tests}
 use Rattle.st_model.specs.declared.tree.Tree.{Tree}
 use Rattle.st_model.specs.Lists.{has}
