@@ -87,6 +87,12 @@ fn cut(alloc: Global, set: &[u32], q: u32, y: u64) -> Result<Cut, AllocError> {
     Ok(Cut { set, q, y })
 }
 
+// The vertices that a node's cuts name.
+fn named(alloc: Global, node: &Node) -> Result<Vec<u32>, AllocError> {
+    let cuts = node.packing.cuts.as_slice();
+    cuts.iter().map(|cut| cut.q).collect(alloc)
+}
+
 // Where 4 is outside the cuts that name it go, and the others stay in their order.
 #[test]
 fn the_half_outside_loses_the_cuts_of_its_vertex(rt: HostRuntime) -> Result<(), Fail> {
@@ -113,11 +119,13 @@ fn the_half_outside_loses_the_cuts_of_its_vertex(rt: HostRuntime) -> Result<(), 
     assert_eq!(rt; (inside.id, outside.id), (20, 30));
     assert_eq!(rt; inside.branch.inside.as_slice(), [4, 7].as_slice());
     assert_eq!(rt; outside.branch.inside.as_slice(), [7].as_slice());
-    assert_eq!(rt; (inside.packing.root, outside.packing.root), (Some(1), Some(1)));
-    let named: Vec<u32> = inside.packing.cuts.as_slice().iter().map(|c| c.q).collect(alloc)?;
-    assert_eq!(rt; named.as_slice(), [4, 2, 4, 3].as_slice());
-    let named: Vec<u32> = outside.packing.cuts.as_slice().iter().map(|c| c.q).collect(alloc)?;
-    assert_eq!(rt; named.as_slice(), [2, 3].as_slice());
+    assert_eq!(rt;
+        (inside.packing.root, outside.packing.root),
+        (Some(1), Some(1))
+    );
+    let (kept, left) = (named(alloc, &inside)?, named(alloc, &outside)?);
+    assert_eq!(rt; kept.as_slice(), [4, 2, 4, 3].as_slice());
+    assert_eq!(rt; left.as_slice(), [2, 3].as_slice());
     Ok(())
 }
 
@@ -131,7 +139,8 @@ fn is_a_right_choice(instance: &Instance, decided: &[u32], chosen: Option<u32>) 
     };
     match chosen {
         None => !(1..7).any(may),
-        Some(chosen) => may(chosen) && !(1..7).any(|v| may(v) && instance.prize(v) > instance.prize(chosen)),
+        Some(chosen) => may(chosen)
+            && !(1..7).any(|v| may(v) && instance.prize(v) > instance.prize(chosen)),
     }
 }
 
@@ -150,9 +159,11 @@ fn choices_are_right(alloc: Global, instance: &Instance) -> Result<bool, AllocEr
     };
     let within = vertex_of(alloc, instance, inside)?;
     let without = vertex_of(alloc, instance, outside)?;
-    Ok(is_a_right_choice(instance, &[], Some(vertex))
-        && is_a_right_choice(instance, &[vertex], within)
-        && is_a_right_choice(instance, &[vertex], without))
+    Ok(
+        is_a_right_choice(instance, &[], Some(vertex))
+            && is_a_right_choice(instance, &[vertex], within)
+            && is_a_right_choice(instance, &[vertex], without),
+    )
 }
 
 #[test]

@@ -9,7 +9,7 @@ use std::alloc::AllocError;
 pub fn put_graph(text: &mut String, instance: &Instance) -> Result<(), AllocError>
     ensures { OnOk result
         (IsWritten (string_bytes text.old) (string_bytes text.new)
-            (header ∷ graph_lines instance.now.n instance.now.links)) }
+        (header ∷ graph_lines instance.now.n instance.now.links)) }
 {
     let links = instance.links();
     put_header(text)?;
@@ -25,7 +25,7 @@ pub fn put_graph(text: &mut String, instance: &Instance) -> Result<(), AllocErro
 pub fn put_terminals(text: &mut String, needs: &[(u32, Need)]) -> Result<(), AllocError>
     ensures { OnOk result
         (IsWritten (string_bytes text.old) (string_bytes text.new)
-            (terminal_lines needs.now ++ (codes "EOF" ∷ []) ∷ [])) }
+        (terminal_lines needs.now ++ (codes "EOF" ∷ []) ∷ [])) }
 {
     put_pair(text, "SECTION", "Terminals")?;
     put_number(text, "Terminals", needs.len() as u64)?;

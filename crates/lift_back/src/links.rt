@@ -69,8 +69,8 @@ pub fn put_link(links: &mut Links, a: u32, b: u32, cost: u64) -> Result<(), Allo
     requires different { a ≢ b }
     ensures ok { OnOk result ((x y : ℕ) → link (links_of links.new.entries) x y
         ≡ (if is_between (a, b) x y
-           then Some (min cost (unwrap_or (link (links_of links.old.entries) a b) cost))
-           else link (links_of links.old.entries) x y)) }
+        then Some (min cost (unwrap_or (link (links_of links.old.entries) a b) cost))
+        else link (links_of links.old.entries) x y)) }
     ensures total { OnOk result (total (λ l. l.cost) (links_of links.new.entries)
         ≤ total (λ l. l.cost) (links_of links.old.entries) + cost) }
     ensures ends { OnOk result ((n : ℕ) → IsVertex n a → IsVertex n b

@@ -394,7 +394,7 @@ impl Rest {
         requires kept { IsKept self.now }
         requires paid { paid ≤ limit }
         ensures some { IfSome result (λ more. (more ≡ (let I = (state_of self.now).instance in
-                if is_required I to then 0 else paid + arc_cost I (from, to)))
+            if is_required I to then 0 else paid + arc_cost I (from, to)))
             × MayGo (state_of self.now).instance a b limit paid from to) }
         ensures none { IfNone result (¬ MayGo (state_of self.now).instance a b limit paid from to) }
     {

@@ -112,7 +112,7 @@ impl Kept {
         ensures left { IfNone result (self.new.arcs.items ≡ self.old.arcs.items) }
         ensures worth { IfNone result ((front : List (ℕ × ℕ)) (arc : ℕ × ℕ) → self.old.arcs.items ≡ front ++ arc ∷ [] →
             IsTrue (has self.old.forks.members self.old.start)
-                ⊎ IsFalse (is_spare instance.now branch.now.inside self.old.start arc)) }
+            ⊎ IsFalse (is_spare instance.now branch.now.inside self.old.start arc)) }
         ensures start { self.new.start ≡ self.old.start }
         ensures forks { self.new.forks ≡ self.old.forks }
     {
