@@ -1,7 +1,6 @@
 ghost use Rattle.std.specs.Prelude.{◌≡◌, ◌+◌, ◌^◌, ◌<◌, length, IfOk, OnOk, IfErr};
-ghost use Rattle.lift_back.specs.State.{whole};
+ghost use Rattle.lift_back.specs.State.{IsState, whole};
 ghost use Rattle.lift_back.specs.Steps.{Takes, Applies};
-ghost use Rattle.lift_back.specs.State.{IsState};
 ghost use Rattle.cert_checker.specs.Judging.{IfFault, IsBadStep, AreBadSteps};
 
 use crate::JudgeError;

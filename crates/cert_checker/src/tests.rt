@@ -4,6 +4,11 @@ use st_model::{Instance, Link, Listed, Need};
 use std::test::Fail;
 use stp_reader::{Reason, StpFault};
 
+mod drawn;
+mod hostile;
+mod plain;
+mod steps;
+
 /// A triangle of terminals whose sides cost 4, around a centre at 2 from each.
 const TRIANGLE: &str =
     "33D32945 STP File, STP Format Version 1.0\nSECTION Graph\nNodes 4\nEdges 6\n\

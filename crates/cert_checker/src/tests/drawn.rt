@@ -1,0 +1,201 @@
+use super::plain::{Certificate, Left, Move, VERTICES, judged};
+use crate::check;
+use st_model::{Link, Need};
+use std::alloc::{AllocError, Global};
+use std::fmt::Write;
+use std::test::Fail;
+use test_instances::Draws;
+
+// One of the vertices.
+fn drawn_vertex(draws: &mut Draws) -> u32 {
+    draws.below(6) as u32 + 1
+}
+
+// Required or with a prize in two of four cases, else nothing.
+fn drawn_need(draws: &mut Draws) -> Need {
+    match draws.below(4) {
+        0 => Need::Required,
+        1 => Need::Pays(draws.below(5)),
+        _ => Need::Pays(0),
+    }
+}
+
+// A path over all vertices, and six links more, some of which are parallel or loops.
+fn drawn_links(alloc: Global, draws: &mut Draws) -> Result<Vec<Link>, AllocError> {
+    let mut links = Vec::new(alloc);
+    for a in [1, 2, 3, 4, 5] {
+        let cost = draws.below(6);
+        links.push(Link { a, b: a + 1, cost })?;
+    }
+    for _turn in 0..6 {
+        let (a, b) = (drawn_vertex(draws), drawn_vertex(draws));
+        let cost = draws.below(6);
+        links.push(Link { a, b, cost })?;
+    }
+    Ok(links)
+}
+
+fn drawn_instance(alloc: Global, draws: &mut Draws) -> Result<Left, AllocError> {
+    let links = drawn_links(alloc, draws)?;
+    let needs = [
+        drawn_need(draws),
+        drawn_need(draws),
+        drawn_need(draws),
+        drawn_need(draws),
+        drawn_need(draws),
+        drawn_need(draws),
+    ];
+    Ok(Left {
+        links,
+        needs,
+        gone: [false; 6],
+        offset: 0,
+    })
+}
+
+// Any step; its numbers are mostly those of vertices.
+fn drawn_step(draws: &mut Draws) -> Move {
+    let vertex = draws.below(8) as u32 + 1;
+    match draws.below(6) {
+        0 => Move::Pendant(vertex),
+        1 => Move::Through(vertex),
+        2 => Move::Forced(vertex),
+        _ => Move::Detour {
+            a: vertex,
+            b: drawn_vertex(draws),
+            inner: drawn_vertex(draws),
+        },
+    }
+}
+
+// The text of the instance.
+fn stp_text(alloc: Global, first: &Left) -> Result<String, Fail> {
+    let mut text = String::new(alloc);
+    text.push_str("33D32945\nSECTION Graph\nNodes 6\nEdges 11\n")?;
+    for link in &first.links {
+        write!(text, "E {} {} {}\n", link.a, link.b, link.cost)?;
+    }
+    text.push_str("END\nSECTION Terminals\nTerminals 6\n")?;
+    for (vertex, need) in VERTICES.iter().zip(&first.needs) {
+        match need {
+            Need::Required => write!(text, "T {vertex}\n")?,
+            Need::Pays(prize) => write!(text, "TP {vertex} {prize}\n")?,
+        }
+    }
+    text.push_str("END\nEOF\n")?;
+    Ok(text)
+}
+
+fn push_step(text: &mut String, step: Move) -> Result<(), Fail> {
+    match step {
+        Move::Pendant(vertex) => write!(text, "P {vertex}\n")?,
+        Move::Through(vertex) => write!(text, "H {vertex}\n")?,
+        Move::Forced(vertex) => write!(text, "F {vertex}\n")?,
+        Move::Detour { a, b, inner } => write!(text, "D {a} {b} 1 {inner}\n")?,
+    }
+    Ok(())
+}
+
+// The text of a certificate.
+fn log_text(alloc: Global, certificate: &Certificate) -> Result<String, Fail> {
+    let mut text = String::new(alloc);
+    let (primal, dual) = (certificate.primal, certificate.dual);
+    write!(text, "STEINERLOG 1\nCLAIM TREE {primal} {dual}\n")?;
+    text.push_str("TREE 1 5\nA 1 2\nA 2 3\nA 3 4\nA 4 5\nA 5 6\n")?;
+    write!(text, "STEPS {}\n", certificate.steps.len())?;
+    for step in &certificate.steps {
+        push_step(&mut text, *step)?;
+    }
+    text.push_str("PROOF\n")?;
+    if let Some(vertex) = certificate.split {
+        write!(text, "S {vertex}\nC 0 0\n")?;
+    }
+    text.push_str("C 0 0\nEND\n")?;
+    Ok(text)
+}
+
+// Whether the checker answers to a certificate what the plain program does.
+fn agrees(alloc: Global, first: &Left, certificate: &Certificate) -> Result<bool, Fail> {
+    let stp = stp_text(alloc, first)?;
+    let log = log_text(alloc, certificate)?;
+    let wanted = judged(alloc, first, certificate)?;
+    Ok(check(alloc, stp.as_bytes(), log.as_bytes()) == wanted)
+}
+
+// What the path over all vertices costs.
+fn path_cost(first: &Left) -> u64 {
+    let mut cost: u64 = 0;
+    for (a, b) in [(1, 2), (2, 3), (3, 4), (4, 5), (5, 6)] {
+        cost = cost.saturating_add(first.cost(a, b).unwrap_or(0));
+    }
+    cost
+}
+
+// The path, with drawn steps that may be taken, and the bound that they prove.
+fn drawn_certificate(
+    alloc: Global,
+    draws: &mut Draws,
+    first: &Left,
+) -> Result<Certificate, AllocError> {
+    let mut left = first.copied(alloc)?;
+    let mut steps = Vec::new(alloc);
+    for _turn in 0..80 {
+        let step = drawn_step(draws);
+        if left.take(step)? {
+            steps.push(step)?;
+        }
+    }
+    Ok(Certificate {
+        primal: path_cost(first),
+        dual: left.offset,
+        steps,
+        split: None,
+    })
+}
+
+// Changes a step, a number or the proof.
+fn change(draws: &mut Draws, certificate: &mut Certificate) {
+    match draws.below(8) {
+        0 => certificate.dual = certificate.dual.saturating_add(1),
+        1 => certificate.dual = certificate.dual.saturating_sub(1),
+        2 => certificate.split = Some(draws.below(7) as u32 + 1),
+        _ => {
+            let count = certificate.steps.len() as u64;
+            if count > 0 {
+                let place = draws.below(count) as usize;
+                certificate.steps[place] = drawn_step(draws);
+            }
+        }
+    }
+}
+
+// Whether all agree on a drawn log, and on it with one change.
+fn agrees_on_changes(alloc: Global, seed: u64) -> Result<bool, Fail> {
+    let mut draws = Draws { state: seed };
+    let first = drawn_instance(alloc, &mut draws)?;
+    let certificate = drawn_certificate(alloc, &mut draws, &first)?;
+    if judged(alloc, &first, &certificate)?.is_err() || !agrees(alloc, &first, &certificate)? {
+        return Ok(false);
+    }
+    for _turn in 0..20 {
+        let mut changed = Certificate {
+            primal: certificate.primal,
+            dual: certificate.dual,
+            steps: Vec::from_slice(alloc, &certificate.steps)?,
+            split: None,
+        };
+        change(&mut draws, &mut changed);
+        if !agrees(alloc, &first, &changed)? {
+            return Ok(false);
+        }
+    }
+    Ok(true)
+}
+
+#[test]
+fn judges_as_the_plain_program(rt: HostRuntime) -> Result<(), Fail> {
+    for seed in 1..31u64 {
+        assert!(rt; agrees_on_changes(rt.alloc(), seed)?, "with seed {seed}");
+    }
+    Ok(())
+}
