@@ -1,11 +1,11 @@
 -- A pass over all links, each of which is dropped where a detour is found.
-use Rattle.std.proofs.Common.{◌≡◌, ◌≢◌, ℕ, ◌+◌, ◌<◌, ◌≤◌, Bool, true, false, ◌||◌, cond, Result, Ok, Err, IfOk, OnOk, List, [], ◌∷◌, ◌++◌, reverse, Option, Some, None, IsSome, refl, sym, ap, subst, ◌∙◌, arith, ◌⊎◌, inl, inr}
+use Rattle.std.proofs.Common.{◌≡◌, ℕ, ◌<◌, Bool, true, false, ◌||◌, cond, Result, Ok, Err, IfOk, OnOk, List, [], ◌∷◌, ◌++◌, reverse, Option, Some, None, IsSome, refl, sym, subst, ◌∙◌, arith, ◌⊎◌, inl, inr}
 use Rattle.std.specs.Prelude.{All}
 use Rattle.std.specs.List.{AllByRecursion}
 use Rattle.std.specs.Bool.{OnTrue, OnFalse}
 use Rattle.std.proofs.lemmas.List.Elements.{All-nil, All-push, recursion_from_All}
 use Rattle.st_model.specs.declared.link.Link.{Link}
-use Rattle.st_model.specs.Network.{Network, IsVertex, joins, link, need_of}
+use Rattle.st_model.specs.Network.{Network, IsVertex, joins, link}
 use Rattle.st_model.proofs.Distinct.{joins-ends}
 use Rattle.graph_store.specs.Graph.{Graph}
 use Rattle.lift_back.specs.Detours.{IsDetour}

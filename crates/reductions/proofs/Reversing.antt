@@ -1,11 +1,8 @@
 -- A detour may be walked the other way round.
-use Rattle.std.proofs.Common.{◌≡◌, ◌≢◌, ℕ, ◌+◌, ◌≤◌, Bool, true, false, cond, ◌||◌, ◌&&◌, List, [], ◌∷◌, ◌++◌, reverse, Option, Some, None, IsSome, unwrap_or, refl, sym, ap, subst, ◌∙◌, arith, append_assoc, eqb}
-use Rattle.std.specs.Prelude.{IsFalse}
-use Rattle.std.proofs.lemmas.Bool.Decides.{nat_tests}
+use Rattle.std.proofs.Common.{◌≡◌, ◌≢◌, ℕ, ◌+◌, ◌≤◌, Bool, true, false, cond, ◌||◌, ◌&&◌, List, [], ◌∷◌, ◌++◌, reverse, Option, IsSome, unwrap_or, refl, sym, ap, subst, ◌∙◌, arith, append_assoc, eqb}
 use Rattle.std.proofs.lemmas.List.{reverse-append, reverse-reverse}
-use Rattle.st_model.specs.Network.{Network, link, is_required}
+use Rattle.st_model.specs.Network.{Network, is_required}
 use Rattle.st_model.specs.Arborescence.{arc_cost}
-use Rattle.st_model.specs.Made.{is_between}
 use Rattle.st_model.proofs.Distinct.{link-comm}
 use Rattle.lift_back.specs.Detours.{IsDetour, MayGo}
 use Rattle.lift_back.proofs.Walking.{GoesOn, detour_goes, goes_detour, first_goes, goes_first, last_goes, goes_last}

@@ -1,11 +1,11 @@
 -- A step is taken and told: what that leaves to be tried.
-use Rattle.std.proofs.Common.{◌≡◌, ◌≢◌, ℕ, zero, suc, ◌+◌, ◌*◌, ◌<◌, ◌≤◌, Bool, true, false, cond, ◌||◌, ◌==◌, eqb, List, [], ◌∷◌, ◌++◌, length, Option, Some, None, IsSome, refl, sym, ap, subst, ◌∙◌, arith, ◌⊎◌, inl, inr, length-append}
-use Rattle.std.specs.Prelude.{All, IsTrue, IsFalse, OnSome}
+use Rattle.std.proofs.Common.{◌≡◌, ◌≢◌, ℕ, ◌<◌, ◌≤◌, Bool, true, false, ◌||◌, eqb, List, [], ◌∷◌, ◌++◌, length, Option, Some, None, IsSome, refl, sym, ap, subst, ◌∙◌, arith, ◌⊎◌, inl, inr}
+use Rattle.std.specs.Prelude.{All, IsFalse, OnSome}
 use Rattle.std.proofs.lemmas.Bool.Decides.{nat_tests}
-use Rattle.std.proofs.lemmas.List.Elements.{All-nil, All-cons, All-tail, All-append, All-push}
+use Rattle.std.proofs.lemmas.List.Elements.{All-nil, All-cons, All-tail, All-append}
 use Rattle.st_model.specs.declared.link.Link.{Link}
-use Rattle.st_model.specs.Lists.{has, up_to}
-use Rattle.st_model.specs.Network.{Network, IsInstance, IsVertex, link, is_needed, is_required, need_of}
+use Rattle.st_model.specs.Lists.{has}
+use Rattle.st_model.specs.Network.{Network, IsInstance, IsVertex, link, is_needed, is_required}
 use Rattle.st_model.proofs.Links.{linked_in_range}
 use Rattle.st_model.proofs.Members.{has-append, has-one}
 use Rattle.lift_back.specs.declared.ends.Ends.{Ends}
@@ -14,8 +14,7 @@ use Rattle.lift_back.specs.declared.step.Step.{Step}
 use Rattle.lift_back.specs.declared.step.Step.TheVariants.{Pendant, Through, Forced, Detour}
 use Rattle.lift_back.specs.Ends.{AreCovered, HasEnds, HasThree}
 use Rattle.lift_back.specs.State.{State, IsState, whole}
-use Rattle.lift_back.specs.Steps.{Applies, IsForced, IsPendant, IsThrough, Takes, TakesDetour, TakesForced, TakesPendant, TakesThrough, gone_with}
-use Rattle.lift_back.specs.Reduction.{Reduction}
+use Rattle.lift_back.specs.Steps.{Applies, Takes, TakesDetour, TakesForced, TakesPendant, TakesThrough, gone_with}
 use Rattle.lift_back.proofs.ThroughTrees.{has_two}
 use Rattle.reductions.specs.declared.work.Work.{Work}
 use Rattle.reductions.specs.Results.{HasNoStepAt}

@@ -1,16 +1,14 @@
 -- Where a step changes nothing, no step may be taken that could not be before.
-use Rattle.std.proofs.Common.{◌≡◌, ◌≢◌, ℕ, ◌+◌, ◌<◌, ◌≤◌, Bool, true, false, cond, ◌||◌, ◌&&◌, ◌==◌, eqb, List, [], ◌∷◌, ◌++◌, Option, Some, None, IsSome, refl, sym, ap, subst, ◌∙◌, arith, ◌⊎◌, inl, inr}
+use Rattle.std.proofs.Common.{◌≡◌, ◌≢◌, ℕ, ◌+◌, Bool, true, false, cond, ◌||◌, ◌&&◌, ◌==◌, eqb, List, [], ◌∷◌, Option, Some, None, IsSome, refl, sym, ap, subst, ◌∙◌, arith}
 use Rattle.std.specs.Prelude.{IsTrue, IsFalse}
 use Rattle.std.proofs.lemmas.Bool.Decides.{nat_tests}
-use Rattle.st_model.specs.declared.link.Link.{Link}
-use Rattle.st_model.specs.declared.need.Need.{Need}
 use Rattle.st_model.specs.declared.need.Need.TheVariants.{Required, Pays}
 use Rattle.st_model.specs.Lists.{has}
 use Rattle.st_model.specs.Made.{is_between}
-use Rattle.st_model.specs.Network.{Network, IsVertex, link, need_of, is_needed, is_required}
+use Rattle.st_model.specs.Network.{IsVertex, link, need_of, is_needed, is_required}
 use Rattle.st_model.proofs.Distinct.{link-comm}
 use Rattle.lift_back.specs.State.{State, IsState}
-use Rattle.lift_back.specs.Steps.{Becomes, IsForced, IsIdle, IsPendant, IsThrough, LeadsOnlyTo, TakesDetour, TakesForced, TakesPendant, TakesThrough, gone_with, least, links_past, links_without, links_but, needs_forced}
+use Rattle.lift_back.specs.Steps.{IsForced, IsIdle, IsPendant, IsThrough, LeadsOnlyTo, TakesDetour, TakesForced, TakesPendant, TakesThrough, gone_with, least, links_without}
 use Rattle.reductions.specs.Results.{HasNoStepAt}
 
 -- all that steps at w depend on is as before, or there is less of it

@@ -1,4 +1,4 @@
-use Rattle.std.proofs.Common.{◌≡◌, ℕ, ◌≤◌, length, ap, sym, subst, ◌∙◌}
+use Rattle.std.proofs.Common.{◌≡◌, ℕ, ◌≤◌, length, ap, sym, subst}
 use Rattle.reductions.specs.declared.reducing.TheConstants.{MANY_LINKS}
 use Rattle.reductions.proofs.Starting.{no_vertex_step}
 use Rattle.reductions.proofs.reducing.reduce.Goals as goal

@@ -1,7 +1,6 @@
-use Rattle.std.proofs.Common.{◌≡◌, ℕ, Option, None, IsSome, refl, sym, subst, ◌∙◌}
-use Rattle.special_dist.specs.declared.found.Found.{Found}
+use Rattle.std.proofs.Common.{ℕ, Option, None, IsSome, refl, subst}
 use Rattle.special_dist.specs.Answers.{IsAnswer}
-use Rattle.reductions.proofs.Passing.{if_dropped, none_mirrored, none_unlinked, surely_dropped}
+use Rattle.reductions.proofs.Passing.{if_dropped, none_mirrored, surely_dropped}
 use Rattle.reductions.proofs.work.Work.drops.Goals as goal
 
 pub returns-in-Nothing-clause-none : goal.returns-in-Nothing-clause-none
