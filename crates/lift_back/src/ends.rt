@@ -6,12 +6,13 @@ ghost use Rattle.lift_back.specs.Ends.{HasEnds, AreCovered, IsTidy};
 use crate::links::{Links, cost_between};
 use std::alloc::AllocError;
 
-// Where the links of a vertex lead.
+/// Where the links of a vertex lead.
 #[derive(Clone, Copy, Debug)]
 pub enum Ends {
     Nobody,
     One(u32),
     Two(u32, u32),
+    /// To three vertices or more.
     More,
 }
 

@@ -18,6 +18,7 @@ mod step;
 mod tests;
 mod undo;
 
+pub use ends::Ends;
 pub use law::{a_step_keeps_the_best, steps_keep_the_best};
 pub use reduced::{ApplyError, Reduced};
 pub use step::Step;

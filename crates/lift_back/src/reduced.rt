@@ -3,9 +3,11 @@ ghost use Rattle.st_model.specs.Arborescence.{IsTree, cost};
 ghost use Rattle.lift_back.specs.State.{IsState, IsTreeOf, whole, worth};
 ghost use Rattle.lift_back.specs.Steps.{IsForced, IsPendant, IsThrough, MayTake, Takes, TakesDetour, TakesPendant};
 ghost use Rattle.lift_back.specs.Detours.{IsDetour};
+ghost use Rattle.lift_back.specs.Ends.{HasEnds};
+ghost use Rattle.st_model.specs.Network.{IsVertex};
 ghost use Rattle.lift_back.specs.declared.reduced.ApplyError.TheVariants.{NoMemory};
 
-use crate::Step;
+use crate::{Ends, Step};
 use crate::lifting::lifted;
 use crate::rest::Rest;
 use crate::undo::Undo;
@@ -100,6 +102,16 @@ impl Reduced {
         ensures { IfOk result (λ gone. gone.items ≡ self.now.state.gone) }
     {
         self.rest.gone_vertices(alloc)
+    }
+
+    /// Where the links of a vertex lead. Over many calls this takes a time that is linear in the
+    /// calls and the steps.
+    pub fn ends(&mut self, vertex: u32) -> Ends
+        requires { IsVertex self.old.state.instance.n vertex }
+        ensures ends { HasEnds self.old.state.instance.links vertex result }
+        ensures same { self.new ≡ self.old }
+    {
+        self.rest.ends(vertex)
     }
 
     /// Takes a step. StepFault comes where the step may not be taken; then, and where memory is

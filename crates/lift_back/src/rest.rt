@@ -144,7 +144,7 @@ impl Rest {
     }
 
     // Where the links of a vertex lead.
-    fn ends(&mut self, vertex: u32) -> Ends
+    pub fn ends(&mut self, vertex: u32) -> Ends
         requires kept { IsKept self.old }
         requires vertex { IsVertex self.old.vertices vertex }
         ensures kept { IsKept self.new }

@@ -1,6 +1,6 @@
-ghost use Rattle.std.specs.Prelude.{◌≤◌};
+ghost use Rattle.std.specs.Prelude.{◌≡◌, ◌≤◌, IfOk};
 
-use crate::{ApplyError, Reduced, Step};
+use crate::{ApplyError, Ends, Reduced, Step};
 use judging::lifted_cost;
 use st_model::{Instance, Listed, Need, Tree};
 use std::alloc::{AllocError, Global};
@@ -102,7 +102,9 @@ fn judges_detours(rt: HostRuntime) {
 }
 
 // 1 and 4 are required; 2 lies between them, and 3 hangs at 4.
-fn path(alloc: Global) -> Result<Instance, AllocError> {
+fn path(alloc: Global) -> Result<Instance, AllocError>
+    ensures { IfOk result (λ instance. instance.n ≡ 4) }
+{
     let links = [link(1, 2, 3), link(2, 4, 5), link(4, 3, 7), link(1, 4, 9)];
     let needs = [(1, Need::Required), (4, Need::Required)];
     Instance::build(alloc, 4, &links, &needs)
@@ -132,6 +134,14 @@ fn judges_vertices(rt: HostRuntime) {
     ] {
         assert_eq!(rt; path_answer(rt.alloc(), &step), want, "{step:?}");
     }
+}
+
+#[test]
+fn tells_where_links_lead(rt: HostRuntime) -> Result<(), Fail> {
+    let mut reduced = Reduced::of(rt.alloc(), &path(rt.alloc())?)?;
+    assert!(rt; matches!(reduced.ends(3), Ends::One(4)));
+    assert!(rt; matches!(reduced.ends(4), Ends::More));
+    Ok(())
 }
 
 // The path without what hangs at it and the vertex in its middle.

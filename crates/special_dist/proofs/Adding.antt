@@ -1,8 +1,8 @@
 -- One visit more: what it keeps, and what it adds.
-use Rattle.std.proofs.Common.{◌≡◌, ℕ, zero, suc, ◌+◌, ◌*◌, ◌^◌, ◌<◌, ◌≤◌, Bool, true, false, cond, eqb, List, [], ◌∷◌, ◌++◌, length, get_or, set, map, slice_get, Contains, Option, Some, None, unwrap_or, IsPermutation, refl, sym, ap, subst, ◌∙◌, arith, ◌⊎◌, inl, inr, length-append}
+use Rattle.std.proofs.Common.{◌≡◌, ℕ, zero, suc, ◌+◌, ◌^◌, ◌<◌, ◌≤◌, Bool, true, false, cond, eqb, List, [], ◌∷◌, ◌++◌, length, get_or, set, slice_get, Contains, Option, Some, None, unwrap_or, refl, sym, ap, subst, ◌∙◌, arith, ◌⊎◌, inl, inr, length-append}
 use Rattle.std.proofs.lemmas.Bool.Decides.{nat_tests}
 use Rattle.std.proofs.lemmas.List.{get_or-set_same, get_or-set_other}
-use Rattle.std.proofs.lemmas.List.Elements.{All-cons, All-head, All-tail, All-weaker, All-contains}
+use Rattle.std.proofs.lemmas.List.Elements.{All-cons, All-head, All-tail, All-weaker}
 use Rattle.std.proofs.lemmas.List.Sorted.{All-permutation, Contains-permutation, length_permutation}
 use Rattle.std.proofs.lemmas.Option.{slice_get_within, slice_get_past}
 use Rattle.std.specs.Prelude.{All}
@@ -13,8 +13,8 @@ use Rattle.graph_store.proofs.ListLemmas.{slice_get-push}
 use Rattle.special_dist.specs.declared.quest.Quest.{Quest}
 use Rattle.special_dist.specs.declared.quest.Visit.{Visit}
 use Rattle.special_dist.specs.declared.search.Search.{Search}
-use Rattle.special_dist.specs.Visits.{AreVisits, ComesFrom, IsVisit}
-use Rattle.special_dist.specs.Searching.{IsFollowed, IsReached, IsSearch, IsSpread, LeadsOn, Waits, paid_at, paid_by, waiting, weight}
+use Rattle.special_dist.specs.Visits.{AreVisits, IsVisit}
+use Rattle.special_dist.specs.Searching.{IsFollowed, IsReached, IsSearch, IsSpread, Waits, paid_at, paid_by, waiting, weight}
 use Rattle.special_dist.specs.Steps.{Adds, Keeps}
 
 -- the first of a list is one of it, and so are the others

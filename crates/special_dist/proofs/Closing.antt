@@ -1,16 +1,16 @@
 -- Where nobody waits and the other end isn't reached, no walk leads there.
-use Rattle.std.proofs.Common.{◌≡◌, ℕ, ◌+◌, ◌<◌, ◌≤◌, Bool, true, false, cond, List, [], ◌∷◌, length, Contains, Option, Some, None, IsSome, unwrap_or, refl, sym, ap, subst, ◌∙◌, arith, ◌⊎◌, inl, inr}
+use Rattle.std.proofs.Common.{◌≡◌, ℕ, ◌+◌, ◌≤◌, Bool, true, false, cond, List, [], ◌∷◌, Option, Some, None, IsSome, unwrap_or, refl, sym, ap, subst, arith, inl, inr}
 use Rattle.std.specs.Prelude.{OnSome}
 use Rattle.st_model.specs.Network.{Network, IsInstance, IsVertex, link, is_required}
 use Rattle.st_model.proofs.Links.{linked_in_range}
 use Rattle.st_model.specs.Arborescence.{arc_cost}
-use Rattle.lift_back.specs.Detours.{IsDetour, MayGo}
+use Rattle.lift_back.specs.Detours.{MayGo}
 use Rattle.lift_back.proofs.Walking.{GoesOn, detour_goes, first_goes, last_goes}
 use Rattle.special_dist.specs.declared.quest.Quest.{Quest}
 use Rattle.special_dist.specs.declared.search.Search.{Search}
 use Rattle.special_dist.specs.Answers.{HasNoDetour}
-use Rattle.special_dist.specs.Visits.{IsQuest, paid_after}
-use Rattle.special_dist.specs.Searching.{IsFollowed, IsReached, IsSearch, LeadsOn, paid_at}
+use Rattle.special_dist.specs.Visits.{IsQuest}
+use Rattle.special_dist.specs.Searching.{IsFollowed, IsReached, IsSearch}
 
 -- the quest's limit is what its link costs
 pub limit_is : (I : Network) (q : Quest) → IsQuest I q → q.limit ≡ arc_cost I (q.a, q.b)

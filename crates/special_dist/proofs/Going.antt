@@ -1,6 +1,6 @@
 -- A visit is gone on from over one half.
-use Rattle.std.proofs.Common.{◌≡◌, ◌≢◌, ℕ, ◌+◌, ◌^◌, ◌<◌, ◌≤◌, Bool, true, false, cond, not, eqb, List, [], ◌∷◌, ◌++◌, length, get_or, slice_get, Option, Some, None, IsSome, unwrap_or, refl, sym, ap, subst, ◌∙◌, arith, ◌⊎◌, inl, inr}
-use Rattle.std.specs.Prelude.{All, IsFalse}
+use Rattle.std.proofs.Common.{◌≡◌, ◌≢◌, ℕ, ◌+◌, ◌^◌, ◌<◌, ◌≤◌, Bool, true, false, cond, not, eqb, List, [], ◌∷◌, length, get_or, slice_get, Option, Some, IsSome, unwrap_or, refl, sym, ap, subst, ◌∙◌, arith, inl, inr}
+use Rattle.std.specs.Prelude.{IsFalse}
 use Rattle.std.proofs.lemmas.List.Elements.{All-nil, All-cons}
 use Rattle.std.proofs.lemmas.Bool.Decides.{nat_tests}
 use Rattle.std.proofs.lemmas.Option.{slice_get_within, slice_get-get_or}
@@ -15,7 +15,7 @@ use Rattle.special_dist.specs.declared.quest.Visit.{Visit}
 use Rattle.special_dist.specs.declared.search.Search.{Search}
 use Rattle.special_dist.specs.Visits.{GoesTo, IsVisit, paid_after}
 use Rattle.special_dist.specs.Searching.{IsFollowed, IsReached, LeadsOn}
-use Rattle.special_dist.specs.Steps.{Adds, HasGone, Visits}
+use Rattle.special_dist.specs.Steps.{HasGone, Visits}
 use Rattle.special_dist.proofs.Adding.{adds_keeps, adds_reached, adds_search, adds_weight}
 
 -- what holds where a test says yes, or no

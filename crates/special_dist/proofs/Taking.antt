@@ -1,16 +1,15 @@
 -- A visit is gone on from over all halves of its vertex, so it need not wait any more.
-use Rattle.std.proofs.Common.{◌≡◌, ◌≢◌, ℕ, ◌+◌, ◌<◌, ◌≤◌, Bool, true, false, List, [], ◌∷◌, ◌++◌, length, slice_get, Contains, Option, Some, None, IsPermutation, refl, sym, ap, subst, ◌∙◌, arith, ◌⊎◌, inl, inr}
-use Rattle.std.proofs.lemmas.List.Elements.{All-nil, All-cons, All-tail, All-weaker, All-append, All-contains}
+use Rattle.std.proofs.Common.{◌≡◌, ℕ, ◌+◌, ◌<◌, List, [], ◌∷◌, ◌++◌, length, slice_get, Option, Some, IsPermutation, sym, ap, subst, ◌∙◌, arith, inl, inr}
+use Rattle.std.proofs.lemmas.List.Elements.{All-nil, All-tail, All-weaker, All-append, All-contains}
 use Rattle.std.proofs.lemmas.List.Sorted.{All-permutation, Contains-permutation}
-use Rattle.std.specs.Prelude.{All}
-use Rattle.st_model.specs.Network.{Network, link}
+use Rattle.st_model.specs.Network.{Network}
 use Rattle.graph_store.specs.declared.half.Half.{Half}
 use Rattle.graph_store.specs.Neighbours.{AreNeighbours}
 use Rattle.special_dist.specs.declared.quest.Quest.{Quest}
 use Rattle.special_dist.specs.declared.quest.Visit.{Visit}
 use Rattle.special_dist.specs.declared.search.Search.{Search}
-use Rattle.special_dist.specs.Searching.{IsFollowed, IsSearch, IsSpread, LeadsOn, Waits, paid_at, waiting, weight}
-use Rattle.special_dist.specs.Steps.{HasGone, Keeps}
+use Rattle.special_dist.specs.Searching.{IsFollowed, IsSearch, IsSpread, LeadsOn, paid_at, waiting}
+use Rattle.special_dist.specs.Steps.{HasGone}
 use Rattle.special_dist.proofs.Adding.{contains_cases}
 
 -- those who wait may stand in any order

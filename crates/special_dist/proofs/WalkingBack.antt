@@ -1,17 +1,15 @@
 -- A walk is read back from the visit that it came to.
-use Rattle.std.proofs.Common.{◌≡◌, ◌≢◌, ℕ, ◌+◌, ◌<◌, ◌≤◌, Bool, true, false, cond, List, [], ◌∷◌, ◌++◌, length, reverse, get_or, slice_get, Option, Some, None, IsSome, refl, sym, ap, subst, ◌∙◌, arith, ◌⊎◌, inl, inr}
-use Rattle.std.specs.Prelude.{IsFalse, IsTrue}
+use Rattle.std.proofs.Common.{◌≡◌, ◌≢◌, ℕ, ◌<◌, ◌≤◌, true, List, [], ◌∷◌, slice_get, Option, Some, IsSome, refl, sym, ap, subst, ◌∙◌, arith, inl, inr}
+use Rattle.std.specs.Prelude.{IsFalse}
 use Rattle.std.proofs.lemmas.Bool.Decides.{nat_tests}
-use Rattle.std.proofs.lemmas.Option.{slice_get-get_or, slice_get_within}
-use Rattle.st_model.specs.Network.{Network, link, is_required}
-use Rattle.st_model.specs.Arborescence.{arc_cost}
+use Rattle.st_model.specs.Network.{Network}
 use Rattle.st_model.specs.Made.{is_between}
-use Rattle.lift_back.specs.Detours.{IsDetour, MayGo}
+use Rattle.lift_back.specs.Detours.{IsDetour}
 use Rattle.lift_back.proofs.Walking.{GoesOn, goes_detour, goes_first, goes_last}
 use Rattle.special_dist.specs.declared.quest.Quest.{Quest}
 use Rattle.special_dist.specs.declared.quest.Visit.{Visit}
 use Rattle.special_dist.specs.Answers.{IsReachedFrom}
-use Rattle.special_dist.specs.Visits.{AreVisits, IsQuest, GoesTo, ComesFrom, IsFirst}
+use Rattle.special_dist.specs.Visits.{AreVisits, IsQuest}
 use Rattle.special_dist.proofs.Closing.{limit_is}
 
 -- from the visit at a place, these vertices lead on to the link's other end

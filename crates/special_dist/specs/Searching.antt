@@ -1,9 +1,9 @@
 -- What a search for a detour keeps: who was reached, at what, and from where it still has to go on.
-use Rattle.std.specs.Prelude.{◌≡◌, ◌≢◌, ℕ, ◌+◌, ◌*◌, ◌-◌, ◌^◌, ◌<◌, ◌≤◌, ◌⊎◌, ◌==◌, if◌then◌else◌, IsFalse, List, All, Contains, length, map, slice_get, slice_index_or, unwrap_or, Option, Some, None}
+use Rattle.std.specs.Prelude.{◌≡◌, ◌≢◌, ℕ, ◌+◌, ◌*◌, ◌^◌, ◌<◌, ◌≤◌, ◌⊎◌, ◌==◌, if◌then◌else◌, IsFalse, List, All, Contains, length, map, slice_get, slice_index_or, unwrap_or, Option, Some, None}
 use Rattle.std.specs.BinaryHeap.{heap_items}
 use Rattle.st_model.specs.Lists.{sum_to}
 use Rattle.st_model.specs.Made.{is_between}
-use Rattle.st_model.specs.Network.{Network, IsVertex, link}
+use Rattle.st_model.specs.Network.{Network, link}
 use Rattle.special_dist.specs.declared.quest.Quest.{Quest}
 use Rattle.special_dist.specs.declared.quest.Visit.{Visit}
 use Rattle.special_dist.specs.declared.search.Search.{Search}

@@ -1,11 +1,10 @@
 -- The steps of a search: what each does to it.
 use Rattle.std.specs.Prelude.{◌≡◌, ℕ, ◌+◌, ◌<◌, ◌≤◌, ◌⊎◌, ◌==◌, if◌then◌else◌, List, [], ◌∷◌, ◌++◌, All, IsPermutation, length, slice_get, Some}
-use Rattle.st_model.specs.Network.{Network, IsVertex, link}
+use Rattle.st_model.specs.Network.{Network}
 use Rattle.graph_store.specs.declared.half.Half.{Half}
 use Rattle.special_dist.specs.declared.quest.Quest.{Quest}
 use Rattle.special_dist.specs.declared.quest.Visit.{Visit}
 use Rattle.special_dist.specs.declared.search.Search.{Search}
-use Rattle.special_dist.specs.Visits.{GoesTo}
 use Rattle.special_dist.specs.Searching.{IsReached, IsSearch, IsFollowed, LeadsOn, paid_at, waiting, weight}
 
 -- the visit stands last, and waits

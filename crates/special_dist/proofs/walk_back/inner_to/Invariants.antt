@@ -1,4 +1,4 @@
-use Rattle.std.proofs.Common.{ℕ, ◌<◌, List, length, reverse}
+use Rattle.std.proofs.Common.{◌<◌, length, reverse}
 use Rattle.st_model.specs.Network.{Network}
 use Rattle.special_dist.specs.declared.quest.Quest.{Quest}
 use Rattle.special_dist.specs.Answers.{IsReachedFrom}

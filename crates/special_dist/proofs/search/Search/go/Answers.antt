@@ -1,5 +1,4 @@
 use Rattle.std.proofs.Common.{refl, ap}
-use Rattle.special_dist.specs.declared.quest.Visit.{Visit}
 use Rattle.special_dist.proofs.Going.{gone_one}
 use Rattle.special_dist.proofs.search.Search.go.Goals as goal
 

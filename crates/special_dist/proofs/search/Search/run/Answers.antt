@@ -1,5 +1,5 @@
-use Rattle.std.proofs.Common.{refl, sym, subst, ◌∙◌, List, ℕ, arith}
-use Rattle.special_dist.specs.Searching.{IsSearch, waiting}
+use Rattle.std.proofs.Common.{refl, subst, arith}
+use Rattle.special_dist.specs.Searching.{IsSearch}
 use Rattle.special_dist.proofs.Closing.{ends_are_vertices, no_detour}
 use Rattle.special_dist.proofs.search.Search.run.Goals as goal
 

@@ -1,4 +1,4 @@
-use Rattle.std.proofs.Common.{◌≡◌, ◌∷◌, [], List, get_or, take, slice_get, Some, refl, sym, ap, subst, ◌∙◌, arith}
+use Rattle.std.proofs.Common.{List, get_or, take, sym, subst, ◌∙◌, arith}
 use Rattle.std.proofs.lemmas.List.{take_more, take_all}
 use Rattle.std.proofs.lemmas.List.Elements.{Contains-get_or}
 use Rattle.graph_store.specs.declared.half.Half.{Half}
@@ -7,7 +7,7 @@ use Rattle.special_dist.specs.Answers.{IsReachedFrom}
 use Rattle.special_dist.specs.Searching.{waiting}
 use Rattle.special_dist.specs.Steps.{HasGone}
 use Rattle.special_dist.proofs.Going.{not_other, on_false, on_true, visit_there}
-use Rattle.special_dist.proofs.Taking.{gone_none, gone_more, gone_all, taken}
+use Rattle.special_dist.proofs.Taking.{gone_more, gone_all, taken}
 use Rattle.special_dist.proofs.search.Search.spread.Goals as goal
 
 nothing : Half

@@ -1,4 +1,4 @@
-use Rattle.std.proofs.Common.{rules, ◌≡◌, ℕ, ◌∷◌, length, map, inr, subst, sym, ap, ◌∙◌, List, get_or, set, slice_get, cond, eqb, Some, IsPermutation}
+use Rattle.std.proofs.Common.{rules, ◌≡◌, ℕ, ◌∷◌, length, map, inr, subst, ap, ◌∙◌, List, get_or, set, slice_get, IsPermutation}
 use Rattle.std.proofs.lemmas.List.Sorted.{IsPermutation-map}
 use Rattle.std.specs.BinaryHeap.{heap_items}
 use Rattle.std.specs.declared.cmp.Reverse.{Reverse}

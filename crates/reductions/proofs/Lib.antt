@@ -1,0 +1,7 @@
+pub mod Reversing
+pub mod Mirroring
+pub mod Shrinking
+pub mod Untouched
+pub mod Stepping
+pub mod Passing
+pub mod Starting

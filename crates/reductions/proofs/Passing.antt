@@ -1,0 +1,98 @@
+-- A pass over all links, each of which is dropped where a detour is found.
+use Rattle.std.proofs.Common.{◌≡◌, ℕ, ◌<◌, Bool, true, false, ◌||◌, cond, Result, Ok, Err, IfOk, OnOk, List, [], ◌∷◌, ◌++◌, reverse, Option, Some, None, IsSome, refl, sym, subst, ◌∙◌, arith, ◌⊎◌, inl, inr}
+use Rattle.std.specs.Prelude.{All}
+use Rattle.std.specs.List.{AllByRecursion}
+use Rattle.std.specs.Bool.{OnTrue, OnFalse}
+use Rattle.std.proofs.lemmas.List.Elements.{All-nil, All-push, recursion_from_All}
+use Rattle.st_model.specs.declared.link.Link.{Link}
+use Rattle.st_model.specs.Network.{Network, IsVertex, joins, link}
+use Rattle.st_model.proofs.Distinct.{joins-ends}
+use Rattle.graph_store.specs.Graph.{Graph}
+use Rattle.lift_back.specs.Detours.{IsDetour}
+use Rattle.lift_back.specs.State.{State, IsState}
+use Rattle.special_dist.specs.Answers.{HasNoDetour}
+use Rattle.reductions.specs.declared.work.Work.{Work}
+use Rattle.reductions.specs.Results.{HasNoDetourStep}
+use Rattle.reductions.specs.Sizes.{size}
+use Rattle.reductions.specs.Working.{Mirrors}
+use Rattle.reductions.proofs.Mirroring.{same_detour}
+use Rattle.reductions.proofs.Reversing.{turned_detour}
+use Rattle.reductions.proofs.Stepping.{linked_vertices}
+
+-- where none of the links has a detour from its lower end on, none has any
+pub no_detours : (I : Network) → All (λ l. HasNoDetour I l.a l.b) I.links → (a b : ℕ) (inner : List ℕ) → IsDetour I a b inner → ⊥
+no_detours I all a b inner detour = among I.links (recursion_from_All (λ l. HasNoDetour I l.a l.b) I.links all) detour.linked
+  where
+    among : (ls : List Link) → AllByRecursion (λ l. HasNoDetour I l.a l.b) ls → IsSome (link ls a b) → ⊥
+    among [] all linked = absurd cc
+    among (l ∷ ls) all linked = by_pair (joins l a b) refl linked (among ls all.1)
+      where
+        ends_are : ((l.a ≡ a) × (l.b ≡ b)) ⊎ ((l.a ≡ b) × (l.b ≡ a)) → ⊥
+        ends_are (inl same) = all.0 inner (subst (λ (p : ℕ × ℕ). IsDetour I p.0 p.1 inner) (λ j. (sym same.0 j, sym same.1 j)) detour)
+        ends_are (inr turned) = all.0 (reverse inner) (subst (λ (p : ℕ × ℕ). IsDetour I p.0 p.1 (reverse inner)) (λ j. (sym turned.0 j, sym turned.1 j)) (turned_detour I a b inner detour))
+
+        by_pair : (p : Bool) → joins l a b ≡ p → IsSome (cond p (Some l.cost) (link ls a b)) → (IsSome (link ls a b) → ⊥) → ⊥
+        by_pair true is there later = ends_are (joins-ends l a b is)
+        by_pair false is there later = later there
+
+-- where two are not linked there is no detour
+pub none_unlinked : (I : Network) (a b : ℕ) → link I.links a b ≡ None → HasNoDetour I a b
+none_unlinked I a b none inner detour = absurd (let there : IsSome {T = ℕ} None = subst (λ (o : Option ℕ). IsSome o) none detour.linked in cc)
+
+-- what the graph says of detours holds of what is left, and the other way round
+pub none_mirrored : (s : State) (g : Graph) (a b : ℕ) → Mirrors s g → HasNoDetour g.network a b → HasNoDetour s.instance a b
+none_mirrored s g a b mirrors none inner detour = none inner (same_detour s.instance g.network a b inner mirrors.links mirrors.needs detour)
+
+pub detour_mirrored : (s : State) (g : Graph) (a b : ℕ) (inner : List ℕ) → Mirrors s g → IsDetour g.network a b inner → IsDetour s.instance a b inner
+detour_mirrored s g a b inner mirrors detour = same_detour g.network s.instance a b inner (λ u w. sym (mirrors.links u w)) (λ v. sym (mirrors.needs v)) detour
+
+-- what a pass over some links has done
+pub record HasPassed (init now : Work) (any : Bool) (most : Option ℕ) (links : List Link) : Type 0 where
+  pub some : OnTrue any (size now.reduced.state < size init.reduced.state)
+  pub none : OnFalse any ((now ≡ init) × (most ≡ None → All (λ l. HasNoDetour init.reduced.state.instance l.a l.b) links))
+
+pub passed_none : (init : Work) (most : Option ℕ) → HasPassed init init false most []
+passed_none init most = record { some = tt; none = (refl, (λ is. All-nil (λ l. HasNoDetour init.reduced.state.instance l.a l.b))) }
+
+pub passed_dropped : (init old new : Work) (any : Bool) (most : Option ℕ) (links more : List Link) → size new.reduced.state < size old.reduced.state → HasPassed init old any most links → HasPassed init new true most more
+passed_dropped init old new true most links more less passed = record { some = (let before = passed.some in omega arith); none = tt }
+passed_dropped init old new false most links more less passed = record { some = subst (λ (w : Work). size new.reduced.state < size w.reduced.state) passed.none.0 less; none = tt }
+
+pub passed_kept : (init old new : Work) (any : Bool) (most : Option ℕ) (links : List Link) (l : Link) → new ≡ old → (most ≡ None → HasNoDetour old.reduced.state.instance l.a l.b) → HasPassed init old any most links → HasPassed init new any most (links ++ l ∷ [])
+passed_kept init old new true most links l same without passed = record { some = subst (λ (w : Work). size w.reduced.state < size init.reduced.state) (sym same) passed.some; none = tt }
+passed_kept init old new false most links l same without passed = record {
+  some = tt;
+  none = (same ∙ passed.none.0, λ is. All-push (λ l. HasNoDetour init.reduced.state.instance l.a l.b) links l (passed.none.1 is) (subst (λ (w : Work). HasNoDetour w.reduced.state.instance l.a l.b) passed.none.0 (without is)));
+}
+
+-- a link was tried
+pub passed_step : (init old new : Work) (any dropped : Bool) (most : Option ℕ) (links : List Link) (l : Link) → OnTrue dropped (size new.reduced.state < size old.reduced.state) → OnFalse dropped ((new ≡ old) × (most ≡ None → HasNoDetour old.reduced.state.instance l.a l.b)) → HasPassed init old any most links → HasPassed init new (any || dropped) most (links ++ l ∷ [])
+passed_step init old new true true most links l less kept passed = passed_dropped init old new true most links (links ++ l ∷ []) less passed
+passed_step init old new false true most links l less kept passed = passed_dropped init old new false most links (links ++ l ∷ []) less passed
+passed_step init old new true false most links l less kept passed = passed_kept init old new true most links l kept.0 kept.1 passed
+passed_step init old new false false most links l less kept passed = passed_kept init old new false most links l kept.0 kept.1 passed
+
+-- all links were tried
+pub passed_all : (init now : Work) (any : Bool) (most : Option ℕ) (links : List Link) → links ≡ init.reduced.state.instance.links → HasPassed init now any most links → OnFalse any ((now ≡ init) × (most ≡ None → HasNoDetourStep now.reduced.state))
+passed_all init now true most links are passed = tt
+passed_all init now false most links are passed = (
+  passed.none.0,
+  λ is a b inner detour.
+      no_detours init.reduced.state.instance (subst (All (λ l. HasNoDetour init.reduced.state.instance l.a l.b)) are (passed.none.1 is)) a b inner
+      (subst (λ (w : Work). IsDetour w.reduced.state.instance a b inner) passed.none.0 detour),
+)
+
+-- a link for which a detour is found is one between vertices
+pub detour_ends : (s : State) (g : Graph) (a b : ℕ) (inner : List ℕ) → IsState s → Mirrors s g → IsDetour g.network a b inner → IsVertex g.network.n a × IsVertex g.network.n b
+detour_ends s g a b inner is mirrors detour = subst (λ (n : ℕ). IsVertex n a × IsVertex n b) (sym mirrors.count) (linked_vertices s.instance a b is.instance (detour_mirrored s g a b inner mirrors detour).linked)
+
+-- where something is surely dropped, nothing is said of the other case
+pub surely_dropped : {E : Type 0} (P : Type 0) (r : Result Bool E) → IfOk r (λ dropped. dropped ≡ true) → IfOk r (λ dropped. OnFalse dropped P)
+surely_dropped P (Ok true) is = tt
+surely_dropped P (Ok false) is = absurd cc
+surely_dropped P (Err e) is = tt
+
+pub if_dropped : {E : Type 0} (P : Type 0) (r : Result Bool E) → OnOk r P → IfOk r (λ dropped. OnTrue dropped P)
+if_dropped P (Ok true) holds = holds
+if_dropped P (Ok false) holds = tt
+if_dropped P (Err e) holds = tt

@@ -1,0 +1,13 @@
+use Rattle.std.proofs.Common.{◌≡◌, take}
+use Rattle.reductions.specs.Working.{IsWork, Mirrors}
+use Rattle.reductions.proofs.Passing.{HasPassed}
+use Rattle.reductions.proofs.work.Work.pass.Given as goal
+
+abbrev pub invariant-loop-link : goal.invariant-loop-link
+invariant-loop-link l = record {
+  work : IsWork l.self l.self.queue.items;
+  mirrors : Mirrors l.self.reduced.state l.store;
+  first : l.self.reduced.first ≡ l.initial.self.reduced.first;
+  finder : l.finder ≡ l.initial.finder;
+  passed : HasPassed l.initial.self l.self l.any l.most (take l.link-index l.link-items);
+}

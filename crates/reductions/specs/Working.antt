@@ -1,0 +1,62 @@
+-- An instance under reduction, with the steps so far and the vertices at which steps are to be tried.
+use Rattle.std.specs.Prelude.{◌≡◌, ℕ, ◌+◌, ◌*◌, IsFalse, List, [], ◌∷◌, ◌++◌, All, length}
+use Rattle.st_model.specs.Lists.{has}
+use Rattle.st_model.specs.Network.{IsVertex, link, need_of}
+use Rattle.graph_store.specs.Graph.{Graph}
+use Rattle.lift_back.specs.declared.step.Step.{Step}
+use Rattle.lift_back.specs.declared.step.Step.TheVariants.{Pendant, Through, Forced, Detour}
+use Rattle.lift_back.specs.declared.ends.Ends.{Ends}
+use Rattle.lift_back.specs.declared.ends.Ends.TheVariants.{Nobody, One, Two, More}
+use Rattle.lift_back.specs.State.{State, IsState, whole}
+use Rattle.lift_back.specs.Steps.{Applies, Takes}
+use Rattle.reductions.specs.declared.work.Work.{Work}
+use Rattle.reductions.specs.Results.{HasNoStepAt}
+use Rattle.reductions.specs.Sizes.{size}
+
+-- what holds where steps are to be tried at these vertices alone
+pub record IsWork (w : Work) (queued : List ℕ) : Type 0 where
+  pub count : w.reduced.state.instance.n ≡ w.reduced.first.n
+  pub applies : Applies w.steps.items (whole w.reduced.first) w.reduced.state
+  pub state : IsState w.reduced.state
+  pub vertices : All (IsVertex w.reduced.state.instance.n) queued
+  pub tried : (v : ℕ) → IsFalse (has queued v) → HasNoStepAt w.reduced.state v
+
+-- and where nobody is left to be tried
+pub record IsSettled (w : Work) : Type 0 where
+  pub work : IsWork w w.queue.items
+  pub done : w.queue.items ≡ []
+
+-- the step makes v go
+abbrev pub IsOf : ℕ → Step → Type 0
+IsOf v (Pendant w) = w ≡ v
+IsOf v (Through w) = w ≡ v
+IsOf v (Forced w) = w ≡ v
+IsOf v (Detour a b inner) = ⊥
+
+-- where the links lead, if they are two at most
+abbrev pub row_of : Ends → List ℕ
+row_of Nobody = []
+row_of (One u) = u ∷ []
+row_of (Two a b) = a ∷ b ∷ []
+row_of More = []
+
+-- a step was taken, and told
+pub record TookStep (old new : Work) (step : Step) : Type 0 where
+  pub takes : Takes step old.reduced.state new.reduced.state
+  pub told : new.steps.items ≡ old.steps.items ++ step ∷ []
+
+-- v went by a step
+pub record Went (old new : Work) (v : ℕ) : Type 0 where
+  pub step : Step
+  pub of : IsOf v step
+  pub took : TookStep old new step
+
+-- how much is still to be done
+abbrev pub load : Work → ℕ
+load w = 3 * size w.reduced.state + length w.queue.items
+
+-- the graph is what is left, but for the order of its links
+pub record Mirrors (s : State) (g : Graph) : Type 0 where
+  pub count : g.network.n ≡ s.instance.n
+  pub links : (u w : ℕ) → link g.network.links u w ≡ link s.instance.links u w
+  pub needs : (v : ℕ) → need_of g.network v ≡ need_of s.instance v

@@ -1,0 +1,221 @@
+ghost use Rattle.std.specs.Prelude.{◌≡◌, ℕ, ◌+◌, ◌<◌, ◌≤◌, ◌∷◌, ◌++◌, true, None, IfOk, OnOk, length};
+ghost use Rattle.std.specs.Bool.{OnTrue, OnFalse};
+ghost use Rattle.st_model.specs.Lists.{up_to};
+ghost use Rattle.lift_back.specs.Detours.{IsDetour};
+ghost use Rattle.lift_back.specs.State.{IsState};
+ghost use Rattle.lift_back.specs.Steps.{MayTake};
+ghost use Rattle.special_dist.specs.Answers.{HasNoDetour};
+ghost use Rattle.reductions.specs.Results.{HasNoDetourStep, HasNoStepAt};
+ghost use Rattle.reductions.specs.Sizes.{size};
+ghost use Rattle.reductions.specs.Working.{IsSettled, IsWork, Mirrors, TookStep, Went, load, row_of};
+
+use graph_store::Store;
+use lift_back::{ApplyError, Ends, Reduced, Step};
+use special_dist::{Finder, Found};
+use st_model::{Instance, Listed};
+use std::alloc::{AllocError, Global};
+
+// An instance under reduction.
+#[derive(Drop)]
+pub struct Work {
+    pub reduced: Reduced,
+    // The steps so far.
+    pub steps: Vec<Step>,
+    // The vertices whose links or needs changed since steps were tried there.
+    pub queue: Vec<u32>,
+}
+
+impl Work {
+    // All of an instance; no step was tried.
+    pub fn of(alloc: Global, instance: &Instance) -> Result<Work, AllocError>
+        ensures work { IfOk result (λ work. IsWork work work.queue.items) }
+        ensures first { IfOk result (λ work. work.reduced.first ≡ instance.now) }
+    {
+        Ok(Work {
+            reduced: Reduced::of(alloc, instance)?,
+            steps: Vec::new(alloc),
+            queue: all_vertices(alloc, instance.vertices())?,
+        })
+    }
+
+    // Takes steps by which a vertex goes, until there is none.
+    pub fn settle(&mut self) -> Result<(), AllocError>
+        requires { IsWork self.old self.old.queue.items }
+        ensures settled { OnOk result (IsSettled self.new) }
+        ensures size { OnOk result (size self.new.reduced.state ≤ size self.old.reduced.state) }
+        ensures first { self.new.reduced.first ≡ self.old.reduced.first }
+    {
+        while let Some(vertex) = self.queue.pop() {
+            self.settle_at(vertex)?;
+        }
+        Ok(())
+    }
+
+    // Takes a step by which a vertex goes, if there is one; what its links lead to is to be looked
+    // at then.
+    fn settle_at(&mut self, vertex: u32) -> Result<(), AllocError>
+        requires { IsWork self.old (vertex ∷ self.old.queue.items) }
+        ensures work { OnOk result (IsWork self.new self.new.queue.items) }
+        ensures size { OnOk result (size self.new.reduced.state ≤ size self.old.reduced.state) }
+        ensures load { OnOk result (load self.new ≤ load self.old) }
+        ensures first { self.new.reduced.first ≡ self.old.reduced.first }
+    {
+        let ends = self.reduced.ends(vertex);
+        if self.goes(vertex)? {
+            push_ends(&mut self.queue, ends)?;
+        }
+        Ok(())
+    }
+
+    // Takes a step by which a vertex goes, and answers whether there was one.
+    fn goes(&mut self, vertex: u32) -> Result<bool, AllocError>
+        ensures went { IfOk result (λ went. OnTrue went (Went self.old self.new vertex)) }
+        ensures stays { IfOk result (λ went. OnFalse went
+            (HasNoStepAt self.old.reduced.state vertex × (self.new ≡ self.old))) }
+        ensures state { IfOk result (λ went. OnTrue went (IsState self.new.reduced.state)) }
+        ensures first { self.new.reduced.first ≡ self.old.reduced.first }
+        ensures queue { self.new.queue ≡ self.old.queue }
+    {
+        if self.take(Step::Pendant(vertex))? {
+            return Ok(true);
+        }
+        if self.take(Step::Through(vertex))? {
+            return Ok(true);
+        }
+        if self.take(Step::Forced(vertex))? {
+            return Ok(true);
+        }
+        Ok(false)
+    }
+
+    // Takes a step, and answers whether it may be taken.
+    fn take(&mut self, step: Step) -> Result<bool, AllocError>
+        ensures took { IfOk result (λ taken. OnTrue taken (TookStep self.old self.new step)) }
+        ensures refused { IfOk result (λ taken. OnFalse taken
+            ((¬ MayTake step self.old.reduced.state) × (self.new ≡ self.old))) }
+        ensures state { IfOk result (λ taken. OnTrue taken (IsState self.new.reduced.state)) }
+        ensures first { self.new.reduced.first ≡ self.old.reduced.first }
+        ensures queue { self.new.queue ≡ self.old.queue }
+    {
+        match self.reduced.apply(&step) {
+            Ok(()) => {
+                self.steps.push(step)?;
+                Ok(true)
+            }
+            Err(ApplyError::StepFault) => Ok(false),
+            Err(ApplyError::NoMemory) => Err(AllocError),
+        }
+    }
+
+    // Looks for a detour for each link, and takes those that it finds. Answers whether it took any.
+    pub fn pass(
+        &mut self,
+        alloc: Global,
+        finder: &mut Finder,
+        most: Option<u32>,
+    ) -> Result<bool, AllocError>
+        requires work { IsWork self.old self.old.queue.items }
+        requires finder { finder.old ≡ self.old.reduced.first.n }
+        ensures work { OnOk result (IsWork self.new self.new.queue.items) }
+        ensures some { IfOk result (λ any. OnTrue any (size self.new.reduced.state < size self.old.reduced.state)) }
+        ensures none { IfOk result (λ any. OnFalse any
+            ((self.new ≡ self.old) × (most ≡ None → HasNoDetourStep self.new.reduced.state))) }
+        ensures first { self.new.reduced.first ≡ self.old.reduced.first }
+        ensures finder { finder.new ≡ finder.old }
+    {
+        let instance = self.reduced.instance(alloc)?;
+        let mut store = Store::of(alloc, &instance)?;
+        let mut any = false;
+        for link in instance.links() {
+            let dropped = self.drops(alloc, finder, &mut store, link.a, link.b, most)?;
+            any = any | dropped;
+        }
+        Ok(any)
+    }
+
+    // Takes a detour for a link, and answers whether one was found.
+    fn drops(
+        &mut self,
+        alloc: Global,
+        finder: &mut Finder,
+        store: &mut Store,
+        a: u32,
+        b: u32,
+        most: Option<u32>,
+    ) -> Result<bool, AllocError>
+        requires work { IsWork self.old self.old.queue.items }
+        requires mirrors { Mirrors self.old.reduced.state store.old }
+        requires finder { finder.old ≡ self.old.reduced.first.n }
+        ensures work { OnOk result (IsWork self.new self.new.queue.items) }
+        ensures mirrors { OnOk result (Mirrors self.new.reduced.state store.new) }
+        ensures some { IfOk result (λ dropped. OnTrue dropped
+            (size self.new.reduced.state < size self.old.reduced.state)) }
+        ensures none { IfOk result (λ dropped. OnFalse dropped
+            ((self.new ≡ self.old) × (most ≡ None → HasNoDetour self.old.reduced.state.instance a b))) }
+        ensures first { self.new.reduced.first ≡ self.old.reduced.first }
+        ensures finder { finder.new ≡ finder.old }
+    {
+        if store.link_cost(a, b).is_none() {
+            return Ok(false);
+        }
+        match finder.find(alloc, store, a, b, most)? {
+            Found::Detour(inner) => self.drop_link(store, a, b, Listed::of(inner)),
+            Found::Nothing => Ok(false),
+            Found::GaveUp => Ok(false),
+        }
+    }
+
+    // Takes a detour for a link. Its ends are to be looked at then.
+    fn drop_link(
+        &mut self,
+        store: &mut Store,
+        a: u32,
+        b: u32,
+        inner: Listed<u32>,
+    ) -> Result<bool, AllocError>
+        requires work { IsWork self.old self.old.queue.items }
+        requires mirrors { Mirrors self.old.reduced.state store.old }
+        requires detour { IsDetour store.old.network a b inner }
+        ensures work { OnOk result (IsWork self.new self.new.queue.items) }
+        ensures mirrors { OnOk result (Mirrors self.new.reduced.state store.new) }
+        ensures dropped { IfOk result (λ dropped. dropped ≡ true) }
+        ensures less { OnOk result (size self.new.reduced.state < size self.old.reduced.state) }
+        ensures first { self.new.reduced.first ≡ self.old.reduced.first }
+    {
+        if !self.take(Step::Detour { a, b, inner })? {
+            return Ok(false);
+        }
+        store.remove_link(a, b);
+        push_ends(&mut self.queue, Ends::Two(a, b))?;
+        Ok(true)
+    }
+}
+
+// Puts where links lead behind the others, if there are two at most.
+fn push_ends(queue: &mut Vec<u32>, ends: Ends) -> Result<(), AllocError>
+    ensures { OnOk result (queue.new.items ≡ queue.old.items ++ row_of ends) }
+{
+    match ends {
+        Ends::One(u) => {
+            queue.push(u)?;
+            Ok(())
+        }
+        Ends::Two(a, b) => {
+            queue.push(a)?;
+            queue.push(b)?;
+            Ok(())
+        }
+        Ends::Nobody | Ends::More => Ok(()),
+    }
+}
+
+// All vertices up to a number.
+fn all_vertices(alloc: Global, vertices: u32) -> Result<Vec<u32>, AllocError>
+    ensures { IfOk result (λ all. all.items ≡ up_to vertices) }
+{
+    let mut all = Vec::new(alloc);
+    for before in 0..vertices {
+        all.push(before + 1)?;
+    }
+    Ok(all)
+}
