@@ -7,10 +7,10 @@ ghost use Rattle.lift_back.specs.Ends.{HasEnds};
 ghost use Rattle.st_model.specs.Network.{IsVertex};
 ghost use Rattle.lift_back.specs.declared.reduced.ApplyError.TheVariants.{NoMemory};
 
-use crate::{Ends, Step};
 use crate::lifting::lifted;
 use crate::rest::Rest;
 use crate::undo::Undo;
+use crate::{Ends, Step};
 use st_model::{Instance, Listed, Tree};
 use std::alloc::{AllocError, Global};
 use std::error::Error;
