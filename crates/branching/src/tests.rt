@@ -42,90 +42,142 @@ fn split(
     }
 }
 
-// Only the centre may be left out.
+// Where a node splits, if anywhere.
+fn vertex_of(alloc: Global, instance: &Instance, node: Node) -> Result<Option<u32>, AllocError>
+    requires { IsNode instance.now node }
+{
+    Ok(split(alloc, instance, node)?.map(|halves| halves.0))
+}
+
+// Whether a node has this number and this branch.
+fn is_node(node: &Node, id: u64, inside: &[u32], outside: &[u32]) -> bool {
+    node.id == id
+        && node.branch.inside.as_slice() == inside
+        && node.branch.outside.as_slice() == outside
+}
+
+// Whether only the centre of the triangle may be left out.
+fn splits_at_the_centre(alloc: Global) -> Result<bool, AllocError> {
+    let instance = triangle_with_centre(alloc, 4)?;
+    let node = root(alloc, &instance);
+    let Some((vertex, inside, outside)) = split(alloc, &instance, node)? else {
+        return Ok(false);
+    };
+    let right = vertex == 4 && is_node(&inside, 1, &[4], &[]) && is_node(&outside, 2, &[], &[4]);
+    let within = vertex_of(alloc, &instance, inside)?;
+    let without = vertex_of(alloc, &instance, outside)?;
+    Ok(right && within.is_none() && without.is_none())
+}
+
 #[test]
 fn the_triangle_splits_at_its_centre(rt: HostRuntime) -> Result<(), Fail> {
-    let instance = triangle_with_centre(rt.alloc(), 4)?;
-    let node = root(rt.alloc(), &instance);
-    let (vertex, inside, outside) = split(rt.alloc(), &instance, node)?.ok_or("no split")?;
-    assert_eq!(rt; vertex, 4);
-    assert_eq!(rt; (inside.id, outside.id), (1, 2));
-    assert_eq!(rt; inside.branch.inside.as_slice(), [4].as_slice());
-    assert!(rt; inside.branch.outside.as_slice().is_empty());
-    assert_eq!(rt; outside.branch.outside.as_slice(), [4].as_slice());
-    assert!(rt; outside.branch.inside.as_slice().is_empty());
-    assert!(rt; split(rt.alloc(), &instance, inside)?.is_none());
-    assert!(rt; split(rt.alloc(), &instance, outside)?.is_none());
+    assert!(rt; splits_at_the_centre(rt.alloc())?);
     Ok(())
 }
 
-// Whoever pays most comes first, then the next; the required vertex never comes.
-#[test]
-fn the_dearest_prize_is_decided_first(rt: HostRuntime) -> Result<(), Fail> {
+// Prizes of 7, 9 and 8, and vertex 3, which is required.
+fn of_prizes(alloc: Global) -> Result<Instance, AllocError> {
     let needs = [
         (1, Need::Pays(7)),
         (2, Need::Pays(9)),
         (3, Need::Required),
         (4, Need::Pays(8)),
     ];
-    let instance = Instance::build(rt.alloc(), 4, &[link(1, 2, 3)], &needs)?;
-    let node = root(rt.alloc(), &instance);
-    let (vertex, inside, _) = split(rt.alloc(), &instance, node)?.ok_or("no split")?;
-    assert_eq!(rt; vertex, 2);
-    let (vertex, _, outside) = split(rt.alloc(), &instance, inside)?.ok_or("no split")?;
-    assert_eq!(rt; vertex, 4);
-    let (vertex, inside, _) = split(rt.alloc(), &instance, outside)?.ok_or("no split")?;
-    assert_eq!(rt; vertex, 1);
-    assert_eq!(rt; inside.branch.inside.as_slice(), [1, 2].as_slice());
-    assert_eq!(rt; inside.branch.outside.as_slice(), [4].as_slice());
-    assert!(rt; split(rt.alloc(), &instance, inside)?.is_none());
+    Instance::build(alloc, 4, &[link(1, 2, 3)], &needs)
+}
+
+// The halves, where the node splits at this vertex.
+fn halves_at(
+    alloc: Global,
+    instance: &Instance,
+    node: Node,
+    expected: u32,
+) -> Result<Option<(Node, Node)>, AllocError>
+    requires { IsNode instance.now node }
+    ensures { IfOk result (λ r. IfSome r (λ h. IsNode instance.now h.0 × IsNode instance.now h.1)) }
+{
+    match split(alloc, instance, node)? {
+        Some((vertex, inside, outside)) if vertex == expected => Ok(Some((inside, outside))),
+        _ => Ok(None),
+    }
+}
+
+// The node with 2 inside, 4 outside and 1 inside, where the vertices are split at in this order.
+fn decided(alloc: Global, instance: &Instance) -> Result<Option<Node>, AllocError>
+    ensures { IfOk result (λ r. IfSome r (IsNode instance.now)) }
+{
+    let node = root(alloc, instance);
+    let Some((inside, _)) = halves_at(alloc, instance, node, 2)? else {
+        return Ok(None);
+    };
+    let Some((_, outside)) = halves_at(alloc, instance, inside, 4)? else {
+        return Ok(None);
+    };
+    let Some((inside, _)) = halves_at(alloc, instance, outside, 1)? else {
+        return Ok(None);
+    };
+    Ok(Some(inside))
+}
+
+// Whoever pays most comes first, then the next; the required vertex never comes.
+#[test]
+fn the_dearest_prize_is_decided_first(rt: HostRuntime) -> Result<(), Fail> {
+    let instance = of_prizes(rt.alloc())?;
+    let node = decided(rt.alloc(), &instance)?.ok_or("another order")?;
+    assert!(rt; is_node(&node, 1, &[1, 2], &[4]));
+    assert_eq!(rt; vertex_of(rt.alloc(), &instance, node)?, None);
     Ok(())
 }
 
-fn cut(alloc: Global, set: &[u32], q: u32, y: u64) -> Result<Cut, AllocError> {
-    let set = Listed::of(Vec::from_slice(alloc, set)?);
-    Ok(Cut { set, q, y })
+// The sets of some cuts, the vertices that they name, and their values.
+const CUTS: [(&[u32], u32, u64); 4] = [
+    (&[4], 4, 1),
+    (&[2, 4], 2, 5),
+    (&[3, 4], 4, 2),
+    (&[3], 3, 6),
+];
+
+fn cuts(alloc: Global) -> Result<Vec<Cut>, AllocError> {
+    let mut cuts = Vec::new(alloc);
+    for (set, q, y) in CUTS {
+        let set = Listed::of(Vec::from_slice(alloc, set)?);
+        cuts.push(Cut { set, q, y })?;
+    }
+    Ok(cuts)
 }
 
-// The vertices that a node's cuts name.
-fn named(alloc: Global, node: &Node) -> Result<Vec<u32>, AllocError> {
+// A node with 7 inside.
+fn with_cuts(alloc: Global) -> Result<Node, AllocError> {
+    let packing = Packing {
+        root: Some(1),
+        cuts: Listed::of(cuts(alloc)?),
+    };
+    let branch = Branch::all(alloc).with_inside(alloc, 7)?;
+    Ok(Node {
+        id: 9,
+        branch,
+        packing,
+    })
+}
+
+// Whether a node's packing has the root 1, and its cuts name these vertices.
+fn names(alloc: Global, node: &Node, named: &[u32]) -> Result<bool, AllocError> {
     let cuts = node.packing.cuts.as_slice();
-    cuts.iter().map(|cut| cut.q).collect(alloc)
+    let all: Vec<u32> = cuts.iter().map(|cut| cut.q).collect(alloc)?;
+    Ok(node.packing.root == Some(1) && all.as_slice() == named)
 }
 
 // Where 4 is outside the cuts that name it go, and the others stay in their order.
 #[test]
 fn the_half_outside_loses_the_cuts_of_its_vertex(rt: HostRuntime) -> Result<(), Fail> {
-    let alloc = rt.alloc();
-    let cuts = vec![in alloc;
-        cut(alloc, &[4], 4, 1)?,
-        cut(alloc, &[2, 4], 2, 5)?,
-        cut(alloc, &[3, 4], 4, 2)?,
-        cut(alloc, &[3], 3, 6)?,
-    ]?;
-    let packing = Packing {
-        root: Some(1),
-        cuts: Listed::of(cuts),
-    };
-    let branch = Branch::all(alloc).with_inside(alloc, 7)?;
-    let node = Node {
-        id: 9,
-        branch,
-        packing,
-    };
-    let Ok((inside, outside)) = halves(alloc, node, 4, 20, 30) else {
+    let node = with_cuts(rt.alloc())?;
+    let Ok((inside, outside)) = halves(rt.alloc(), node, 4, 20, 30) else {
         return Err("no memory".into());
     };
-    assert_eq!(rt; (inside.id, outside.id), (20, 30));
-    assert_eq!(rt; inside.branch.inside.as_slice(), [4, 7].as_slice());
-    assert_eq!(rt; outside.branch.inside.as_slice(), [7].as_slice());
-    assert_eq!(rt;
-        (inside.packing.root, outside.packing.root),
-        (Some(1), Some(1))
-    );
-    let (kept, left) = (named(alloc, &inside)?, named(alloc, &outside)?);
-    assert_eq!(rt; kept.as_slice(), [4, 2, 4, 3].as_slice());
-    assert_eq!(rt; left.as_slice(), [2, 3].as_slice());
+    assert!(rt; is_node(&inside, 20, &[4, 7], &[]));
+    assert!(rt; is_node(&outside, 30, &[7], &[4]));
+    assert!(rt; names(rt.alloc(), &inside, &[4, 2, 4, 3])?);
+    assert!(rt; names(rt.alloc(), &outside, &[2, 3])?);
     Ok(())
 }
 
@@ -142,13 +194,6 @@ fn is_a_right_choice(instance: &Instance, decided: &[u32], chosen: Option<u32>) 
         Some(chosen) => may(chosen)
             && !(1..7).any(|v| may(v) && instance.prize(v) > instance.prize(chosen)),
     }
-}
-
-// Where a node splits, if anywhere.
-fn vertex_of(alloc: Global, instance: &Instance, node: Node) -> Result<Option<u32>, AllocError>
-    requires { IsNode instance.now node }
-{
-    Ok(split(alloc, instance, node)?.map(|halves| halves.0))
 }
 
 // Whether the first choice is right, and that of each half.
