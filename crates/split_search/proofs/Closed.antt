@@ -1,19 +1,19 @@
 -- What closes a node with nothing left to decide.
-use Rattle.std.proofs.Common.{◌≡◌, ℕ, zero, suc, ◌^◌, ◌<◌, ◌≤◌, Bool, true, false, cond, not, ◌⊎◌, inl, inr, Option, Some, None, length, refl, ap, subst, arith}
+use Rattle.std.proofs.Common.{◌≡◌, ℕ, zero, suc, ◌*◌, ◌^◌, ◌<◌, ◌≤◌, Bool, true, false, cond, not, ◌⊎◌, inl, inr, Option, Some, None, length, refl, ap, subst, arith}
 use Rattle.std.specs.Prelude.{IsTrue, IfSome, IfNone}
 use Rattle.std.proofs.lemmas.Bool.{cases_eq}
 use Rattle.st_model.specs.declared.branch.Branch.{Branch}
 use Rattle.st_model.specs.declared.tree.Tree.{Tree}
 use Rattle.st_model.specs.Lists.{has, sum_to, total}
 use Rattle.st_model.specs.Network.{Network, IsInstance, IsVertex, pays}
-use Rattle.st_model.specs.Arborescence.{IsTree, cost}
+use Rattle.st_model.specs.Arborescence.{IsArborescence, cost}
 use Rattle.st_model.specs.Branch.{LeavesRequired}
 use Rattle.st_model.proofs.Sums.{sum_to_same}
 use Rattle.cut_packing.specs.declared.packing.Packing.{Packing}
 use Rattle.cut_packing.specs.Packing.{Fits, outside_pays, weight}
 use Rattle.level_packing.specs.Forest.{IsPresent}
 use Rattle.level_packing.specs.Spanning.{AreSets}
-use Rattle.split_search.specs.declared.node.Node.{Node}
+use Rattle.branching.specs.declared.node.Node.{Node}
 use Rattle.split_search.specs.declared.step.Priced.{Priced}
 use Rattle.split_search.specs.declared.step.End.TheVariants.{Close}
 use Rattle.split_search.specs.Searched.{IsNobodyRequired}
@@ -21,7 +21,8 @@ use Rattle.split_search.specs.Step.{IsBetter, IsStep, least_after}
 use Rattle.split_search.proofs.Writing.{cost_fits, writable_packing}
 
 -- a branch of which every vertex is outside weighs all prizes
-none_present : (I : Network) (B : Branch) (P : Packing) (least : ℕ) → LeavesRequired I B → ((v : ℕ) → IsVertex I.n v → IsTrue (has B.outside v)) → (IsNobodyRequired I → least ≤ sum_to (pays I) I.n) → least ≤ weight I B P
+none_present : (I : Network) (B : Branch) (P : Packing) (least : ℕ) → LeavesRequired I B
+    → ((v : ℕ) → IsVertex I.n v → IsTrue (has B.outside v)) → (IsNobodyRequired I → least ≤ sum_to (pays I) I.n) → least ≤ weight I B P
 none_present I B P least leaves outside cheap =
     let all : sum_to (outside_pays I B) I.n ≡ sum_to (pays I) I.n = sum_to_same (outside_pays I B) (pays I) I.n (λ v low high. ap (λ b. cond b (pays I v) 0) (outside v (low, high))) in
     omega (arith, all, cheap (λ v vertex. leaves v (outside v vertex)))
@@ -49,13 +50,16 @@ some_present I B P least leaves light cheap = elim (all_or_one I B I.n (omega ar
 ]
 
 -- a packing that weighs what a tree costs closes, whether the tree is the better one or not
-pub spanned_step : (I : Network) (N : Node) (t : Tree) (P : Packing) (least : ℕ) (better : Option Priced) → IsInstance I → IsTree I t → Fits I N.branch P → weight I N.branch P ≡ cost I t → AreSets I.n P → length P.cuts < 2 ^ 64 → IfSome better (IsBetter I least) → IfSome better (λ p. p.price ≡ cost I t) → IfNone better (least ≤ cost I t)
+pub spanned_step : (I : Network) (N : Node) (t : Tree) (P : Packing) (least : ℕ) (better : Option Priced) → IsInstance I → IsArborescence I t → Fits I N.branch P
+    → weight I N.branch P ≡ cost I t → AreSets I.n P → length P.cuts ≤ 2 * I.n
+    → IfSome better (IsBetter I least) → IfSome better (λ p. p.price ≡ cost I t) → IfNone better (least ≤ cost I t)
     → IsStep I N least (record { better = better; end = Close P })
-spanned_step I N t P least better instance tree fits weighs sets few is_better price none =
-    let small : total (λ c. c.y) P.cuts < 2 ^ 64 = omega (arith, weighs, cost_fits I t instance tree.arborescence) in
+spanned_step I N t P least better instance arborescence fits weighs sets few is_better price none =
+    let small : total (λ c. c.y) P.cuts < 2 ^ 64 = omega (arith, weighs, cost_fits I t instance arborescence) in
+    let count : length P.cuts < 2 ^ 64 = omega (arith, few, instance.few_vertices) in
     record {
       tree = is_better;
-      ends = (record { fits = fits; weighs = by_case better price none }, writable_packing I N.branch P instance fits sets few small);
+      ends = (record { fits = fits; weighs = by_case better price none }, writable_packing I N.branch P instance fits sets count small);
     }
   where
     by_case : (o : Option Priced) → IfSome o (λ p. p.price ≡ cost I t) → IfNone o (least ≤ cost I t) → least_after least o ≤ weight I N.branch P

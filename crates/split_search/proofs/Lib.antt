@@ -1,9 +1,8 @@
-pub mod Packings
-pub mod Halving
+pub mod Splits
 pub mod Turns
 pub mod Continuing
 pub mod Writing
-pub mod Those
+pub mod Narrowing
 pub mod Steps
 pub mod Extended
 pub mod Heavier

@@ -1,25 +1,25 @@
 -- Each step of a search keeps what holds between two nodes.
-use Rattle.std.proofs.Common.{◌≡◌, ℕ, ◌+◌, ◌≤◌, Bool, true, false, cond, not, ltb, List, [], ◌∷◌, ◌++◌, length, min, Option, Some, None, append-nil, refl, sym, ap, subst, ◌∙◌, length-append, arith}
+use Rattle.std.proofs.Common.{◌≡◌, ℕ, ◌+◌, ◌≤◌, Bool, true, false, cond, ltb, List, [], ◌∷◌, ◌++◌, length, min, Option, Some, None, append-nil, refl, sym, ap, subst, ◌∙◌, length-append, arith}
 use Rattle.std.specs.Prelude.{IfSome}
-use Rattle.std.proofs.lemmas.Bool.{and_parts, false≢true}
 use Rattle.std.proofs.lemmas.Bool.Decides.{nat_tests}
 use Rattle.std.proofs.lemmas.List.Elements.{All-append, All-cons, All-nil, All-push, All-pop}
 use Rattle.st_model.specs.declared.branch.Branch.{Branch}
 use Rattle.st_model.specs.declared.tree.Tree.{Tree}
-use Rattle.st_model.specs.Network.{Network, is_required}
-use Rattle.st_model.specs.Branch.{is_undecided, with_inside, with_outside}
+use Rattle.st_model.specs.Network.{Network}
+use Rattle.st_model.specs.Branch.{with_inside, with_outside}
 use Rattle.cut_packing.specs.declared.packing.Packing.{Packing}
 use Rattle.cut_packing.specs.Packing.{weight}
 use Rattle.cut_packing.specs.ProofTree.{Closes, IsSplit}
 use Rattle.log_format.specs.declared.proof_line.ProofLine.{ProofLine}
 use Rattle.log_format.specs.declared.proof_line.ProofLine.TheVariants.{Split, Close}
 use Rattle.log_format.specs.Text.{IsWritableLine, IsWritablePacking}
-use Rattle.split_search.specs.declared.node.Node.{Node}
+use Rattle.branching.specs.declared.node.Node.{Node}
+use Rattle.branching.specs.Node.{inside_half, outside_half}
 use Rattle.split_search.specs.declared.step.Priced.{Priced}
-use Rattle.split_search.specs.Node.{IsNode, IsNoLighter, IsChoice, inside_half, outside_half}
-use Rattle.split_search.specs.Step.{IsBetter, IsBounded, least_after, best_after}
+use Rattle.split_search.specs.Node.{IsWritableNode}
+use Rattle.split_search.specs.Step.{IsBetter, SplitsAt, least_after, best_after}
 use Rattle.split_search.specs.Progress.{Continues, IsUnderWay, IsClosing, lowest}
-use Rattle.split_search.proofs.Halving.{inside_node, outside_node}
+use Rattle.split_search.proofs.Splits.{writable_halves}
 use Rattle.split_search.proofs.Turns.{split_turns, close_turns}
 use Rattle.split_search.proofs.Continuing.{light_of, continues_closed, continues_split}
 use Rattle.split_search.proofs.Writing.{any_vertex}
@@ -58,16 +58,6 @@ few_light w top = by_case (ltb w top)
     by_case true = omega arith
     by_case false = omega arith
 
--- a free vertex can be split at
-pub choice_splits : (I : Network) (B : Branch) (v : ℕ) → IsChoice I B v → IsSplit I B v
-choice_splits I B v choice =
-    let parts = and_parts (is_undecided B v) (not (is_required I v)) choice.free in
-    record { vertex = choice.vertex; undecided = parts.0; free = negated (is_required I v) parts.1 }
-  where
-    negated : (b : Bool) → not b ≡ true → b ≡ false
-    negated true h = absurd (false≢true h)
-    negated false h = refl
-
 -- with a better tree, if there is one, as the best
 pub adopt_keeps : (I : Network) (lines : List ProofLine) (waiting : List Node) (best : Tree) (least : ℕ) (better : Option Priced) → IfSome better (IsBetter I least)
     → IsUnderWay I lines waiting best least → IsUnderWay I lines waiting (best_after best better) (least_after least better)
@@ -85,7 +75,8 @@ adopt_keeps I lines waiting best least (Some p) h u = record {
 }
 
 -- the same state again
-pub same_state : (I : Network) (lines new_lines : List ProofLine) (waiting new_waiting : List Node) (best new_best : Tree) (least new_least : ℕ) → new_lines ≡ lines → new_waiting ≡ waiting → new_best ≡ best → new_least ≡ least
+pub same_state : (I : Network) (lines new_lines : List ProofLine) (waiting new_waiting : List Node) (best new_best : Tree) (least new_least : ℕ) → new_lines ≡ lines
+    → new_waiting ≡ waiting → new_best ≡ best → new_least ≡ least
     → IsUnderWay I lines waiting best least → IsUnderWay I new_lines new_waiting new_best new_least
 same_state I lines new_lines waiting new_waiting best new_best least new_least a b d e u = rw (a, b, d, e) u
 
@@ -96,38 +87,44 @@ close_keeps I lines Ns N best least P (closes, writable) u = record {
   tree = u.tree;
   is_cost = u.is_cost;
   cheap = u.cheap;
-  nodes = (All-pop (IsNode I) (Ns ++ N ∷ []) Ns (Some N) refl u.nodes).0;
-  continues = λ primal below. subst (λ (light : List ℕ). Continues I primal primal light (lines ++ Close P ∷ []) Ns) (not_light (weight I N.branch P) primal (omega (arith, below, closes.weighs))) (continues_closed I primal primal [] lines Ns N P primal closes.fits (omega arith) (omega (arith, below, closes.weighs)) (u.continues primal below));
+  nodes = (All-pop (IsWritableNode I) (Ns ++ N ∷ []) Ns (Some N) refl u.nodes).0;
+  continues = λ primal below.
+      let heavy : primal ≤ weight I N.branch P = omega (arith, below, closes.weighs) in
+      let closed = continues_closed I primal primal [] lines Ns N P primal closes.fits (omega arith) heavy (u.continues primal below) in
+      subst (λ (light : List ℕ). Continues I primal primal light (lines ++ Close P ∷ []) Ns) (not_light (weight I N.branch P) primal heavy) closed;
   few_waiting = omega (arith, u.few_waiting, length-append Ns (N ∷ []), length-append lines (Close P ∷ []));
   turns_left = omega (arith, u.turns_left, close_turns I Ns N, length-append lines (Close P ∷ []));
   written = All-push IsWritableLine lines (Close P) u.written writable;
 }
 
-pub split_keeps : (I : Network) (lines : List ProofLine) (Ns : List Node) (N M : Node) (best : Tree) (least v : ℕ) → (M.branch ≡ N.branch) × IsNoLighter I N M × IsChoice I N.branch v × IsBounded I M least
-    → IsUnderWay I lines (Ns ++ N ∷ []) best least → IsUnderWay I (lines ++ Split v ∷ []) (Ns ++ outside_half M v ∷ inside_half M v ∷ []) best least
-split_keeps I lines Ns N M best least v h u =
-    let is_split = choice_splits I N.branch v h.2 in
-    let of_half : IsSplit I M.branch v = subst (λ (B : Branch). IsSplit I B v) (sym h.0) is_split in
-    let inner : with_inside M.branch v ≡ with_inside N.branch v = ap (λ B. with_inside B v) h.0 in
-    let outer : with_outside M.branch v ≡ with_outside N.branch v = ap (λ B. with_outside B v) h.0 in
+pub split_keeps : (I : Network) (lines : List ProofLine) (Ns : List Node) (N M : Node) (best : Tree) (least v id id' : ℕ) → SplitsAt I N least M v
+    → IsUnderWay I lines (Ns ++ N ∷ []) best least → IsUnderWay I (lines ++ Split v ∷ []) (Ns ++ outside_half M v id' ∷ inside_half M v id ∷ []) best least
+split_keeps I lines Ns N M best least v id id' h u =
+    let inside = inside_half M v id in
+    let outside = outside_half M v id' in
+    let inner : inside.branch ≡ with_inside N.branch v = ap (λ B. with_inside B v) h.same in
+    let outer : outside.branch ≡ with_outside N.branch v = ap (λ B. with_outside B v) h.same in
+    let halves = writable_halves I M v id id' h.node (subst (λ (B : Branch). IsSplit I B v) (sym h.same) h.split) in
+    let old = All-pop (IsWritableNode I) (Ns ++ N ∷ []) Ns (Some N) refl u.nodes in
+    let new = All-cons (IsWritableNode I) outside (inside ∷ []) halves.1 (All-cons (IsWritableNode I) inside [] halves.0 (All-nil (IsWritableNode I))) in
     record {
       instance = u.instance;
       tree = u.tree;
       is_cost = u.is_cost;
       cheap = u.cheap;
-      nodes = All-append (IsNode I) Ns (outside_half M v ∷ inside_half M v ∷ []) (All-pop (IsNode I) (Ns ++ N ∷ []) Ns (Some N) refl u.nodes).0
-          (All-cons (IsNode I) (outside_half M v) (inside_half M v ∷ []) (outside_node I M v h.1.node of_half) (All-cons (IsNode I) (inside_half M v) [] (inside_node I M v h.1.node of_half) (All-nil (IsNode I))));
-      continues = λ primal below. continues_split I primal primal [] lines Ns N (inside_half M v) (outside_half M v) v inner outer is_split (u.continues primal below);
-      few_waiting = omega (arith, u.few_waiting, length-append Ns (N ∷ []), length-append Ns (outside_half M v ∷ inside_half M v ∷ []), length-append lines (Split v ∷ []));
-      turns_left = omega (arith, u.turns_left, split_turns I Ns N (inside_half M v) (outside_half M v) v inner outer h.2.vertex h.2.free, length-append lines (Split v ∷ []));
-      written = All-push IsWritableLine lines (Split v) u.written (any_vertex I v u.instance h.2.vertex);
+      nodes = All-append (IsWritableNode I) Ns (outside ∷ inside ∷ []) old.0 new;
+      continues = λ primal below. continues_split I primal primal [] lines Ns N inside outside v inner outer h.split (u.continues primal below);
+      few_waiting = omega (arith, u.few_waiting, length-append Ns (N ∷ []), length-append Ns (outside ∷ inside ∷ []), length-append lines (Split v ∷ []));
+      turns_left = omega (arith, u.turns_left, split_turns I Ns N inside outside v inner outer h.split, length-append lines (Split v ∷ []));
+      written = All-push IsWritableLine lines (Split v) u.written (any_vertex I v u.instance h.split.vertex);
     }
 
 -- a node that is left closes by its own packing
-pub left_closes : (I : Network) (least : ℕ) (first : List ProofLine) (left : List Node) (lines : List ProofLine) (Ns : List Node) (N : Node) (dual : ℕ) → IsClosing I least first left lines (Ns ++ N ∷ []) dual
+pub left_closes : (I : Network) (least : ℕ) (first : List ProofLine) (left : List Node) (lines : List ProofLine) (Ns : List Node) (N : Node) (dual : ℕ)
+    → IsClosing I least first left lines (Ns ++ N ∷ []) dual
     → IsClosing I least first left (lines ++ Close N.packing ∷ []) Ns (min dual (weight I N.branch N.packing))
 left_closes I least first left lines Ns N dual k =
-    let nodes = All-pop (IsNode I) (Ns ++ N ∷ []) Ns (Some N) refl k.nodes in
+    let nodes = All-pop (IsWritableNode I) (Ns ++ N ∷ []) Ns (Some N) refl k.nodes in
     let node = nodes.1 in
     let weighs = weight I N.branch N.packing in
     let lower : min dual weighs ≤ dual = omega arith in
@@ -140,7 +137,7 @@ left_closes I least first left lines Ns N dual k =
       few = omega (arith, k.few, few_light weighs least, length-append k.light (light_of weighs least));
       low = ap (λ d. min d weighs) k.low ∙ lowest_with least weighs k.light;
       nodes = nodes.0;
-      continues = continues_closed I dual least k.light lines Ns N N.packing (min dual weighs) node.fits lower lighter k.continues;
+      continues = continues_closed I dual least k.light lines Ns N N.packing (min dual weighs) node.node.fits lower lighter k.continues;
       written = All-push IsWritableLine lines (Close N.packing) k.written node.writable;
     }
 

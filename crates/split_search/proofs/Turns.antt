@@ -7,18 +7,20 @@ use Rattle.std.proofs.Math.Nat.{pow-suc}
 use Rattle.st_model.specs.declared.branch.Branch.{Branch}
 use Rattle.st_model.specs.Lists.{has}
 use Rattle.st_model.specs.Network.{Network, IsVertex, is_required}
-use Rattle.st_model.specs.Branch.{with_inside, with_outside, all_trees}
+use Rattle.st_model.specs.Branch.{is_free, with_inside, with_outside, all_trees}
 use Rattle.st_model.proofs.Sums.{total-append, sum_to_same, sum_to-add, sum_to_one}
 use Rattle.st_model.proofs.Halves.{has-with_vertex}
-use Rattle.split_search.specs.declared.node.Node.{Node}
-use Rattle.st_model.specs.Branch.{is_free}
+use Rattle.cut_packing.specs.ProofTree.{IsSplit}
+use Rattle.branching.specs.declared.node.Node.{Node}
 use Rattle.split_search.specs.Node.{free_count, turns, turns_of}
 use Rattle.split_search.specs.Searched.{free_vertices}
+use Rattle.split_search.proofs.Splits.{split_is_free}
 
 -- one free vertex less
 one_less : (I : Network) (B half : Branch) (v : ℕ) → IsVertex I.n v → IsTrue (is_free I B v) → ((w : ℕ) → is_free I half w ≡ (not (eqb v w) && is_free I B w)) → free_count I B ≡ free_count I half + 1
 one_less I B half v vertex free same =
-    sum_to_same (λ w. cond (is_free I B w) 1 0) (λ w. cond (is_free I half w) 1 0 + cond (eqb v w) 1 0) I.n (λ w low high. at w (eqb v w) refl (is_free I B w) refl (is_free I half w) (same w))
+    sum_to_same (λ w. cond (is_free I B w) 1 0) (λ w. cond (is_free I half w) 1 0 + cond (eqb v w) 1 0) I.n
+    (λ w low high. at w (eqb v w) refl (is_free I B w) refl (is_free I half w) (same w))
     ∙ sum_to-add (λ w. cond (is_free I half w) 1 0) (λ w. cond (eqb v w) 1 0) I.n
     ∙ ap (λ k. free_count I half + k) (sum_to_one v 1 I.n vertex.0 vertex.1)
   where
@@ -29,14 +31,18 @@ one_less I B half v vertex free same =
     at w false e false f h is = rw is refl
 
 less_inside : (I : Network) (B : Branch) (v : ℕ) → IsVertex I.n v → IsTrue (is_free I B v) → free_count I B ≡ free_count I (with_inside B v) + 1
-less_inside I B v vertex free = one_less I B (with_inside B v) v vertex free (λ w. ap (λ b. (not b && not (has B.outside w)) && not (is_required I w)) (has-with_vertex B.inside v w) ∙ by_case (eqb v w) (has B.inside w) (has B.outside w) (is_required I w))
+less_inside I B v vertex free = one_less I B (with_inside B v) v vertex free (λ w.
+    ap (λ b. (not b && not (has B.outside w)) && not (is_required I w)) (has-with_vertex B.inside v w)
+    ∙ by_case (eqb v w) (has B.inside w) (has B.outside w) (is_required I w))
   where
     by_case : (here i o r : Bool) → ((not (here || i) && not o) && not r) ≡ (not here && ((not i && not o) && not r))
     by_case true i o r = refl
     by_case false i o r = refl
 
 less_outside : (I : Network) (B : Branch) (v : ℕ) → IsVertex I.n v → IsTrue (is_free I B v) → free_count I B ≡ free_count I (with_outside B v) + 1
-less_outside I B v vertex free = one_less I B (with_outside B v) v vertex free (λ w. ap (λ b. (not (has B.inside w) && not b) && not (is_required I w)) (has-with_vertex B.outside v w) ∙ by_case (eqb v w) (has B.inside w) (has B.outside w) (is_required I w))
+less_outside I B v vertex free = one_less I B (with_outside B v) v vertex free (λ w.
+    ap (λ b. (not (has B.inside w) && not b) && not (is_required I w)) (has-with_vertex B.outside v w)
+    ∙ by_case (eqb v w) (has B.inside w) (has B.outside w) (is_required I w))
   where
     by_case : (here i o r : Bool) → ((not i && not (here || o)) && not r) ≡ (not here && ((not i && not o) && not r))
     by_case true true o r = refl
@@ -56,13 +62,16 @@ turns_of_some zero = omega arith
 turns_of_some (suc k) = omega arith
 
 -- the halves take a turn less than the node
-pub split_turns : (I : Network) (Ns : List Node) (N inner outer : Node) (v : ℕ) → inner.branch ≡ with_inside N.branch v → outer.branch ≡ with_outside N.branch v → IsVertex I.n v → IsTrue (is_free I N.branch v)
-    → turns I (Ns ++ outer ∷ inner ∷ []) + 1 ≤ turns I (Ns ++ N ∷ [])
-split_turns I Ns N inner outer v is_inner is_outer vertex free =
+pub split_turns : (I : Network) (Ns : List Node) (N inner outer : Node) (v : ℕ) → inner.branch ≡ with_inside N.branch v → outer.branch ≡ with_outside N.branch v
+    → IsSplit I N.branch v → turns I (Ns ++ outer ∷ inner ∷ []) + 1 ≤ turns I (Ns ++ N ∷ [])
+split_turns I Ns N inner outer v is_inner is_outer is_split =
     let f : Node → ℕ = λ M. turns_of (free_count I M.branch) in
     let before = total-append f Ns (N ∷ []) in
     let after = total-append f Ns (outer ∷ inner ∷ []) in
-    let halves = turns_of_halves (free_count I N.branch) (free_count I outer.branch) (free_count I inner.branch) (less_outside I N.branch v vertex free ∙ ap (λ B. free_count I B + 1) (sym is_outer)) (less_inside I N.branch v vertex free ∙ ap (λ B. free_count I B + 1) (sym is_inner)) in
+    let free = split_is_free I N.branch v is_split in
+    let inside = less_inside I N.branch v is_split.vertex free ∙ ap (λ B. free_count I B + 1) (sym is_inner) in
+    let outside = less_outside I N.branch v is_split.vertex free ∙ ap (λ B. free_count I B + 1) (sym is_outer) in
+    let halves = turns_of_halves (free_count I N.branch) (free_count I outer.branch) (free_count I inner.branch) outside inside in
     omega (arith, before, after, halves)
 
 -- what waits takes a turn less without the node

@@ -35,11 +35,15 @@ writable_cut I B c instance fits set small = record {
   y = small;
   set = record {
     some = length-has c.set c.q fits.member;
-    vertices = record { ascending = set.ascending; in_range = All-from_recursion (IsVertex 1000000) c.set (any_vertices I.n c.set instance.few_vertices (recursion_from_All (IsVertex I.n) c.set set.in_range)) };
+    vertices = record {
+      ascending = set.ascending;
+      in_range = All-from_recursion (IsVertex 1000000) c.set (any_vertices I.n c.set instance.few_vertices (recursion_from_All (IsVertex I.n) c.set set.in_range));
+    };
   };
 }
 
-writable_cuts : (I : Network) (B : Branch) (cuts : List Cut) → IsInstance I → AllByRecursion (CutFits I B) cuts → AllByRecursion (λ c. IsVertexSet I.n c.set) cuts → AllByRecursion (λ c. c.y < 2 ^ 64) cuts → AllByRecursion IsWritableCut cuts
+writable_cuts : (I : Network) (B : Branch) (cuts : List Cut) → IsInstance I → AllByRecursion (CutFits I B) cuts → AllByRecursion (λ c. IsVertexSet I.n c.set) cuts
+    → AllByRecursion (λ c. c.y < 2 ^ 64) cuts → AllByRecursion IsWritableCut cuts
 writable_cuts I B [] instance fits sets small = tt
 writable_cuts I B (c ∷ cuts) instance fits sets small = (writable_cut I B c instance fits.0 sets.0 small.0, writable_cuts I B cuts instance fits.1 sets.1 small.1)
 
@@ -53,7 +57,10 @@ pub writable_packing : (I : Network) (B : Branch) (P : Packing) → IsInstance I
 writable_packing I B P instance fits sets few small = record {
   root = by_root P.root fits.root;
   few_cuts = few;
-  cuts = All-from_recursion IsWritableCut P.cuts (writable_cuts I B P.cuts instance (recursion_from_All (CutFits I B) P.cuts fits.cuts) (recursion_from_All (λ (c : Cut). IsVertexSet I.n c.set) P.cuts sets) (small_values P.cuts small));
+  cuts =
+      let each_fits = recursion_from_All (CutFits I B) P.cuts fits.cuts in
+      let each_ascends = recursion_from_All (λ (c : Cut). IsVertexSet I.n c.set) P.cuts sets in
+      All-from_recursion IsWritableCut P.cuts (writable_cuts I B P.cuts instance each_fits each_ascends (small_values P.cuts small));
 }
   where
     by_root : (root : Option ℕ) → MatchOption root (P.cuts ≡ []) (IsRoot I B P.cuts) → IfSome root IsAnyVertex
@@ -95,11 +102,14 @@ pub writable_tree : (I : Network) (t : Tree) → IsInstance I → IsArborescence
 writable_tree I t instance arborescence = record {
   start = any_vertex I t.start instance arborescence.start;
   few_arcs = omega (arith, few_arcs I (t.start ∷ []) t.arcs instance arborescence.grows, instance.few_vertices);
-  arcs = All-weaker (λ arc. IsVertex I.n arc.0 × IsVertex I.n arc.1) (λ arc. IsAnyVertex arc.0 × IsAnyVertex arc.1) (λ arc ends. (any_vertex I arc.0 instance ends.0, any_vertex I arc.1 instance ends.1)) t.arcs (ends_are_vertices I (t.start ∷ []) t.arcs instance arborescence.grows);
+  arcs = All-weaker (λ arc. IsVertex I.n arc.0 × IsVertex I.n arc.1) (λ arc. IsAnyVertex arc.0 × IsAnyVertex arc.1)
+      (λ arc ends. (any_vertex I arc.0 instance ends.0, any_vertex I arc.1 instance ends.1))
+      t.arcs (ends_are_vertices I (t.start ∷ []) t.arcs instance arborescence.grows);
 }
 
 -- a single cut of a small value can be written
-pub writable_wall : (I : Network) (B : Branch) (P : Packing) (target : ℕ) → IsInstance I → Fits I B P → AreSets I.n P → (c : Cut) × (P.cuts ≡ c ∷ []) × (c.y ≡ target) → target < 2 ^ 64 → IsWritablePacking P
+pub writable_wall : (I : Network) (B : Branch) (P : Packing) (target : ℕ) → IsInstance I → Fits I B P → AreSets I.n P
+    → (c : Cut) × (P.cuts ≡ c ∷ []) × (c.y ≡ target) → target < 2 ^ 64 → IsWritablePacking P
 writable_wall I B P target instance fits sets (c, one, value) small =
     let few : length P.cuts ≡ 1 = ap length one in
     let sum : total (λ d. d.y) P.cuts ≡ c.y + 0 = ap (total (λ d. d.y)) one in

@@ -4,4 +4,3 @@ pub mod Raising
 pub mod Step
 pub mod Progress
 pub mod Searched
-pub mod Laws

@@ -10,9 +10,9 @@ use Rattle.cut_packing.specs.ProofTree.{ProofTree, Proves}
 use Rattle.log_format.specs.declared.proof_line.ProofLine.{ProofLine}
 use Rattle.log_format.specs.Preorder.{preorder}
 use Rattle.log_format.specs.Text.{IsWritableLine}
-use Rattle.split_search.specs.declared.node.Node.{Node}
+use Rattle.branching.specs.declared.node.Node.{Node}
 use Rattle.split_search.specs.declared.progress.Progress.{Progress}
-use Rattle.split_search.specs.Node.{IsNode, turns, turns_of}
+use Rattle.split_search.specs.Node.{IsWritableNode, turns, turns_of}
 use Rattle.split_search.specs.Searched.{IsNobodyRequired, free_vertices, light_weights}
 
 -- the lines are a proof tree that proves x of the branch, and whose light closes weigh this
@@ -49,7 +49,7 @@ pub record IsUnderWay (I : Network) (lines : List ProofLine) (waiting : List Nod
   pub tree : IsTree I best
   pub is_cost : least ≡ cost I best
   pub cheap : IsNobodyRequired I → least ≤ sum_to (pays I) I.n
-  pub nodes : All (IsNode I) waiting
+  pub nodes : All (IsWritableNode I) waiting
   -- no close so far is light, however far the cost still falls
   pub continues : (primal : ℕ) → primal ≤ least → Continues I primal primal [] lines waiting
   pub few_waiting : length waiting ≤ length lines + 1
@@ -74,6 +74,6 @@ pub record IsClosing (I : Network) (least : ℕ) (first : List ProofLine) (left 
   pub light : List ℕ
   pub few : length light ≤ closed
   pub low : dual ≡ lowest least light
-  pub nodes : All (IsNode I) waiting
+  pub nodes : All (IsWritableNode I) waiting
   pub continues : Continues I dual least light lines waiting
   pub written : All IsWritableLine lines

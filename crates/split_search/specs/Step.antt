@@ -1,19 +1,20 @@
 -- What the work on a node may answer.
-use Rattle.std.specs.Prelude.{◌≡◌, ℕ, ◌<◌, ◌⊎◌, Option, Some, None, IfSome}
+use Rattle.std.specs.Prelude.{◌≡◌, ℕ, ◌<◌, ◌≤◌, ◌⊎◌, Option, Some, None, IfSome}
 use Rattle.st_model.specs.declared.tree.Tree.{Tree}
 use Rattle.st_model.specs.Network.{Network}
 use Rattle.st_model.specs.Arborescence.{IsTree, cost}
 use Rattle.st_model.specs.Branch.{NoneIsCertain}
 use Rattle.cut_packing.specs.Packing.{weight}
 use Rattle.cut_packing.specs.Full.{IsFull}
-use Rattle.cut_packing.specs.ProofTree.{Closes}
+use Rattle.cut_packing.specs.ProofTree.{Closes, IsSplit}
 use Rattle.log_format.specs.Text.{IsWritablePacking}
-use Rattle.split_search.specs.declared.node.Node.{Node}
+use Rattle.branching.specs.declared.node.Node.{Node}
+use Rattle.branching.specs.Choice.{IsChoice}
 use Rattle.split_search.specs.declared.step.Priced.{Priced}
 use Rattle.split_search.specs.declared.step.End.{End}
 use Rattle.split_search.specs.declared.step.End.TheVariants.{Close, Split}
 use Rattle.split_search.specs.declared.step.Step.{Step}
-use Rattle.split_search.specs.Node.{IsNoLighter, IsChoice}
+use Rattle.split_search.specs.Node.{IsWritableNode}
 
 -- a tree that costs this, which is less than the least cost known
 pub record IsBetter (I : Network) (least : ℕ) (p : Priced) : Type 0 where
@@ -31,15 +32,19 @@ abbrev pub best_after : Tree → Option Priced → Tree
 best_after best None = best
 best_after best (Some p) = p.tree
 
--- where some vertex is certain, the node's packing is full, and weighs less than the least cost known
-abbrev pub IsBounded : Network → Node → ℕ → Type 0
-IsBounded I M least = NoneIsCertain I M.branch ⊎ (IsFull I M.branch M.packing × (weight I M.branch M.packing < least))
+-- the node splits at v, with a packing that is no lighter
+pub record SplitsAt (I : Network) (N : Node) (least : ℕ) (M : Node) (v : ℕ) : Type 0 where
+  pub same : M.branch ≡ N.branch
+  pub node : IsWritableNode I M
+  pub no_lighter : weight I N.branch N.packing ≤ weight I M.branch M.packing
+  pub split : IsSplit I N.branch v
+  -- where no vertex is certain, v is one that pays most; else the packing is full, and weighs less than the least cost known
+  pub bounded : (NoneIsCertain I N.branch × IsChoice I N.branch v) ⊎ (IsFull I M.branch M.packing × (weight I M.branch M.packing < least))
 
--- a packing that closes the branch at the least cost known; or a vertex to split the branch at, with a packing
--- that is no lighter, and that is full where it can be
+-- a packing that closes the branch at the least cost known, or a split
 abbrev pub IsEnd : Network → Node → ℕ → End → Type 0
 IsEnd I N least (Close P) = Closes I N.branch least P × IsWritablePacking P
-IsEnd I N least (Split M v) = (M.branch ≡ N.branch) × IsNoLighter I N M × IsChoice I N.branch v × IsBounded I M least
+IsEnd I N least (Split M v) = SplitsAt I N least M v
 
 -- a better tree, if one was found, and how the node ends with the least cost known then
 pub record IsStep (I : Network) (N : Node) (least : ℕ) (step : Step) : Type 0 where

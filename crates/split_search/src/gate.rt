@@ -1,6 +1,6 @@
 /// Learns of each node of the search before it is worked on. It changes no answer.
 pub trait Gate: Sync {
-    /// The worker in this seat has taken the node; nodes are numbered from 0 as they are taken.
+    /// The worker in this seat has taken the node; nodes are numbered from 0 as they are made.
     fn at(&self, seat: u32, id: u64);
 }
 

@@ -10,7 +10,6 @@ mod bettering;
 mod deciding;
 mod expanding;
 mod gate;
-mod law;
 mod node;
 mod picking;
 mod progress;
@@ -23,6 +22,5 @@ mod tests;
 mod used_up;
 
 pub use gate::{Gate, OpenGate};
-pub use law::halves_are_no_lighter;
 pub use searched::Searched;
 pub use searching::search;

@@ -1,22 +1,23 @@
-ghost use Rattle.std.specs.Prelude.{◌≡◌, ◌+◌, ◌<◌, All, IsTrue, length};
-ghost use Rattle.st_model.specs.Lists.{has};
-ghost use Rattle.st_model.specs.Network.{IsVertex};
+ghost use Rattle.std.specs.Prelude.{◌≡◌};
+ghost use Rattle.cut_packing.specs.ProofTree.{IsSplit};
 
 use bidirected_form::{Arc, Arcs};
+use st_model::{Instance, Sides};
 
-/// The vertex to split at, of some that may be: the first that the most arcs with nothing left lead
-/// into.
-pub fn pick(arcs: &Arcs, free: &[u32]) -> u32
-    requires some { 0 < length free.now }
-    requires vertices { All (IsVertex arcs.now.n) free.now }
-    ensures { IsTrue (has free.now result) }
+/// The vertex to split at: of those at which the branch can be split the first that the most arcs
+/// with nothing left lead into, or the one given where none lead into any of them.
+pub fn pick(arcs: &Arcs, instance: &Instance, branch: &Sides, given: u32) -> u32
+    requires count { arcs.now.n ≡ instance.now.n }
+    requires given { IsSplit instance.now branch.now given }
+    ensures { IsSplit instance.now branch.now result }
 {
-    let mut best = free[0];
+    let mut best = given;
     let mut most = 0;
-    for vertex in free {
-        let count = used_up_of(arcs.arcs_into(*vertex));
-        if count > most {
-            best = *vertex;
+    for before in 0..instance.vertices() {
+        let vertex = before + 1;
+        let count = used_up_of(arcs.arcs_into(vertex));
+        if count > most && branch.is_free(instance, vertex) {
+            best = vertex;
             most = count;
         }
     }

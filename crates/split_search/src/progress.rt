@@ -1,18 +1,19 @@
-ghost use Rattle.std.specs.Prelude.{◌≡◌, ◌⊎◌, ◌+◌, ◌≤◌, ◌∷◌, ◌++◌, [], length, min, IfOk, OnOk};
+ghost use Rattle.std.specs.Prelude.{◌≡◌, ◌⊎◌, ◌+◌, ◌-◌, ◌^◌, ◌≤◌, ◌∷◌, ◌++◌, [], length, min, IfOk, OnOk};
 ghost use Rattle.st_model.specs.Lists.{sum_to};
 ghost use Rattle.st_model.specs.Network.{pays};
 ghost use Rattle.st_model.specs.Arborescence.{IsTree, cost};
 ghost use Rattle.log_format.specs.Accepts.{AcceptsFound};
 ghost use Rattle.log_format.specs.Text.{IsWritableFound};
-ghost use Rattle.split_search.specs.Node.{inside_half, outside_half};
+ghost use Rattle.branching.specs.Node.{inside_half, outside_half};
 ghost use Rattle.split_search.specs.Progress.{GoesOn, IsUnderWay, IsClosing};
 ghost use Rattle.split_search.specs.Searched.{IsGreatestBound, IsNobodyRequired, IsSpent};
 ghost use Rattle.split_search.specs.Step.{best_after, least_after};
 
 use crate::expanding::expand;
-use crate::node::{Node, halves, root};
+use crate::node::root;
 use crate::step::{End, Priced, Step};
 use crate::{Gate, Searched};
+use branching::{Node, halves};
 use cut_packing::{Packing, weight};
 use graph_store::Whole;
 use log_format::{Proof, ProofLine};
@@ -20,11 +21,12 @@ use st_model::{Instance, MAX_VERTICES, Tree, tree_cost};
 use std::alloc::{AllocError, Global};
 
 /// A search between two nodes: the lines of the proof so far, the nodes that wait, the next one
-/// last, the best tree so far and what it costs.
+/// last, how many nodes were made, the best tree so far and what it costs.
 #[derive(Drop)]
 pub struct Progress {
     lines: Vec<ProofLine>,
     waiting: Vec<Node>,
+    made: u64,
     best: Tree,
     least: u64,
 }
@@ -45,6 +47,7 @@ impl Progress {
         Ok(Progress {
             lines: Vec::new(alloc),
             waiting: vec![in alloc; root(alloc)]?,
+            made: 1,
             best: start,
             least,
         })
@@ -65,11 +68,11 @@ impl Progress {
         ensures within { OnOk result (length self.new.lines.items ≤ budget) }
         ensures spent { OnOk result ((self.new.waiting.items ≡ []) ⊎ (length self.new.lines.items ≡ budget)) }
     {
-        for taken in 0..budget {
+        for _ in 0..budget {
             let Some(node) = self.waiting.pop() else {
                 return Ok(());
             };
-            gate.at(0, taken);
+            gate.at(0, node.id);
             self.take(alloc, whole, node)?;
         }
         Ok(())
@@ -115,15 +118,20 @@ impl Progress {
         Ok(())
     }
 
-    // Writes a split, and has the halves wait, the one with the vertex inside as the next.
+    // Writes a split, and has the halves wait under the next two numbers, the one with the vertex
+    // inside as the next.
     fn split(&mut self, alloc: Global, node: Node, vertex: u32) -> Result<(), AllocError>
         ensures lines { OnOk result (self.new.lines.items ≡ self.old.lines.items ++ ProofLine.Split vertex ∷ []) }
-        ensures waiting { OnOk result (self.new.waiting.items
-            ≡ self.old.waiting.items ++ outside_half node vertex ∷ inside_half node vertex ∷ []) }
+        ensures waiting { OnOk result (self.new.waiting.items ≡ self.old.waiting.items
+            ++ outside_half node vertex (min (self.old.made + 1) (2 ^ 64 - 1)) ∷ inside_half node vertex self.old.made ∷ []) }
         ensures best { self.new.best ≡ self.old.best }
         ensures least { self.new.least ≡ self.old.least }
     {
-        let (inside, outside) = halves(alloc, node, vertex)?;
+        let (first, second) = (self.made, self.made.saturating_add(1));
+        let Ok((inside, outside)) = halves(alloc, node, vertex, first, second) else {
+            return Err(AllocError);
+        };
+        self.made = second.saturating_add(1);
         self.lines.push(ProofLine::Split(vertex))?;
         self.waiting.push(outside)?;
         self.waiting.push(inside)?;

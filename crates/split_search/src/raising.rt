@@ -1,10 +1,7 @@
-ghost use Rattle.std.specs.Prelude.{◌≡◌, ◌⊎◌, ◌-◌, ◌<◌, IfOk};
+ghost use Rattle.std.specs.Prelude.{◌≡◌, ◌⊎◌, IfOk};
 ghost use Rattle.std.specs.Bool.{OnTrue};
 ghost use Rattle.st_model.specs.Branch.{IsBranch};
-ghost use Rattle.cut_packing.specs.Packing.{weight};
-ghost use Rattle.dual_ascent.specs.Extension.{IsRootFor};
-ghost use Rattle.split_search.specs.Node.{IsNode, no_cuts};
-ghost use Rattle.split_search.specs.Raising.{IsNoWorse, IsExtendedTo};
+ghost use Rattle.split_search.specs.Raising.{IsExtendable, IsExtendedTo, IsNoWorse};
 
 use crate::node::no_cuts;
 use cut_packing::{Packing, weight};
@@ -24,12 +21,8 @@ pub fn raise(
     root: u32,
     least: u64,
 ) -> Result<Extension, AllocError>
-    requires node { IsNode whole.now.instance (record { branch = branch.now; packing = packing }) }
-    requires root { IsRootFor whole.now.instance branch.now packing root }
-    requires light { weight whole.now.instance branch.now packing < least }
-    ensures extended { IfOk result
-        (λ e. IsExtendedTo whole.now.instance branch.now packing root least e.ascent) }
-    ensures count { IfOk result (λ e. e.arcs.n ≡ whole.now.instance.n) }
+    requires { IsExtendable whole.now.instance branch.now packing root least }
+    ensures { IfOk result (IsExtendedTo whole.now.instance branch.now packing root least) }
 {
     let has_cuts = !packing.cuts.as_slice().is_empty();
     let first = raise_from(alloc, whole, branch, packing, root, least)?;
@@ -49,12 +42,8 @@ fn raise_from(
     root: u32,
     least: u64,
 ) -> Result<Extension, AllocError>
-    requires node { IsNode whole.now.instance (record { branch = branch.now; packing = packing }) }
-    requires root { IsRootFor whole.now.instance branch.now packing root }
-    requires light { weight whole.now.instance branch.now packing < least }
-    ensures extended { IfOk result
-        (λ e. IsExtendedTo whole.now.instance branch.now packing root least e.ascent) }
-    ensures count { IfOk result (λ e. e.arcs.n ≡ whole.now.instance.n) }
+    requires { IsExtendable whole.now.instance branch.now packing root least }
+    ensures { IfOk result (IsExtendedTo whole.now.instance branch.now packing root least) }
 {
     let start = weight(&whole.instance, branch.branch(), &packing) as u64;
     let raised = extend(

@@ -1,4 +1,4 @@
-use crate::node::Node;
+use branching::Node;
 use cut_packing::Packing;
 use st_model::Tree;
 

@@ -5,17 +5,35 @@ use std::process::Abort;
 use std::sync::atomic::{AtomicU64, Ordering};
 use std::test::Fail;
 
-/// Counts the nodes that it is shown, as long as each comes in its turn and from seat 0.
+/// Counts the nodes that it is shown, as long as each is a new one below 64 and from seat 0.
 #[derive(Drop)]
 struct CountingGate {
     nodes: AtomicU64,
+    /// A bit for each number that was shown.
+    seen: AtomicU64,
     strays: AtomicU64,
+}
+
+impl CountingGate {
+    fn new() -> CountingGate {
+        CountingGate {
+            nodes: AtomicU64::new(0),
+            seen: AtomicU64::new(0),
+            strays: AtomicU64::new(0),
+        }
+    }
 }
 
 impl Gate for CountingGate {
     fn at(&self, seat: u32, id: u64) {
-        let turn = self.nodes.fetch_add(1, Ordering::SeqCst);
-        if seat != 0 || id != turn {
+        self.nodes.fetch_add(1, Ordering::SeqCst);
+        let bit = if id < 64 {
+            1u64.wrapping_shl(id as u32)
+        } else {
+            0
+        };
+        let seen = self.seen.fetch_or(bit, Ordering::SeqCst);
+        if seat != 0 || bit == 0 || seen & bit != 0 {
             self.strays.store(1, Ordering::SeqCst);
         }
     }
@@ -36,10 +54,7 @@ const FILES: &[(&str, u64)] = &[(TRIANGLE, 16), (WHEEL, 16), (PRIZES, 8)];
 fn shows_each_node_to_the_gate_once(rt: HostRuntime) -> Result<(), Fail> {
     for (lines, nodes) in FILES {
         let text = text_of(rt.alloc(), lines)?;
-        let gate = CountingGate {
-            nodes: AtomicU64::new(0),
-            strays: AtomicU64::new(0),
-        };
+        let gate = CountingGate::new();
         let Ok(outcome) = solve_bytes(rt.alloc(), &text, *nodes, &gate) else {
             return Err(Fail::new("not solved"));
         };
@@ -56,10 +71,7 @@ fn shows_each_node_to_the_gate_once(rt: HostRuntime) -> Result<(), Fail> {
 fn shows_no_more_nodes_than_the_budget(rt: HostRuntime) -> Result<(), Fail> {
     let text = text_of(rt.alloc(), WHEEL)?;
     for budget in [0, 1] {
-        let gate = CountingGate {
-            nodes: AtomicU64::new(0),
-            strays: AtomicU64::new(0),
-        };
+        let gate = CountingGate::new();
         let Ok(Outcome::Found { primal, dual, .. }) = solve_bytes(rt.alloc(), &text, budget, &gate)
         else {
             return Err(Fail::new("no tree"));

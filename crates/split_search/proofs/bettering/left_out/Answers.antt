@@ -9,6 +9,8 @@ loop-before-preserved c =
     let test = is_left_out c.args.instance.now c.args.branch.now c.args.reached.now.members in
     let out = c.loop-before.out.items in
     elim c.if-is_left_out.branch [
-      | then-is_left_out+in_ok-push w ↦ rw (w.out-is, w.in_ok-push.ensures.items) (AreThose-push test c.loop-before.before out c.loop-before.invariant (sym c.is_left_out.ensures ∙ w.if-is_left_out.true))
+      | then-is_left_out+in_ok-push w ↦
+          let passes = sym c.is_left_out.ensures ∙ w.if-is_left_out.true in
+          rw (w.out-is, w.in_ok-push.ensures.items) (AreThose-push test c.loop-before.before out c.loop-before.invariant passes)
       | else-is_left_out w ↦ rw w.out-is (AreThose-skip test c.loop-before.before out c.loop-before.invariant (sym c.is_left_out.ensures ∙ w.if-is_left_out.false))
     ]

@@ -1,6 +1,5 @@
-use Rattle.std.specs.Prelude.{IsTrue}
-use Rattle.st_model.specs.Lists.{has}
+use Rattle.cut_packing.specs.ProofTree.{IsSplit}
 use Rattle.split_search.proofs.picking.pick.Given as goal
 
-abbrev pub invariant-loop-vertex : goal.invariant-loop-vertex
-invariant-loop-vertex l = IsTrue (has l.free l.best)
+abbrev pub invariant-loop-before : goal.invariant-loop-before
+invariant-loop-before l = IsSplit l.instance l.branch l.best

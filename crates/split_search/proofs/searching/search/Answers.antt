@@ -8,5 +8,8 @@ returns g c =
     let I = c.args.whole.now.instance in
     let p = c.run.new.self in
     let e = c.finish.ensures in
-    let no_worse : p.least ≤ cost I c.args.start = omega (arith, c.in_ok-run.ensures.no_worse, c.in_ok-progress.ensures.under_way.is_cost, ap (cost I) c.in_ok-progress.ensures.best) in
-    searched I c.args.start c.args.budget p.lines.items p.waiting.items p.best p.least c.finish.result c.in_ok-run.ensures.under_way no_worse c.in_ok-run.ensures.within c.in_ok-run.ensures.spent e.accepted e.primal e.greatest e.whole e.spent e.lines e.writable
+    let first = c.in_ok-progress.ensures in
+    let r = c.in_ok-run.ensures in
+    let no_worse : p.least ≤ cost I c.args.start = omega (arith, r.no_worse, first.under_way.is_cost, ap (cost I) first.best) in
+    searched I c.args.start c.args.budget p.lines.items p.waiting.items p.best p.least c.finish.result r.under_way no_worse r.within r.spent
+    e.accepted e.primal e.greatest e.whole e.spent e.lines e.writable

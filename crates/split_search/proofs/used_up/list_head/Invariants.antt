@@ -7,4 +7,7 @@ use Rattle.split_search.proofs.used_up.list_head.Given as goal
 
 abbrev pub invariant-loop-arc : goal.invariant-loop-arc
 invariant-loop-arc l =
-    record { count : length l.heads ≡ length l.fn.heads; listed : (u v : ℕ) → has (heads_at l.heads u) v ≡ (has (heads_at l.fn.heads u) v || ((l.head == v) && is_used_up (take l.arc-index l.arcs) u)) }
+    record {
+      count : length l.heads ≡ length l.fn.heads;
+      listed : (u v : ℕ) → has (heads_at l.heads u) v ≡ (has (heads_at l.fn.heads u) v || ((l.head == v) && is_used_up (take l.arc-index l.arcs) u));
+    }

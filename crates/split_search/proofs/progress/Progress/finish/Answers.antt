@@ -11,13 +11,33 @@ unreachable-requires c =
     false≢true (c.in_default.ensures.one.1 (p.proof, p.written))
 
 pub returns-clause-accepted : goal.returns-clause-accepted
-returns-clause-accepted c = rw (c.in-Some.ensures.lines, c.in_ok-dual.ensures.best, c.in_ok-dual.ensures.least) (ends_accepted c.args.instance.now c.args.self.best c.args.self.least c.args.self.lines.items c.args.self.waiting.items c.close_left.new.self.lines.items c.in_ok-dual.dual c.requires.tree c.requires.is_cost c.in_ok-dual.ensures.closed)
+returns-clause-accepted c =
+    let s = c.args.self in
+    let k = c.in_ok-dual.ensures in
+    let lines = c.close_left.new.self.lines.items in
+    let r = c.requires in
+    rw (c.in-Some.ensures.lines, k.best, k.least)
+    (ends_accepted c.args.instance.now s.best s.least s.lines.items s.waiting.items lines c.in_ok-dual.dual r.tree r.is_cost k.closed)
 
 pub returns-clause-spent : goal.returns-clause-spent
-returns-clause-spent c = rw (c.in-Some.ensures.lines, c.in_ok-dual.ensures.least) (ends_spent c.args.instance.now c.args.self.least c.args.self.lines.items c.args.self.waiting.items c.close_left.new.self.lines.items c.in_ok-dual.dual c.in_ok-dual.ensures.closed)
+returns-clause-spent c =
+    let s = c.args.self in
+    let k = c.in_ok-dual.ensures in
+    let lines = c.close_left.new.self.lines.items in
+    rw (c.in-Some.ensures.lines, k.least) (ends_spent c.args.instance.now s.least s.lines.items s.waiting.items lines c.in_ok-dual.dual k.closed)
 
 pub returns-clause-writable : goal.returns-clause-writable
-returns-clause-writable c = rw (c.in-Some.ensures.lines, c.in_ok-dual.ensures.best, c.in_ok-dual.ensures.least) (ends_writable c.args.instance.now c.args.self.best c.args.self.least c.args.self.lines.items c.args.self.waiting.items c.close_left.new.self.lines.items c.in_ok-dual.dual c.requires.instance c.requires.tree c.requires.is_cost c.in_ok-dual.ensures.closed)
+returns-clause-writable c =
+    let s = c.args.self in
+    let k = c.in_ok-dual.ensures in
+    let lines = c.close_left.new.self.lines.items in
+    let r = c.requires in
+    rw (c.in-Some.ensures.lines, k.best, k.least)
+    (ends_writable c.args.instance.now s.best s.least s.lines.items s.waiting.items lines c.in_ok-dual.dual r.instance r.tree r.is_cost k.closed)
 
 pub returns-clause-greatest : goal.returns-clause-greatest
-returns-clause-greatest c = rw (c.in-Some.ensures.lines, c.in_ok-dual.ensures.least) (ends_greatest c.args.instance.now c.args.self.least c.args.self.lines.items c.args.self.waiting.items c.close_left.new.self.lines.items c.in_ok-dual.dual c.in_ok-dual.ensures.closed)
+returns-clause-greatest c =
+    let s = c.args.self in
+    let k = c.in_ok-dual.ensures in
+    let lines = c.close_left.new.self.lines.items in
+    rw (c.in-Some.ensures.lines, k.least) (ends_greatest c.args.instance.now s.least s.lines.items s.waiting.items lines c.in_ok-dual.dual k.closed)

@@ -3,9 +3,9 @@ use Rattle.split_search.specs.Progress.{IsUnderWay}
 use Rattle.split_search.proofs.progress.Progress.run.Given as goal
 
 -- a line for each node that was taken
-abbrev pub invariant-loop-taken : goal.invariant-loop-taken
-invariant-loop-taken g l = record {
+abbrev pub invariant-loop : goal.invariant-loop
+invariant-loop g l = record {
   under_way : IsUnderWay l.whole.instance l.self.lines.items l.self.waiting.items l.self.best l.self.least;
   no_worse : l.self.least ≤ l.initial.self.least;
-  lines : length l.self.lines.items ≡ l.taken;
+  lines : length l.self.lines.items ≡ l.counter;
 }

@@ -1,10 +1,10 @@
-use Rattle.std.proofs.Common.{[], ◌∷◌, ◌++◌, Result, Ok, Err, ap, ◌∙◌, Vec, Global}
+use Rattle.std.proofs.Common.{◌+◌, ◌-◌, ◌^◌, min, [], ◌∷◌, ◌++◌, Result, Ok, Err, ap, ◌∙◌, Vec, Global}
 use Rattle.std.specs.Prelude.{OnOk}
 use Rattle.std.proofs.lemmas.Result.{on_ok_weaker}
 use Rattle.log_format.specs.declared.proof_line.ProofLine.{ProofLine}
 use Rattle.log_format.specs.declared.proof_line.ProofLine.TheVariants.{Split, Close}
-use Rattle.split_search.specs.declared.node.Node.{Node}
-use Rattle.split_search.specs.Node.{inside_half, outside_half}
+use Rattle.branching.specs.declared.node.Node.{Node}
+use Rattle.branching.specs.Node.{inside_half, outside_half}
 use Rattle.split_search.specs.Progress.{IsUnderWay}
 use Rattle.split_search.specs.Step.{best_after, least_after}
 use Rattle.split_search.proofs.Steps.{adopt_keeps, same_state, close_keeps, split_keeps}
@@ -12,10 +12,12 @@ use Rattle.split_search.proofs.progress.Progress.take.Goals.{After-adopt}
 use Rattle.split_search.proofs.progress.Progress.take.Goals as goal
 
 -- the state with the better tree, if there is one
-adopted : (c : After-adopt) → IsUnderWay c.args.whole.now.instance c.args.self.now.lines.items (c.args.self.now.waiting.items ++ c.args.node ∷ []) (best_after c.args.self.now.best c.in_ok-better.field-0.better) (least_after c.args.self.now.least c.in_ok-better.field-0.better)
+adopted : (c : After-adopt) → IsUnderWay c.args.whole.now.instance c.args.self.now.lines.items (c.args.self.now.waiting.items ++ c.args.node ∷ [])
+    (best_after c.args.self.now.best c.in_ok-better.field-0.better) (least_after c.args.self.now.least c.in_ok-better.field-0.better)
 adopted c =
     let s = c.args.self.now in
-    adopt_keeps c.args.whole.now.instance s.lines.items (s.waiting.items ++ c.args.node ∷ []) s.best s.least c.in_ok-better.field-0.better c.in_ok-better.ensures.tree c.requires.under_way
+    let step = c.in_ok-better in
+    adopt_keeps c.args.whole.now.instance s.lines.items (s.waiting.items ++ c.args.node ∷ []) s.best s.least step.field-0.better step.ensures.tree c.requires.under_way
 
 pub returns-in-Close-clause-under_way : goal.returns-in-Close-clause-under_way
 returns-in-Close-clause-under_way c =
@@ -24,8 +26,13 @@ returns-in-Close-clause-under_way c =
     let h = rw c.in-Close.is at c.in_ok-better.ensures.ends in
     let a = c.adopt.ensures in
     let k = c.close.ensures in
-    let closed = close_keeps c.args.whole.now.instance s.lines.items s.waiting.items c.args.node (best_after s.best better) (least_after s.least better) c.in-Close.packing h (adopted ((goal.at.returns-in-Close-clause-under_way c).After-adopt)) in
-    on_ok_weaker c.close.result (λ lines. same_state c.args.whole.now.instance _ _ _ _ _ _ _ _ (lines ∙ ap (λ (w : Vec ProofLine Global). w.items ++ Close c.in-Close.packing ∷ []) a.lines) (ap (λ (w : Vec Node Global). w.items) (k.waiting ∙ a.waiting)) (k.best ∙ a.best) (k.least ∙ a.least) closed) k.lines
+    let I = c.args.whole.now.instance in
+    let P = c.in-Close.packing in
+    let before = adopted ((goal.at.returns-in-Close-clause-under_way c).After-adopt) in
+    let after = close_keeps I s.lines.items s.waiting.items c.args.node (best_after s.best better) (least_after s.least better) P h before in
+    let same_lines = ap (λ (w : Vec ProofLine Global). w.items ++ Close P ∷ []) a.lines in
+    let same_waiting = ap (λ (w : Vec Node Global). w.items) (k.waiting ∙ a.waiting) in
+    on_ok_weaker c.close.result (λ lines. same_state I _ _ _ _ _ _ _ _ (lines ∙ same_lines) same_waiting (k.best ∙ a.best) (k.least ∙ a.least) after) k.lines
 
 both_ok : {T E P Q R : Type 0} (r : Result T E) → (P → Q → R) → OnOk r P → OnOk r Q → OnOk r R
 both_ok (Ok x) f p q = f p q
@@ -35,8 +42,17 @@ pub returns-in-Split-clause-under_way : goal.returns-in-Split-clause-under_way
 returns-in-Split-clause-under_way c =
     let s = c.args.self.now in
     let better = c.in_ok-better.field-0.better in
+    let node = c.in-Split.node in
+    let v = c.in-Split.vertex in
+    let id = c.adopt.new.self.made in
+    let id' = min (id + 1) (2 ^ 64 - 1) in
     let h = rw c.in-Split.is at c.in_ok-better.ensures.ends in
     let a = c.adopt.ensures in
     let k = c.split.ensures in
-    let split = split_keeps c.args.whole.now.instance s.lines.items s.waiting.items c.args.node c.in-Split.node (best_after s.best better) (least_after s.least better) c.in-Split.vertex h (adopted ((goal.at.returns-in-Split-clause-under_way c).After-adopt)) in
-    both_ok c.split.result (λ lines waiting. same_state c.args.whole.now.instance _ _ _ _ _ _ _ _ (lines ∙ ap (λ (w : Vec ProofLine Global). w.items ++ Split c.in-Split.vertex ∷ []) a.lines) (waiting ∙ ap (λ (w : Vec Node Global). w.items ++ outside_half c.in-Split.node c.in-Split.vertex ∷ inside_half c.in-Split.node c.in-Split.vertex ∷ []) a.waiting) (k.best ∙ a.best) (k.least ∙ a.least) split) k.lines k.waiting
+    let I = c.args.whole.now.instance in
+    let before = adopted ((goal.at.returns-in-Split-clause-under_way c).After-adopt) in
+    let after = split_keeps I s.lines.items s.waiting.items c.args.node node (best_after s.best better) (least_after s.least better) v id id' h before in
+    let same_lines = ap (λ (w : Vec ProofLine Global). w.items ++ Split v ∷ []) a.lines in
+    let same_waiting = ap (λ (w : Vec Node Global). w.items ++ outside_half node v id' ∷ inside_half node v id ∷ []) a.waiting in
+    both_ok c.split.result
+    (λ lines waiting. same_state I _ _ _ _ _ _ _ _ (lines ∙ same_lines) (waiting ∙ same_waiting) (k.best ∙ a.best) (k.least ∙ a.least) after) k.lines k.waiting

@@ -1,0 +1,23 @@
+-- What is left of a branch where more is to be avoided.
+use Rattle.std.proofs.Common.{◌≡◌, ℕ, Bool, true, false, not, ◌||◌, List, refl, ◌∙◌}
+use Rattle.std.specs.Prelude.{IsTrue, IsFalse}
+use Rattle.st_model.specs.declared.branch.Branch.{Branch}
+use Rattle.st_model.specs.Lists.{has}
+use Rattle.st_model.specs.Network.{Network, is_required}
+use Rattle.st_model.specs.Branch.{AreThose, IsBranch}
+use Rattle.st_model.proofs.Branches.{IsVertexSet-member}
+use Rattle.split_search.specs.Deciding.{is_left_out}
+
+-- a branch in which more is outside, but nothing that is certain
+pub narrow_branch : (I : Network) (B : Branch) (reached out : List ℕ) → IsBranch I B → AreThose (is_left_out I B reached) I.n out
+    → IsBranch I (record { inside = B.inside; outside = out })
+narrow_branch I B reached out branch are = record { inside = branch.inside; outside = are.set; apart = apart }
+  where
+    apart : (v : ℕ) → IsTrue (has B.inside v) → IsFalse (has out v)
+    apart v inside =
+        let vertex = IsVertexSet-member I.n B.inside v branch.inside inside in
+        are.same v vertex ∙ rw (branch.apart v inside, inside) (by_case (is_required I v))
+      where
+        by_case : (b : Bool) → not ((b || true) || has reached v) ≡ false
+        by_case true = refl
+        by_case false = refl
