@@ -123,7 +123,8 @@ impl Progress {
     fn split(&mut self, alloc: Global, node: Node, vertex: u32) -> Result<(), AllocError>
         ensures lines { OnOk result (self.new.lines.items ≡ self.old.lines.items ++ ProofLine.Split vertex ∷ []) }
         ensures waiting { OnOk result (self.new.waiting.items ≡ self.old.waiting.items
-            ++ outside_half node vertex (min (self.old.made + 1) (2 ^ 64 - 1)) ∷ inside_half node vertex self.old.made ∷ []) }
+            ++ outside_half node vertex (min (self.old.made + 1) (2 ^ 64 - 1))
+            ∷ inside_half node vertex self.old.made ∷ []) }
         ensures best { self.new.best ≡ self.old.best }
         ensures least { self.new.least ≡ self.old.least }
     {
