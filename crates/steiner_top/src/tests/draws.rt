@@ -1,7 +1,6 @@
 use super::worked::solution_of;
 use super::{TRIANGLE, ends, shelf_of, sink_of, words_of};
 use crate::{OpenGate, Outcome, Status, run};
-use st_edge::MemoryShelf;
 use std::alloc::Global;
 use std::process::Abort;
 use std::test::Fail;
@@ -17,24 +16,21 @@ fn sends_what_is_drawn(rt: HostRuntime) -> Result<(), Fail> {
     ends(&rt, "gen 1 3 3 2", &mut shelf, (Status::Optimal, 0, DRAWN))
 }
 
-/// A shelf with what is sent for a line under `a.stp`.
-fn shelf_after(rt: &(impl Abort + AllocGlobal), line: &str) -> Result<MemoryShelf, Fail> {
-    let words = words_of(rt.alloc(), line)?;
-    let mut shelf = shelf_of(rt.alloc(), TRIANGLE, &[])?;
-    let mut out = sink_of(rt.alloc())?;
-    let ended = run(rt.alloc(), &words, &mut shelf, &mut out, &OpenGate);
-    assert_eq!(rt; ended.status, Status::Optimal);
-    assert!(rt; ended.outcome.is_none());
-    let mut texts = Vec::new(rt.alloc());
-    let text = Vec::from_slice(rt.alloc(), out.bytes())?;
-    texts.push((String::from_str(rt.alloc(), "a.stp")?, text))?;
-    Ok(MemoryShelf::of(rt.alloc(), texts, Vec::new(rt.alloc())))
+/// What is sent for `gen 1 3 3 2 --prizes`.
+const WITH_PRIZES: &str =
+    "33D32945 STP File, STP Format Version 1.0\nSECTION Graph\nNodes 3\nEdges 3\nE 1 2 95\nE 1 3 38\nE 2 3 62\nEND\nSECTION Terminals\nTerminals 2\nTP 1 72\nTP 3 32\nEND\nEOF\n";
+
+#[test]
+fn sends_what_is_drawn_with_prizes(rt: HostRuntime) -> Result<(), Fail> {
+    let mut shelf = shelf_of(rt.alloc(), TRIANGLE, &[1, 2])?;
+    let want = (Status::Optimal, 0, WITH_PRIZES);
+    ends(&rt, "gen 1 3 3 2 --prizes", &mut shelf, want)
 }
 
-/// Vertex 1 pays 72 and vertex 3 pays 32, and to link them costs 38.
+/// To link vertices 1 and 3 costs 38, and vertex 3 pays 32.
 #[test]
 fn solves_what_is_drawn_with_prizes(rt: HostRuntime) -> Result<(), Fail> {
-    let mut shelf = shelf_after(&rt, "gen 1 3 3 2 --prizes")?;
+    let mut shelf = shelf_of(rt.alloc(), WITH_PRIZES, &[])?;
     let text = solution_of(rt.alloc(), "optimal", 32, 32, (&[1], &[]))?;
     let want = (Status::Optimal, 0, text.as_str());
     ends(&rt, "solve a.stp", &mut shelf, want)
@@ -51,8 +47,8 @@ fn tries_what_is_drawn(rt: HostRuntime) -> Result<(), Fail> {
     Ok(())
 }
 
-/// What a trial gives, and what it sends.
-fn trial(alloc: Global, line: &str) -> Result<(Status, Option<Outcome>, Vec<u8>), Fail> {
+/// What a line gives, and what is sent.
+fn sent_for(alloc: Global, line: &str) -> Result<(Status, Option<Outcome>, Vec<u8>), Fail> {
     let words = words_of(alloc, line)?;
     let mut shelf = shelf_of(alloc, TRIANGLE, &[])?;
     let mut out = sink_of(alloc)?;
@@ -64,8 +60,8 @@ fn trial(alloc: Global, line: &str) -> Result<(Status, Option<Outcome>, Vec<u8>)
 /// Where one worker and four of them prove a cost the least, it is the same.
 #[test]
 fn tries_alike_with_four_workers(rt: HostRuntime) -> Result<(), Fail> {
-    let (one, first, lines) = trial(rt.alloc(), "trial 20 300 600 12")?;
-    let (four, second, others) = trial(rt.alloc(), "trial 20 300 600 12 --workers 4")?;
+    let (one, first, lines) = sent_for(rt.alloc(), "trial 20 300 600 12")?;
+    let (four, second, others) = sent_for(rt.alloc(), "trial 20 300 600 12 --workers 4")?;
     assert!(rt; matches!(first, Some(Outcome::Found { .. })));
     assert!(rt; matches!(second, Some(Outcome::Found { .. })));
     if one == Status::Optimal && four == Status::Optimal {
