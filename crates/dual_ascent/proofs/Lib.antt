@@ -9,3 +9,5 @@ pub mod Bordering
 pub mod Queued
 pub mod Fresh
 pub mod Turned
+pub mod Offered
+pub mod Levelled

@@ -1,9 +1,8 @@
 -- What cuts take of arcs and prizes, and what they leave.
-use Rattle.std.specs.Prelude.{◌≡◌, ◌≢◌, ℕ, ◌+◌, ◌-◌, ◌≤◌, IsTrue, IsFalse, List, All, Some}
+use Rattle.std.specs.Prelude.{◌≡◌, ◌≢◌, ℕ, ◌+◌, ◌-◌, ◌≤◌, IsFalse, List, All, Some}
 use Rattle.std.specs.Option.{option_map}
 use Rattle.st_model.specs.declared.branch.Branch.{Branch}
 use Rattle.st_model.specs.Lists.{has, total}
-use Rattle.st_model.specs.Network.{IsVertex}
 use Rattle.st_model.specs.Branch.{IsVertexSet}
 use Rattle.graph_store.specs.Graph.{Graph}
 use Rattle.bidirected_form.specs.declared.kind.VertexKind.TheVariants.{Must}

@@ -4,3 +4,5 @@ pub mod Ascent
 pub mod Extension
 pub mod Laws
 pub mod Turns
+pub mod Levels
+pub mod Searching

@@ -55,7 +55,7 @@ pub fn ascend(
 }
 
 // The cuts for a root.
-fn packing(root: u32, cuts: Vec<Cut>) -> Packing
+pub fn packing(root: u32, cuts: Vec<Cut>) -> Packing
     ensures { result ≡ record { root = Some root; cuts = cuts.items } }
 {
     Packing {

@@ -13,7 +13,9 @@ mod charging;
 mod extension;
 mod growing;
 mod law;
+mod levels;
 mod raising;
+mod searching;
 #[cfg(test)]
 mod tests;
 mod turning;
@@ -24,3 +26,4 @@ pub use ascent::Ascent;
 pub use charging::charge_cuts;
 pub use extension::{Extension, extend};
 pub use law::{joined_fits, joined_is_full};
+pub use levels::fix_levels;

@@ -66,7 +66,7 @@ fn limit(arcs: &Arcs, twins: &Twins, vertex: u32, room: u64) -> u64
 }
 
 // A cut round the members of a set.
-fn cut_round(alloc: Global, set: &VertexSet, q: u32, y: u64) -> Result<Cut, AllocError>
+pub fn cut_round(alloc: Global, set: &VertexSet, q: u32, y: u64) -> Result<Cut, AllocError>
     ensures q { IfOk result (λ c. c.q ≡ q) }
     ensures y { IfOk result (λ c. c.y ≡ y) }
     ensures members { IfOk result (λ c. (v : ℕ) → has c.set v ≡ has set.now.members v) }
