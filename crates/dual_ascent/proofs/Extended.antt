@@ -19,19 +19,14 @@ use Rattle.cut_packing.specs.Packing.{load, named, CutFits, Fits, weight}
 use Rattle.cut_packing.proofs.Duality.{named_vertex}
 use Rattle.dual_ascent.specs.declared.ascent.Ascent.TheVariants.{Full, Reached}
 use Rattle.graph_store.specs.Whole.{IsWhole}
-use Rattle.dual_ascent.specs.Left.{AreBorne, AreEndsOf, AreLeft, raised}
+use Rattle.dual_ascent.specs.Left.{AreBorne, AreLeft, FitsLeft, raised}
 use Rattle.dual_ascent.specs.Ascent.{IsAscended, ReachesAll}
 use Rattle.dual_ascent.specs.Extension.{IsStart, IsRootFor, IsExtended, IsExtension}
-use Rattle.dual_ascent.specs.Laws.{joined, IsRaised}
+use Rattle.dual_ascent.specs.Laws.{joined, IsCharged}
 use Rattle.dual_ascent.proofs.ChargedCuts.{lowered_twice}
 use Rattle.dual_ascent.proofs.OpenVertices.{open_vertex, open_in_range, must_certain, may_free, cost_linked}
-use Rattle.dual_ascent.proofs.Raised.{raises_sets, raises_sum}
-use Rattle.dual_ascent.proofs.Joined.{packed_apart, together_fit, joined_full}
-
--- cuts that all name other vertices don't name v
-named_none : (v : ℕ) (cuts : List Cut) → AllByRecursion (λ c. c.q ≢ v) cuts → named cuts v ≡ 0
-named_none v [] h = refl
-named_none v (c ∷ cuts) h = rw (ne_eqb c.q v h.0) (omega (arith, named_none v cuts h.1))
+use Rattle.dual_ascent.proofs.Raised.{raises_sum}
+use Rattle.dual_ascent.proofs.Joined.{named_none, packed_apart, together_fit, joined_full}
 
 module _ (g : Graph) (B : Branch) (P : Packing) (root : ℕ) (graph : IsGraph g) (whole : IsWhole g) (start : IsStart g.network B P) (rooted : IsRootFor g.network B P root) where
   module _ (D : Digraph) (E : Ends) (is_root : D.root ≡ root) (count : D.n ≡ g.network.n) (kinds : (v : ℕ) → kind_of D v ≡ kind_in g B v) (costs : (u v : ℕ) → remaining D u v ≡ arc_cost g B u v) (prizes : (v : ℕ) → left_of E v ≡ prize_in D v) where
@@ -70,30 +65,27 @@ module _ (g : Graph) (B : Branch) (P : Packing) (root : ℕ) (graph : IsGraph g)
       prizes = prizes_borne;
     }
 
-  module _ (D D' : Digraph) (E E' : Ends) (target : ℕ) (A : Packing) (is_root : D.root ≡ root) (left : AreLeft g B P.cuts D E) (ends : AreEndsOf D E) (ascended : IsAscended D D' E E' target A) where
-    raised_is : IsRaised g B P D E target A
-    raised_is = record {
-      whole = whole;
-      branch = start.branch;
-      required = start.required;
-      fits = start.fits;
-      left = left;
-      ends = ends;
-      certain = rw is_root rooted.certain;
-      root = rw is_root rooted.same;
-      same = ascended.root;
-      raises = ascended.cuts;
-    }
+  pub charged : (D : Digraph) (E : Ends) → D.root ≡ root → AreLeft g B P.cuts D E → IsCharged g B P D E
+  charged D E is_root left = record {
+    whole = whole;
+    branch = start.branch;
+    required = start.required;
+    fits = start.fits;
+    left = left;
+    certain = rw is_root rooted.certain;
+    root = rw is_root rooted.same;
+  }
 
+  module _ (D D' : Digraph) (E E' : Ends) (target : ℕ) (A : Packing) (is_root : D.root ≡ root) (h : IsCharged g B P D E) (fits : FitsLeft D E A) (ascended : IsAscended D D' E E' target A) where
     both_fit : Fits g.network B (joined P A) × (weight g.network B (joined P A) ≡ weight g.network B P + raised A.cuts)
-    both_fit = together_fit g B P D E target A raised_is graph (rw is_root rooted.vertex)
+    both_fit = together_fit g B P D E h A graph (rw is_root rooted.vertex) fits
 
     both_extend : length (joined P A).cuts < 2 ^ 64 → IsExtended g.network B P (joined P A) root
     both_extend few = record {
-      rooted = ascended.root ∙ ap Some is_root;
+      rooted = fits.root ∙ ap Some is_root;
       fits = both_fit.0;
       no_lighter = omega (arith, both_fit.1);
-      sets = All-append (λ c. IsVertexSet g.network.n c.set) P.cuts A.cuts start.sets (subst (λ n. All (λ c. IsVertexSet n c.set) A.cuts) left.count (raises_sets D E target A.cuts ascended.cuts));
+      sets = All-append (λ c. IsVertexSet g.network.n c.set) P.cuts A.cuts start.sets (λ k d below. subst (λ n. IsVertexSet n (get_or A.cuts k d).set) h.left.count (fits.borne.sets k d below).0);
       few = few;
     }
 
@@ -101,7 +93,7 @@ module _ (g : Graph) (B : Branch) (P : Packing) (root : ℕ) (graph : IsGraph g)
     extended_reached new same few reached = rw same (both_extend (rw same at few), omega (arith, both_fit.1, reached, raises_sum D E target A.cuts ascended.cuts))
 
     pub extended_full : (new : Packing) → new ≡ joined P A → length new.cuts < 2 ^ 64 → raised A.cuts < target → ReachesAll D E A.cuts → IsExtension g.network B P root target (Full new)
-    extended_full new same few below all = rw same (both_extend (rw same at few), omega (arith, both_fit.1, below), joined_full g B P D E target A raised_is all)
+    extended_full new same few below all = rw same (both_extend (rw same at few), omega (arith, both_fit.1, below), joined_full g B P D E h A fits.root all)
 
     pub both_left : (new : Packing) → new ≡ joined P A → (u v : ℕ) → remaining D' u v ≡ option_map (λ cost. cost - load new.cuts (u, v)) (arc_cost g B u v)
-    both_left new same u v = rw same (ascended.arcs.remaining u v ∙ ap (option_map (λ r. r - load A.cuts (u, v))) (left.remaining u v) ∙ lowered_twice P.cuts A.cuts (u, v) (arc_cost g B u v))
+    both_left new same u v = rw same (ascended.arcs.remaining u v ∙ ap (option_map (λ r. r - load A.cuts (u, v))) (h.left.remaining u v) ∙ lowered_twice P.cuts A.cuts (u, v) (arc_cost g B u v))

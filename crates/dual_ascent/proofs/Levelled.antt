@@ -1,6 +1,6 @@
 -- Cuts by how far the vertices are.
 use Rattle.std.proofs.Common.{◌≡◌, ℕ, ◌+◌, ◌-◌, ◌^◌, ◌<◌, ◌≤◌, Bool, true, false, ◌||◌, cond, Option, List, [], ◌∷◌, ◌++◌, length, get_or, take, Some, None, ◌⊎◌, inl, inr, refl, sym, ap, ◌∙◌, subst, arith}
-use Rattle.std.specs.Prelude.{IsTrue, IsFalse, ◌==◌, ◌&&◌, not, IsPermutation, min}
+use Rattle.std.specs.Prelude.{IsTrue, IsFalse, ◌==◌, ◌&&◌, not, IsPermutation, min, All}
 use Rattle.std.specs.Option.{is_some}
 use Rattle.std.specs.List.{list_any}
 use Rattle.std.specs.List.Sorted.{IsStrictlyIncreasing}
@@ -18,7 +18,8 @@ use Rattle.cut_packing.specs.declared.cut.Cut.{Cut}
 use Rattle.cut_packing.specs.declared.packing.Packing.{Packing}
 use Rattle.cut_packing.specs.Packing.{load}
 use Rattle.dual_ascent.specs.declared.levels.Near.{Near}
-use Rattle.dual_ascent.specs.Levels.{IsThere, WalksTo, ends, goes, IsCutFor, AreLevels}
+use Rattle.dual_ascent.specs.Left.{IsThere}
+use Rattle.dual_ascent.specs.Levels.{WalksTo, ends, goes, IsCutFor, AreLevels}
 use Rattle.dual_ascent.specs.Searching.{least_of, AreDistances, vertices_of, distances_of, IsNear, AreBelow, AreNear, AreUpTo}
 use Rattle.dual_ascent.proofs.ChargedCuts.{load-append}
 use Rattle.dual_ascent.proofs.Reaching.{arc_in_range}
@@ -150,7 +151,7 @@ arc_ends D u v r h is = (arc_in_range D h u v r is, back (remaining D v u) refl)
     back (Some s) is_back = arc_in_range D h v u s is_back
 
 -- one more cut, from a level up to the next
-module _ (D : Digraph) (q level next : ℕ) (least : List ℕ) (cuts : List Cut) (c : Cut) (h : AreUpTo D q level least cuts) (for_q : IsCutFor D q c) (up : level < next) (y : c.y ≡ next - level) (near : (v : ℕ) → IsVertex D.n v → IsTrue (has c.set v) → least_of least v ≤ level) (far : (v : ℕ) → IsVertex D.n v → IsFalse (has c.set v) → next ≤ least_of least v) where
+module _ (D : Digraph) (q level next : ℕ) (least : List ℕ) (cuts : List Cut) (c : Cut) (h : AreUpTo D q level least cuts) (for_q : IsCutFor D q c) (all_there : All (IsThere D) c.set) (up : level < next) (y : c.y ≡ next - level) (near : (v : ℕ) → IsVertex D.n v → IsTrue (has c.set v) → least_of least v ≤ level) (far : (v : ℕ) → IsVertex D.n v → IsFalse (has c.set v) → next ≤ least_of least v) where
   loads_next : (u v : ℕ) → IsVertex D.n u → IsVertex D.n v → load (cuts ++ c ∷ []) (u, v) ≡ min (least_of least u) next - min (least_of least v) next
   loads_next u v at_u at_v = by_case (has c.set v) (has c.set u) refl refl (load-append cuts (c ∷ []) (u, v))
     where
@@ -163,6 +164,7 @@ module _ (D : Digraph) (q level next : ℕ) (least : List ℕ) (cuts : List Cut)
   pub up_more : AreUpTo D q next least (cuts ++ c ∷ [])
   up_more = record {
     each = All-push (IsCutFor D q) cuts c h.each for_q;
+    present = All-push (λ (d : Cut). All (IsThere D) d.set) cuts c h.present all_there;
     worth = omega (arith, total-append (λ (d : Cut). d.y) cuts (c ∷ []), h.worth, up, y);
     few = omega (arith, length_push cuts c, h.few, up);
     loads = loads_next;
@@ -172,6 +174,7 @@ module _ (D : Digraph) (q level next : ℕ) (least : List ℕ) (cuts : List Cut)
 pub up_none : (D : Digraph) (q level : ℕ) (least : List ℕ) → level ≡ 0 → AreUpTo D q level least []
 up_none D q level least is = record {
   each = All-nil (IsCutFor D q);
+  present = All-nil (λ (d : Cut). All (IsThere D) d.set);
   worth = sym is;
   few = omega arith;
   loads = λ u v at_u at_v. omega (arith, is);
@@ -185,7 +188,6 @@ module _ (D : Digraph) (q target : ℕ) (least : List ℕ) (graph : IsDigraph D)
     set = record { ascending = ascending; in_range = λ k d within. (first (get_or c.set k d) (has_at c.set k d within)).0 };
     held = by_case q range (has c.set q) refl (λ out. omega (arith, far.end, up, others q range out));
     apart = out_of (has c.set D.root) refl;
-    there = λ v held. at_vertex v (first v held);
   }
     where
       first : (v : ℕ) → IsTrue (has c.set v) → IsVertex D.n v × (least_of least v ≤ level near i limit)
@@ -202,6 +204,10 @@ module _ (D : Digraph) (q target : ℕ) (least : List ℕ) (graph : IsDigraph D)
       out_of false e = e
       out_of true e = absurd (omega (arith, (first D.root e).1, level_below D.n limit least near h i below, limit_is))
 
+  -- which holds nobody outside
+  cut_there : (near : List Near) (i : ℕ) (c : Cut) → AreNear D.n limit least near → i < length near → ((v : ℕ) → has c.set v ≡ has (vertices_of (take (i + 1) near)) v) → All (IsThere D) c.set
+  cut_there near i c h below same = λ k d within. at_vertex (get_or c.set k d) (first_near D.n limit least near h i (get_or c.set k d) below (sym (same (get_or c.set k d)) ∙ has_at c.set k d within))
+    where
       at_vertex : (v : ℕ) → IsVertex D.n v × (least_of least v ≤ level near i limit) → IsThere D v
       at_vertex v at = elim (far.walks v at.0) [
         | inl none_near ↦ absurd (omega (arith, none_near, at.1, level_below D.n limit least near h i below, far.within D.root, limit_is))
@@ -210,7 +216,7 @@ module _ (D : Digraph) (q target : ℕ) (least : List ℕ) (graph : IsDigraph D)
 
   pub up_step : (near : List Near) (i : ℕ) (cuts : List Cut) (c : Cut) → AreNear D.n limit least near → i < length near → level near i limit < level near (i + 1) limit → AreUpTo D q (level near i limit) least cuts → c.q ≡ q → IsStrictlyIncreasing c.set → ((v : ℕ) → has c.set v ≡ has (vertices_of (take (i + 1) near)) v) → c.y ≡ level near (i + 1) limit - level near i limit → AreUpTo D q (level near (i + 1) limit) least (cuts ++ c ∷ [])
   up_step near i cuts c h below up so_far named ascending same y =
-      up_more D q (level near i limit) (level near (i + 1) limit) least cuts c so_far (cut_for near i c h below up named ascending same) up y (λ v at held. (first_near D.n limit least near h i v below (sym (same v) ∙ held)).1) (λ v at out. others_far D.n limit least near h i v below at (sym (same v) ∙ out))
+      up_more D q (level near i limit) (level near (i + 1) limit) least cuts c so_far (cut_for near i c h below up named ascending same) (cut_there near i c h below same) up y (λ v at held. (first_near D.n limit least near h i v below (sym (same v) ∙ held)).1) (λ v at out. others_far D.n limit least near h i v below at (sym (same v) ∙ out))
 
   -- no walk costs less
   walk_bound : (u cost : ℕ) → WalksTo D q u cost → min (least_of least u) (least_of least D.root) ≤ cost
@@ -219,10 +225,13 @@ module _ (D : Digraph) (q target : ℕ) (least : List ℕ) (graph : IsDigraph D)
 
   pub levels_made : (cuts : List Cut) (P : Packing) → target < 2 ^ 64 → P ≡ record { root = Some D.root; cuts = cuts } → AreUpTo D q limit least cuts → AreLevels D q target P
   levels_made cuts P small is h = rw is (record {
-    root = refl;
-    cuts = h.each;
+    cuts = record {
+      root = refl;
+      cuts = h.each;
+      arcs = λ u v r remains. let at = arc_ends D u v r graph remains in omega (arith, h.loads u v at.0 at.1, far.arcs v at.1 u r remains, limit_is);
+    };
+    present = h.present;
     few = omega (arith, h.few, far.within D.root, small, limit_is);
-    arcs = λ u v r remains. let at = arc_ends D u v r graph remains in omega (arith, h.loads u v at.0 at.1, far.arcs v at.1 u r remains, limit_is);
     worth = record {
       bound = omega (arith, h.worth, far.within D.root, limit_is);
       below = λ cost walk. omega (arith, h.worth, walk_bound D.root cost walk, limit_is);

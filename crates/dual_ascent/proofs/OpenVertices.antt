@@ -1,5 +1,5 @@
 -- What a vertex of a branch is, by whether it is present and certain.
-use Rattle.std.proofs.Common.{◌≡◌, ℕ, ◌<◌, ◌≤◌, Bool, true, false, ◌&&◌, not, Some, None, inl, inr, refl, ap, ◌∙◌, arith}
+use Rattle.std.proofs.Common.{◌≡◌, ◌≢◌, ℕ, ◌<◌, ◌≤◌, Bool, true, false, ◌&&◌, not, Some, None, inl, inr, refl, ap, ◌∙◌, arith}
 use Rattle.std.specs.Prelude.{IsTrue, IsFalse, if◌then◌else◌}
 use Rattle.std.specs.Option.{is_some}
 use Rattle.std.proofs.lemmas.Bool.{and_parts, and_from, or_cases, both_ways, cases_Bool}
@@ -11,7 +11,7 @@ use Rattle.st_model.specs.Branch.{IsBranch, LeavesRequired, is_present, is_certa
 use Rattle.st_model.proofs.Distinct.{link-comm}
 use Rattle.graph_store.specs.Graph.{Graph, IsGraph, is_in}
 use Rattle.graph_store.proofs.PutLinks.{in_range}
-use Rattle.bidirected_form.specs.declared.kind.VertexKind.TheVariants.{Must, May}
+use Rattle.bidirected_form.specs.declared.kind.VertexKind.TheVariants.{Outside, Must, May}
 use Rattle.bidirected_form.specs.Bidirected.{is_open, kind_by, kind_in, arc_cost}
 use Rattle.prize_transform.specs.Twins.{prize_for}
 use Rattle.cut_packing.proofs.Loaded.{linked_vertex}
@@ -53,13 +53,13 @@ module _ (g : Graph) (B : Branch) (v : ℕ) where
       by_case true e = refl
       by_case false e = absurd cc
 
-  -- so is what may be left out for more than 0
-  pub open_prized : 0 < prize_for (kind_in g B v) → IsTrue (is_open g B v)
-  open_prized = by_case (is_open g B v)
+  -- so is what isn't outside
+  pub open_there : kind_in g B v ≢ Outside → IsTrue (is_open g B v)
+  open_there = by_case (is_open g B v)
     where
-      by_case : (here : Bool) → 0 < prize_for (kind_by g here (has B.inside v) v) → IsTrue here
+      by_case : (here : Bool) → kind_by g here (has B.inside v) v ≢ Outside → IsTrue here
       by_case true h = refl
-      by_case false h = absurd (omega arith)
+      by_case false h = absurd (h refl)
 
   -- what is open and certain has to be reached
   pub must_certain : IsTrue (is_open g B v) → IsTrue (is_certain g.network B v) → kind_in g B v ≡ Must

@@ -1,20 +1,21 @@
 -- What raises take of each arc and prize, together.
 use Rattle.std.proofs.Common.{◌≡◌, ◌≢◌, ℕ, ◌+◌, ◌≤◌, Bool, true, false, List, [], ◌∷◌, ◌++◌, Some, ◌⊎◌, inl, inr, refl, sym, ap, ◌∙◌, subst, append_assoc, append-nil, arith}
-use Rattle.std.specs.Prelude.{◌==◌, if◌then◌else◌, All}
+use Rattle.std.specs.Prelude.{IsTrue, IsFalse, ◌==◌, if◌then◌else◌, All}
 use Rattle.std.specs.List.{AllByRecursion}
 use Rattle.std.proofs.lemmas.Bool.{eqb-true}
 use Rattle.std.proofs.lemmas.List.Elements.{All-from_recursion}
-use Rattle.st_model.specs.Lists.{total}
+use Rattle.st_model.specs.Lists.{has, total}
 use Rattle.st_model.specs.Branch.{IsVertexSet}
 use Rattle.st_model.proofs.Sums.{total-append}
-use Rattle.bidirected_form.specs.declared.kind.VertexKind.TheVariants.{Must}
+use Rattle.bidirected_form.specs.declared.kind.VertexKind.TheVariants.{Outside, Must}
 use Rattle.bidirected_form.specs.Digraph.{Digraph, kind_of, remaining}
 use Rattle.bidirected_form.specs.Entering.{enters}
-use Rattle.prize_transform.specs.Twins.{Ends, left_of}
+use Rattle.prize_transform.specs.Twins.{Ends, left_of, prize_for}
 use Rattle.cut_packing.specs.declared.cut.Cut.{Cut}
+use Rattle.cut_packing.specs.declared.packing.Packing.{Packing}
 use Rattle.cut_packing.specs.Packing.{load, named}
-use Rattle.dual_ascent.specs.Left.{raised}
-use Rattle.dual_ascent.specs.Raises.{AreRaises, IsRaise}
+use Rattle.dual_ascent.specs.Left.{AreEndsOf, FitsLeft, IsThere, raised}
+use Rattle.dual_ascent.specs.Raises.{AreRaises, IsRaise, IsRaisable, here}
 
 -- what holds of each place in a list, that it parts into what stands before and after
 abbrev pub AtEachPlace : (List Cut → Cut → Type 0) → List Cut → Type 0
@@ -85,9 +86,22 @@ module _ (D : Digraph) (E : Ends) (target : ℕ) (cuts : List Cut) (raises : Are
           inr (subst (λ (v : ℕ). named before v + c.y ≤ left_of E v) at_q (raise.least.prize (subst (λ (v : ℕ). kind_of D v ≢ Must) (sym at_q) free)))
       by_case before c raise false other = inl refl
 
-  pub raises_sets : All (λ c. IsVertexSet D.n c.set) cuts
-  raises_sets = each_cut (λ c. IsVertexSet D.n c.set) cuts (λ before c after e. (raises before c after e).set)
-
   -- together they are worth no more than the target
   pub raises_sum : raised cuts ≤ target
   raises_sum = total_within (λ c. c.y) target cuts (λ before c after e. inr (raises before c after e).least.room)
+
+-- a packing of them fits what is left
+pub raises_fit : (D : Digraph) (E : Ends) (target : ℕ) (cuts : List Cut) (P : Packing) → AreEndsOf D E → P ≡ record { root = Some D.root; cuts = cuts } → AreRaises D E target cuts → FitsLeft D E P
+raises_fit D E target cuts P ends is raises = rw is (record {
+  root = refl;
+  held = each_cut (λ c. IsTrue (has c.set c.q) × IsThere D c.q) cuts (λ before c after e. let raise = raises before c after e in ((raise.exact c.q).1 here, is_there before c.q raise.raisable));
+  borne = record {
+    sets = each_cut (λ c. IsVertexSet D.n c.set × IsFalse (has c.set D.root)) cuts (λ before c after e. let raise = raises before c after e in (raise.set, raise.apart));
+    arcs = raises_load D E target cuts raises;
+    prizes = raises_named D E target cuts raises;
+  };
+})
+  where
+    is_there : (before : List Cut) (q : ℕ) → IsRaisable D E before q → IsThere D q
+    is_there before q (inl must) out = let clash : Outside ≡ Must = sym out ∙ must in cc
+    is_there before q (inr some) out = omega (arith, some, ends.within q, ap prize_for out)

@@ -1,15 +1,16 @@
 -- What cuts take of arcs and prizes, and what they leave.
-use Rattle.std.specs.Prelude.{◌≡◌, ◌≢◌, ℕ, ◌+◌, ◌-◌, ◌≤◌, IsFalse, List, All, Some}
+use Rattle.std.specs.Prelude.{◌≡◌, ◌≢◌, ℕ, ◌+◌, ◌-◌, ◌≤◌, IsTrue, IsFalse, List, All, Some}
 use Rattle.std.specs.Option.{option_map}
 use Rattle.st_model.specs.declared.branch.Branch.{Branch}
 use Rattle.st_model.specs.Lists.{has, total}
 use Rattle.st_model.specs.Branch.{IsVertexSet}
 use Rattle.graph_store.specs.Graph.{Graph}
-use Rattle.bidirected_form.specs.declared.kind.VertexKind.TheVariants.{Must}
+use Rattle.bidirected_form.specs.declared.kind.VertexKind.TheVariants.{Outside, Must}
 use Rattle.bidirected_form.specs.Bidirected.{kind_in, arc_cost}
 use Rattle.bidirected_form.specs.Digraph.{Digraph, kind_of, neighbours, remaining}
 use Rattle.prize_transform.specs.Twins.{Ends, left_of, prize_in, prized, numbered_from}
 use Rattle.cut_packing.specs.declared.cut.Cut.{Cut}
+use Rattle.cut_packing.specs.declared.packing.Packing.{Packing}
 use Rattle.cut_packing.specs.Packing.{load, named}
 
 -- the ends are those of the vertices that may be left out, and no more than the prize is left of any
@@ -37,6 +38,16 @@ pub record AreBorne (D : Digraph) (E : Ends) (cuts : List Cut) : Type 0 where
   pub sets : All (λ c. IsVertexSet D.n c.set × IsFalse (has c.set D.root)) cuts
   pub arcs : (u v r : ℕ) → remaining D u v ≡ Some r → load cuts (u, v) ≤ r
   pub prizes : (v : ℕ) → kind_of D v ≢ Must → named cuts v ≤ left_of E v
+
+-- v isn't outside
+abbrev pub IsThere : Digraph → ℕ → Type 0
+IsThere D v = kind_of D v ≢ Outside
+
+-- a packing from the root that fits what is left of arcs and prizes: each cut holds the vertex that it names
+pub record FitsLeft (D : Digraph) (E : Ends) (P : Packing) : Type 0 where
+  pub root : P.root ≡ Some D.root
+  pub held : All (λ c. IsTrue (has c.set c.q) × IsThere D c.q) P.cuts
+  pub borne : AreBorne D E P.cuts
 
 -- the arcs and prizes are what the cuts leave of those of a branch
 pub record AreLeft (g : Graph) (B : Branch) (cuts : List Cut) (D : Digraph) (E : Ends) : Type 0 where

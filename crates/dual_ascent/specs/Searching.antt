@@ -11,7 +11,7 @@ use Rattle.cut_packing.specs.declared.cut.Cut.{Cut}
 use Rattle.cut_packing.specs.Packing.{load}
 use Rattle.dual_ascent.specs.declared.searching.Search.{Search}
 use Rattle.dual_ascent.specs.declared.levels.Near.{Near}
-use Rattle.dual_ascent.specs.Left.{raised}
+use Rattle.dual_ascent.specs.Left.{IsThere, raised}
 use Rattle.dual_ascent.specs.Levels.{WalksTo, IsCutFor}
 
 -- a distance that waits, and the vertex that it was offered to
@@ -97,6 +97,7 @@ pub record AreNear (n limit : ℕ) (least : List ℕ) (near : List Near) : Type 
 -- cuts for q up to a level: an arc bears what its tail is farther than its head, both up to there
 pub record AreUpTo (D : Digraph) (q level : ℕ) (least : List ℕ) (cuts : List Cut) : Type 0 where
   pub each : All (IsCutFor D q) cuts
+  pub present : All (λ c. All (IsThere D) c.set) cuts
   pub worth : raised cuts ≡ level
   pub few : length cuts ≤ level
   pub loads : (u v : ℕ) → IsVertex D.n u → IsVertex D.n v → load cuts (u, v) ≡ min (least_of least u) level - min (least_of least v) level

@@ -1,6 +1,7 @@
 ghost use Rattle.std.specs.Prelude.{◌≡◌, IfOk};
 ghost use Rattle.dual_ascent.specs.Ascent.{IsAscent};
-ghost use Rattle.dual_ascent.specs.Left.{AreEndsOf};
+ghost use Rattle.dual_ascent.specs.Extension.{packing_of};
+ghost use Rattle.dual_ascent.specs.Left.{AreEndsOf, FitsLeft};
 
 use crate::Ascent;
 use crate::charging::charge_cut;
@@ -28,7 +29,8 @@ pub fn ascend(
     target: u64,
 ) -> Result<Ascent, AllocError>
     requires { AreEndsOf arcs.old twins.old }
-    ensures { IfOk result (IsAscent arcs.old arcs.new twins.old twins.new target) }
+    ensures ascent { IfOk result (IsAscent arcs.old arcs.new twins.old twins.new target) }
+    ensures fits { IfOk result (λ ascent. FitsLeft arcs.old twins.old (packing_of ascent)) }
 {
     let mut cuts = Vec::new(alloc);
     let mut queue = all_raisable(alloc, arcs, twins, order)?;

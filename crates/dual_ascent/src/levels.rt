@@ -1,6 +1,7 @@
 ghost use Rattle.std.specs.Prelude.{◌≡◌, ◌+◌, ◌-◌, ◌^◌, ◌<◌, IfOk, length, slice_index_or};
 ghost use Rattle.st_model.specs.Network.{IsVertex};
-ghost use Rattle.dual_ascent.specs.Levels.{AreLevels, IsThere};
+ghost use Rattle.dual_ascent.specs.Left.{IsThere};
+ghost use Rattle.dual_ascent.specs.Levels.{AreLevels};
 ghost use Rattle.dual_ascent.specs.Searching.{AreBelow, AreNear, distances_of};
 
 use crate::ascending::packing;

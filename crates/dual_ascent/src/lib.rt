@@ -24,6 +24,6 @@ mod waiting;
 pub use ascending::ascend;
 pub use ascent::Ascent;
 pub use charging::charge_cuts;
-pub use extension::{Extension, extend};
-pub use law::{joined_fits, joined_is_full};
+pub use extension::{Extension, Remainder, extend, join, left_by};
+pub use law::{joined_fits, joined_inside_fits, joined_is_full};
 pub use levels::fix_levels;

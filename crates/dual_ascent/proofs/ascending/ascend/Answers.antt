@@ -3,11 +3,12 @@ use Rattle.std.specs.BinaryHeap.{heap_items}
 use Rattle.dual_ascent.specs.Turns.{AreWaiting}
 use Rattle.dual_ascent.proofs.Fresh.{raise_borne, raise_paid}
 use Rattle.dual_ascent.proofs.Queued.{growth_still, none_waiting, waiting_past, waiting_again}
+use Rattle.dual_ascent.proofs.Raised.{raises_fit}
 use Rattle.dual_ascent.proofs.SoFar.{one_more, ends_now, ends_full}
 use Rattle.dual_ascent.proofs.ascending.ascend.Goals as goal
 
-pub returns-in_default : goal.returns-in_default
-returns-in_default c =
+pub returns-in_default-clause-ascent : goal.returns-in_default-clause-ascent
+returns-in_default-clause-ascent c =
     let D = c.args.arcs.now in
     let D' = c.loop-room.arcs in
     let cuts = c.loop-room.cuts.items in
@@ -68,3 +69,9 @@ loop-room-preserved c =
       waiting = rw c.in_ok-push-2.ensures.items (waiting_again D' c.charge_cut.new.arcs E' c.charge_cut.new.twins c.loop-room.room cuts rest (heap_items c.push.new.self) (record { 0 = c.in-Some.turn.waiting }) _ cut raise.0 raise.1 c.charge_cut.ensures.arcs c.charge_cut.ensures.ends c.in_ok-push.ensures.permutation refl (ap Some last) (turn.waited E' c.loop-room.invariant.waiting));
       growth = growth_still D' c.charge_cut.new.arcs (cut ∷ []) c.next_fresh.new.growth c.charge_cut.ensures.arcs c.in_ok-turn.ensures.growth;
     }
+
+pub returns-in_default-clause-fits : goal.returns-in_default-clause-fits
+returns-in_default-clause-fits c = raises_fit c.args.arcs.now c.args.twins.now c.args.target c.loop-room.cuts.items c.packing.result c.requires (rw c.loop-room.invariant.so_far.arcs.root at (rw c.root.ensures.root at c.packing.ensures)) c.loop-room.invariant.so_far.raises
+
+pub returns-clause-fits : goal.returns-clause-fits
+returns-clause-fits c = raises_fit c.args.arcs.now c.args.twins.now c.args.target c.loop-room.cuts.items c.packing-2.result c.requires (rw c.loop-room.invariant.so_far.arcs.root at (rw c.root-2.ensures.root at c.packing-2.ensures)) c.loop-room.invariant.so_far.raises
