@@ -1,0 +1,51 @@
+ghost use Rattle.std.specs.Prelude.{◌≡◌, ◌≤◌, IfOk};
+ghost use Rattle.st_model.specs.Arborescence.{IsTree, cost};
+ghost use Rattle.st_model.specs.Branch.{Belongs, IsBranch};
+ghost use Rattle.local_search.specs.Better.{IsNoDearer};
+
+use crate::ground::Ground;
+use crate::judging::cheaper;
+use crate::spanning::spanning_tree;
+use graph_store::Whole;
+use st_model::{Sides, Tree, tree_cost};
+use std::alloc::{AllocError, Global};
+use tree_heuristic::prune;
+
+// How many rounds of all moves there are at most.
+const ROUNDS: u32 = 20;
+
+/// A tree of the branch that costs no more than the one that is given.
+pub fn improve(alloc: Global, whole: &Whole, branch: &Sides, tree: Tree) -> Result<Tree, AllocError>
+    requires branch { IsBranch whole.now.instance branch.now }
+    requires tree { IsTree whole.now.instance tree }
+    requires belongs { Belongs branch.now tree }
+    ensures tree { IfOk result (IsTree whole.now.instance) }
+    ensures belongs { IfOk result (Belongs branch.now) }
+    ensures cost { IfOk result (λ new. cost whole.now.instance new ≤ cost whole.now.instance tree) }
+{
+    let mut best = tree;
+    for _round in 0..ROUNDS {
+        let before = tree_cost(&whole.instance, &best);
+        best = round(alloc, whole, branch, best)?;
+        if tree_cost(&whole.instance, &best) == before {
+            break;
+        }
+    }
+    Ok(best)
+}
+
+// One round of all moves, each judged by itself.
+fn round(alloc: Global, whole: &Whole, branch: &Sides, tree: Tree) -> Result<Tree, AllocError>
+    requires branch { IsBranch whole.now.instance branch.now }
+    requires tree { IsTree whole.now.instance tree }
+    requires belongs { Belongs branch.now tree }
+    ensures { IfOk result (IsNoDearer whole.now.instance branch.now tree) }
+{
+    let ground = Ground {
+        store: &whole.store,
+        branch,
+    };
+    let spanned = spanning_tree(alloc, &ground, &tree)?;
+    let tree = cheaper(alloc, &whole.instance, branch, tree, spanned)?;
+    prune(alloc, &whole.instance, branch, tree)
+}

@@ -1,0 +1,98 @@
+ghost use Rattle.std.specs.Prelude.{◌≡◌, ℕ, IfOk, IsFalse, IsTrue, All, map};
+ghost use Rattle.std.specs.Bool.{OnTrue};
+ghost use Rattle.st_model.specs.Arborescence.{IsArborescence, IsTree, reached};
+ghost use Rattle.st_model.specs.Branch.{Belongs, IsBranch};
+ghost use Rattle.st_model.specs.Lists.{has};
+ghost use Rattle.local_search.specs.Better.{IsBetter, IsNoDearer};
+
+use st_model::{Instance, Sides, Tree, VertexSet, is_tree, tree_cost};
+use std::alloc::{AllocError, Global};
+
+// The other tree where it is a tree of the branch and costs less, and else the first one.
+pub fn cheaper(
+    alloc: Global,
+    instance: &Instance,
+    branch: &Sides,
+    tree: Tree,
+    other: Tree,
+) -> Result<Tree, AllocError>
+    requires branch { IsBranch instance.now branch.now }
+    requires tree { IsTree instance.now tree }
+    requires belongs { Belongs branch.now tree }
+    ensures { IfOk result (IsNoDearer instance.now branch.now tree) }
+{
+    if is_better(alloc, instance, branch, &tree, &other)? {
+        Ok(other)
+    } else {
+        Ok(tree)
+    }
+}
+
+// Whether the other one is a tree of the branch and costs less.
+fn is_better(
+    alloc: Global,
+    instance: &Instance,
+    branch: &Sides,
+    tree: &Tree,
+    other: &Tree,
+) -> Result<bool, AllocError>
+    requires branch { IsBranch instance.now branch.now }
+    requires tree { IsArborescence instance.now tree.now }
+    ensures { IfOk result (λ answer. OnTrue answer (IsBetter instance.now branch.now tree.now other.now)) }
+{
+    if !is_tree(alloc, instance, other)? {
+        return Ok(false);
+    }
+    if !belongs(alloc, instance, branch, other)? {
+        return Ok(false);
+    }
+    Ok(tree_cost(instance, other) < tree_cost(instance, tree))
+}
+
+// Whether a tree reaches all vertices inside, and none outside.
+fn belongs(
+    alloc: Global,
+    instance: &Instance,
+    branch: &Sides,
+    tree: &Tree,
+) -> Result<bool, AllocError>
+    requires { IsBranch instance.now branch.now }
+    ensures { IfOk result (λ answer. OnTrue answer (Belongs branch.now tree.now)) }
+{
+    let reached = reached_list(alloc, tree)?;
+    let set = VertexSet::of(alloc, instance.vertices() as usize + 1, &reached)?;
+    if !has_all(&set, branch.branch().inside.as_slice()) {
+        return Ok(false);
+    }
+    Ok(has_none(branch, &reached))
+}
+
+// The vertices that a tree reaches.
+fn reached_list(alloc: Global, tree: &Tree) -> Result<Vec<u32>, AllocError>
+    ensures { IfOk result (λ list. (v : ℕ) → has list.items v ≡ has (reached tree.now) v) }
+{
+    let mut list = heads_of(alloc, tree.arcs.as_slice())?;
+    list.push(tree.start)?;
+    Ok(list)
+}
+
+// The heads of arcs.
+fn heads_of(alloc: Global, arcs: &[(u32, u32)]) -> Result<Vec<u32>, AllocError>
+    ensures { IfOk result (λ heads. heads.items ≡ map (λ arc. arc.1) arcs.now) }
+{
+    arcs.iter().map(|arc| arc.1).collect(alloc)
+}
+
+// Whether all of these vertices are in a set.
+fn has_all(set: &VertexSet, vertices: &[u32]) -> bool
+    ensures { OnTrue result (All (λ v. IsTrue (has set.now.members v)) vertices.now) }
+{
+    vertices.iter().all(|vertex| set.contains(*vertex))
+}
+
+// Whether none of these vertices is outside.
+fn has_none(branch: &Sides, vertices: &[u32]) -> bool
+    ensures { OnTrue result (All (λ v. IsFalse (has branch.now.outside v)) vertices.now) }
+{
+    vertices.iter().all(|vertex| !branch.is_outside(*vertex))
+}
