@@ -26,6 +26,11 @@ impl Ground<'_> {
         self.store.neighbours(vertex)
     }
 
+    // What the link between two vertices costs; nothing where there is none.
+    pub fn link_cost(&self, a: u32, b: u32) -> u64 {
+        self.store.link_cost(a, b).unwrap_or(0)
+    }
+
     // Whether a tree may reach a vertex.
     pub fn is_open(&self, vertex: u32) -> bool {
         !self.branch.is_outside(vertex)

@@ -3,7 +3,10 @@ ghost use Rattle.st_model.specs.Arborescence.{IsTree, cost};
 ghost use Rattle.st_model.specs.Branch.{Belongs, IsBranch};
 ghost use Rattle.local_search.specs.Better.{IsNoDearer};
 
+use crate::branches::without_branches;
+use crate::exchanging::with_exchanges;
 use crate::ground::Ground;
+use crate::inserting::with_more;
 use crate::judging::cheaper;
 use crate::spanning::spanning_tree;
 use graph_store::Whole;
@@ -47,5 +50,11 @@ fn round(alloc: Global, whole: &Whole, branch: &Sides, tree: Tree) -> Result<Tre
     };
     let spanned = spanning_tree(alloc, &ground, &tree)?;
     let tree = cheaper(alloc, &whole.instance, branch, tree, spanned)?;
+    let cut = without_branches(alloc, &ground, &tree)?;
+    let tree = cheaper(alloc, &whole.instance, branch, tree, cut)?;
+    let more = with_more(alloc, &ground, &tree)?;
+    let tree = cheaper(alloc, &whole.instance, branch, tree, more)?;
+    let exchanged = with_exchanges(alloc, &ground, &tree)?;
+    let tree = cheaper(alloc, &whole.instance, branch, tree, exchanged)?;
     prune(alloc, &whole.instance, branch, tree)
 }

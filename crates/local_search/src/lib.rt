@@ -7,10 +7,17 @@
 //! no more. Which moves are tried, and in which order, is free: what they lay out is judged.
 #![tactic(auto)]
 
+mod branches;
 mod by_vertex;
+mod draft;
+mod exchanging;
 mod ground;
 mod improving;
+mod inserting;
 mod judging;
+mod search;
 mod spanning;
+#[cfg(test)]
+mod tests;
 
 pub use improving::improve;

@@ -1,0 +1,127 @@
+ghost use Rattle.std.specs.Prelude.{◌≡◌};
+
+use crate::improve;
+use graph_store::Whole;
+use st_model::{Branch, Instance, Link, Listed, Need, Sides, Tree, is_tree, tree_cost};
+use std::alloc::{AllocError, Global};
+use std::test::Fail;
+use test_instances::{link, triangle_with_centre};
+
+mod brute_force;
+mod drawn;
+
+// What is left of a tree costs once it is improved, and u64::MAX where the arcs are no tree.
+fn improved_cost(
+    alloc: Global,
+    instance: Instance,
+    start: u32,
+    arcs: &[(u32, u32)],
+) -> Result<u64, AllocError> {
+    let whole = Whole::of(alloc, instance)?;
+    let tree = Tree {
+        start,
+        arcs: Listed::of(Vec::from_slice(alloc, arcs)?),
+    };
+    if !is_tree(alloc, &whole.instance, &tree)? {
+        return Ok(u64::MAX);
+    }
+    let branch = Sides::of(alloc, Branch::all(alloc))?;
+    let better = improve(alloc, &whole, &branch, tree)?;
+    Ok(tree_cost(&whole.instance, &better))
+}
+
+// Required vertices 1, 2 and 3, each with a link of 3 to vertex 4, and over a vertex of its own with
+// links of 1 to vertex 8.
+fn two_stars(alloc: Global) -> Result<Instance, AllocError> {
+    let links = [
+        link(1, 4, 3),
+        link(2, 4, 3),
+        link(3, 4, 3),
+        link(1, 5, 1),
+        link(2, 6, 1),
+        link(3, 7, 1),
+        link(5, 8, 1),
+        link(6, 8, 1),
+        link(7, 8, 1),
+    ];
+    let needs = [
+        (1, Need::Required),
+        (2, Need::Required),
+        (3, Need::Required),
+    ];
+    Instance::build(alloc, 8, &links, &needs)
+}
+
+// Required vertices 1 and 2 with a path of cost 10 over vertex 3, and one of cost 6 over 4 and 5.
+fn two_paths(alloc: Global) -> Result<Instance, AllocError> {
+    let links = [
+        link(1, 3, 5),
+        link(2, 3, 5),
+        link(1, 4, 2),
+        link(4, 5, 2),
+        link(2, 5, 2),
+    ];
+    let needs = [(1, Need::Required), (2, Need::Required)];
+    Instance::build(alloc, 5, &links, &needs)
+}
+
+// Required vertex 1, and over vertices that pay nothing one that pays 7, at 9, and one that pays 5,
+// at 4.
+fn two_prizes(alloc: Global) -> Result<Instance, AllocError> {
+    let links = [link(1, 2, 8), link(2, 3, 1), link(1, 4, 3), link(4, 5, 1)];
+    let needs = [(1, Need::Required), (3, Need::Pays(7)), (5, Need::Pays(5))];
+    Instance::build(alloc, 5, &links, &needs)
+}
+
+// A triangle of required vertices, the way round over whose links of 4 two of them are dear.
+fn uneven_triangle(alloc: Global) -> Result<Instance, AllocError> {
+    let links: [Link; 3] = [link(1, 2, 9), link(2, 3, 4), link(1, 3, 4)];
+    let needs = [
+        (1, Need::Required),
+        (2, Need::Required),
+        (3, Need::Required),
+    ];
+    Instance::build(alloc, 3, &links, &needs)
+}
+
+// The same vertices over cheaper links.
+#[test]
+fn spans_what_is_reached(rt: HostRuntime) -> Result<(), Fail> {
+    let instance = uneven_triangle(rt.alloc())?;
+    let cost = improved_cost(rt.alloc(), instance, 1, &[(1, 2), (2, 3)])?;
+    assert_eq!(rt; cost, 8);
+    Ok(())
+}
+
+#[test]
+fn puts_the_centre_in(rt: HostRuntime) -> Result<(), Fail> {
+    let instance = triangle_with_centre(rt.alloc(), 4)?;
+    let cost = improved_cost(rt.alloc(), instance, 1, &[(1, 2), (2, 3)])?;
+    assert_eq!(rt; cost, 6);
+    Ok(())
+}
+
+#[test]
+fn exchanges_a_key_path(rt: HostRuntime) -> Result<(), Fail> {
+    let instance = two_paths(rt.alloc())?;
+    let cost = improved_cost(rt.alloc(), instance, 1, &[(1, 3), (3, 2)])?;
+    assert_eq!(rt; cost, 6);
+    Ok(())
+}
+
+#[test]
+fn takes_a_key_vertex_out(rt: HostRuntime) -> Result<(), Fail> {
+    let instance = two_stars(rt.alloc())?;
+    let cost = improved_cost(rt.alloc(), instance, 1, &[(1, 4), (4, 2), (4, 3)])?;
+    assert_eq!(rt; cost, 6);
+    Ok(())
+}
+
+// The prize of 7 isn't worth its way, and that of 5 is.
+#[test]
+fn weighs_prizes(rt: HostRuntime) -> Result<(), Fail> {
+    let instance = two_prizes(rt.alloc())?;
+    let cost = improved_cost(rt.alloc(), instance, 1, &[(1, 2), (2, 3)])?;
+    assert_eq!(rt; cost, 11);
+    Ok(())
+}
