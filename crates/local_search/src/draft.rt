@@ -126,13 +126,16 @@ impl Draft {
         Ok(())
     }
 
-    // Reaches a vertex that has no link yet.
+    // Reaches a vertex.
     pub fn enter(&mut self, ground: &Ground, vertex: u32) -> Result<(), AllocError> {
-        let seat = Seat {
-            reached: true,
-            ..UNREACHED
-        };
-        self.put(vertex, seat)?;
+        let seat = self.seats.at(vertex);
+        self.put(
+            vertex,
+            Seat {
+                reached: true,
+                ..seat
+            },
+        )?;
         self.saved = self.saved.saturating_add(ground.worth(vertex));
         Ok(())
     }
@@ -322,6 +325,23 @@ impl Draft {
             here = below;
         }
         Ok(here)
+    }
+
+    // The other end of a key path that leads from a vertex away from the root; the vertex itself
+    // where there is none.
+    pub fn key_below(&self, ground: &Ground, vertex: u32) -> u32 {
+        let mut here = vertex;
+        for _step in 0..self.count {
+            let below = self.below(ground, here);
+            if below == 0 {
+                break;
+            }
+            here = below;
+            if self.is_key(ground, here) {
+                break;
+            }
+        }
+        here
     }
 
     // A vertex that is linked with this one and farther from the root; 0 where there is none.

@@ -44,20 +44,28 @@ impl Exchange {
         Ok(gains)
     }
 
-    // Exchanges the key path from a key vertex towards the root, or takes the vertex out, if that
-    // makes the tree cheaper.
+    // Changes the tree at a vertex, if that makes it cheaper: brings the vertex in, or exchanges
+    // the key path from there towards the root, or takes it out.
     fn try_at(&mut self, ground: &Ground, vertex: u32) -> Result<bool, AllocError> {
-        let draft = &self.draft;
-        if !draft.is_reached(vertex) || draft.is_root(vertex) || !draft.is_key(ground, vertex) {
+        let worth = ground.worth(vertex);
+        if !self.draft.is_reached(vertex) {
+            return Ok(worth > 0 && ground.is_open(vertex) && self.bring_in(ground, vertex)?);
+        }
+        if !self.draft.is_key(ground, vertex) {
             return Ok(false);
         }
-        if self.exchange_path(ground, vertex)? {
+        if !self.draft.is_root(vertex) && self.exchange_path(ground, vertex)? {
             return Ok(true);
         }
-        if ground.worth(vertex) == u64::MAX {
-            return Ok(false);
-        }
-        self.take_out(ground, vertex)
+        Ok(worth < u64::MAX && self.take_out(ground, vertex)?)
+    }
+
+    // Joins a vertex with the tree that it doesn't reach.
+    fn bring_in(&mut self, ground: &Ground, vertex: u32) -> Result<bool, AllocError> {
+        self.draft.enter(ground, vertex)?;
+        self.search.begin();
+        self.search.add_part(ground, &self.draft, vertex)?;
+        self.reconnect(ground)
     }
 
     // Joins all below a key vertex with the rest by another path.
@@ -70,6 +78,10 @@ impl Exchange {
 
     // Takes a key vertex out with all its key paths.
     fn take_out(&mut self, ground: &Ground, vertex: u32) -> Result<bool, AllocError> {
+        if self.draft.is_root(vertex) {
+            let below = self.draft.key_below(ground, vertex);
+            self.draft.root_at(below)?;
+        }
         self.draft.drop_above(ground, vertex)?;
         self.search.begin();
         for half in ground.neighbours(vertex) {

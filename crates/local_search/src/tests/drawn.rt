@@ -12,12 +12,7 @@ use test_instances::Draws;
 use tree_heuristic::first_tree;
 
 // The branch of the trees that reach one vertex and not another one.
-fn sides(
-    alloc: Global,
-    instance: &Instance,
-    inside: u32,
-    outside: u32,
-) -> Result<Sides, AllocError>
+fn sides(alloc: Global, instance: &Instance, inside: u32, outside: u32) -> Result<Sides, AllocError>
     requires inside { IsVertex instance.now.n inside }
     requires outside { IsVertex instance.now.n outside }
     requires apart { inside ≢ outside }
@@ -38,7 +33,12 @@ struct Costs {
 }
 
 // The costs in a branch of a drawn instance, if it has a tree.
-fn costs(alloc: Global, seed: u64, inside: u32, outside: u32) -> Result<Option<Costs>, AllocError>
+fn drawn_costs(
+    alloc: Global,
+    seed: u64,
+    inside: u32,
+    outside: u32,
+) -> Result<Option<Costs>, AllocError>
     requires inside { IsVertex 6 inside }
     requires outside { IsVertex 6 outside }
     requires apart { inside ≢ outside }
@@ -86,7 +86,7 @@ fn improves_what_is_drawn(rt: HostRuntime) -> Result<(), Fail> {
     let mut trees = 0u32;
     let mut cheapest = 0u32;
     for seed in 1..41u64 {
-        if let Some(found) = costs(rt.alloc(), seed, 2, 5)? {
+        if let Some(found) = drawn_costs(rt.alloc(), seed, 2, 5)? {
             assert!(rt; is_sound(&found), "with seed {seed}");
             trees = trees.saturating_add(1);
             if found.better == found.least {
