@@ -385,7 +385,7 @@ impl Draft {
         Ok(gains)
     }
 
-    fn keep(&mut self) {
+    pub fn keep(&mut self) {
         self.changed.clear();
         self.old_root = self.root;
         self.begin();

@@ -1,6 +1,7 @@
 use crate::by_vertex::ByVertex;
 use crate::draft::Draft;
 use crate::ground::Ground;
+use crate::joins::Joins;
 use crate::search::{Bridge, Search};
 use st_model::Tree;
 use std::alloc::{AllocError, Global};
@@ -11,11 +12,7 @@ const PASSES: u32 = 10;
 // The tree with key paths exchanged and key vertices taken out, one after another, where each
 // makes it cheaper.
 pub fn with_exchanges(alloc: Global, ground: &Ground, tree: &Tree) -> Result<Tree, AllocError> {
-    let mut exchange = Exchange {
-        alloc,
-        draft: Draft::of(alloc, ground, tree)?,
-        search: Search::new(alloc, ground)?,
-    };
+    let mut exchange = Exchange::of(alloc, ground, tree)?;
     exchange.draft.root_at(centre(alloc, ground, tree)?)?;
     for _pass in 0..PASSES {
         if !exchange.try_all(ground)? {
@@ -25,6 +22,27 @@ pub fn with_exchanges(alloc: Global, ground: &Ground, tree: &Tree) -> Result<Tre
     exchange.draft.tree(alloc, ground)
 }
 
+// The tree with ways to all vertices that are worth something, whatever those cost, if it misses
+// one of them.
+pub fn with_all_worth(
+    alloc: Global,
+    ground: &Ground,
+    tree: &Tree,
+) -> Result<Option<Tree>, AllocError> {
+    let mut exchange = Exchange::of(alloc, ground, tree)?;
+    let mut gains = false;
+    for before in 0..ground.vertices() {
+        if exchange.is_missed(ground, before + 1) && exchange.reach(ground, before + 1)? {
+            gains = true;
+        }
+    }
+    if !gains {
+        return Ok(None);
+    }
+    Ok(Some(exchange.draft.tree(alloc, ground)?))
+}
+
+// A tree that is changed by ways that are searched for.
 #[derive(Drop)]
 struct Exchange {
     alloc: Global,
@@ -33,6 +51,14 @@ struct Exchange {
 }
 
 impl Exchange {
+    fn of(alloc: Global, ground: &Ground, tree: &Tree) -> Result<Exchange, AllocError> {
+        Ok(Exchange {
+            alloc,
+            draft: Draft::of(alloc, ground, tree)?,
+            search: Search::new(alloc, ground)?,
+        })
+    }
+
     // Tries each vertex once; whether the tree is cheaper now.
     fn try_all(&mut self, ground: &Ground) -> Result<bool, AllocError> {
         let mut gains = false;
@@ -47,25 +73,41 @@ impl Exchange {
     // Changes the tree at a vertex, if that makes it cheaper: brings the vertex in, or exchanges
     // the key path from there towards the root, or takes it out.
     fn try_at(&mut self, ground: &Ground, vertex: u32) -> Result<bool, AllocError> {
-        let worth = ground.worth(vertex);
-        if !self.draft.is_reached(vertex) {
-            return Ok(worth > 0 && ground.is_open(vertex) && self.bring_in(ground, vertex)?);
+        if self.is_missed(ground, vertex) {
+            return self.bring_in(ground, vertex);
         }
-        if !self.draft.is_key(ground, vertex) {
+        if !self.draft.is_reached(vertex) || !self.draft.is_key(ground, vertex) {
             return Ok(false);
         }
         if !self.draft.is_root(vertex) && self.exchange_path(ground, vertex)? {
             return Ok(true);
         }
-        Ok(worth < u64::MAX && self.take_out(ground, vertex)?)
+        Ok(ground.worth(vertex) < u64::MAX && self.take_out(ground, vertex)?)
     }
 
-    // Joins a vertex with the tree that it doesn't reach.
+    // Whether a vertex is worth something that may be reached, and isn't.
+    fn is_missed(&self, ground: &Ground, vertex: u32) -> bool {
+        !self.draft.is_reached(vertex) && ground.worth(vertex) > 0 && ground.is_open(vertex)
+    }
+
+    // Joins a vertex with the tree that it isn't in, if that makes it cheaper.
     fn bring_in(&mut self, ground: &Ground, vertex: u32) -> Result<bool, AllocError> {
         self.draft.enter(ground, vertex)?;
         self.search.begin();
         self.search.add_part(ground, &self.draft, vertex)?;
         self.reconnect(ground)
+    }
+
+    // Joins a vertex with the tree that it isn't in, whatever that costs; whether there is a way.
+    fn reach(&mut self, ground: &Ground, vertex: u32) -> Result<bool, AllocError> {
+        self.draft.enter(ground, vertex)?;
+        self.search.begin();
+        self.search.add_part(ground, &self.draft, vertex)?;
+        let joined = self.bridge_over(ground, u64::MAX)?;
+        if joined {
+            self.draft.keep();
+        }
+        Ok(joined)
     }
 
     // Joins all below a key vertex with the rest by another path.
@@ -94,24 +136,30 @@ impl Exchange {
         self.reconnect(ground)
     }
 
-    // Joins all parts with the rest by the cheapest bridges, if that gains, and else takes all
-    // back.
+    // Joins all parts with the rest, if that gains, and else takes all back.
     fn reconnect(&mut self, ground: &Ground) -> Result<bool, AllocError> {
-        self.search.spread(ground, &self.draft, self.draft.gain())?;
+        let gain = self.draft.gain();
+        Ok(self.bridge_over(ground, gain)? && self.draft.settle(ground)?)
+    }
+
+    // Joins all parts with the rest by the cheapest bridges below a limit; takes all back where
+    // there aren't enough.
+    fn bridge_over(&mut self, ground: &Ground, limit: u64) -> Result<bool, AllocError> {
+        self.search.spread(ground, &self.draft, limit)?;
         let mut joins = Joins::of(self.alloc, self.search.parts())?;
         for place in 0..self.search.bridges() {
-            let Some(bridge) = self.search.bridge_at(place).filter(|_| joins.left > 0) else {
+            let Some(bridge) = self.search.bridge_at(place) else {
                 break;
             };
-            if joins.join(self.search.part(bridge.tail), self.search.part(bridge.head)) {
+            let (tail, head) = (self.search.part(bridge.tail), self.search.part(bridge.head));
+            if joins.join(tail, head) {
                 self.lay(ground, bridge)?;
             }
         }
-        if joins.left > 0 {
+        if !joins.are_done() {
             self.draft.take_back();
-            return Ok(false);
         }
-        self.draft.settle(ground)
+        Ok(joins.are_done())
     }
 
     // Takes a bridge into the tree, with the ways to its ends.
@@ -134,43 +182,6 @@ impl Exchange {
             here = before;
         }
         Ok(())
-    }
-}
-
-// Which parts are joined: those of one label, and those of the label of part 0 with the rest.
-#[derive(Drop)]
-struct Joins {
-    labels: Vec<u32>,
-    // How many joins are left until all is one.
-    left: u32,
-}
-
-impl Joins {
-    fn of(alloc: Global, parts: u32) -> Result<Joins, AllocError> {
-        let mut labels = Vec::new(alloc);
-        for part in 0..=parts {
-            labels.push(part)?;
-        }
-        Ok(Joins {
-            labels,
-            left: parts,
-        })
-    }
-
-    // Joins two parts; whether they were apart.
-    fn join(&mut self, a: u32, b: u32) -> bool {
-        let a = self.labels.get(a as usize).copied().unwrap_or(0);
-        let b = self.labels.get(b as usize).copied().unwrap_or(0);
-        if a == b {
-            return false;
-        }
-        for label in self.labels.iter_mut() {
-            if *label == b {
-                *label = a;
-            }
-        }
-        self.left = self.left.saturating_sub(1);
-        true
     }
 }
 

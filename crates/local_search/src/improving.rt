@@ -4,7 +4,7 @@ ghost use Rattle.st_model.specs.Branch.{Belongs, IsBranch};
 ghost use Rattle.local_search.specs.Better.{IsNoDearer};
 
 use crate::branches::without_branches;
-use crate::exchanging::with_exchanges;
+use crate::exchanging::{with_all_worth, with_exchanges};
 use crate::ground::Ground;
 use crate::inserting::with_more;
 use crate::judging::cheaper;
@@ -44,17 +44,35 @@ fn round(alloc: Global, whole: &Whole, branch: &Sides, tree: Tree) -> Result<Tre
     requires belongs { Belongs branch.now tree }
     ensures { IfOk result (IsNoDearer whole.now.instance branch.now tree) }
 {
+    let instance = &whole.instance;
     let ground = Ground {
         store: &whole.store,
         branch,
     };
     let spanned = spanning_tree(alloc, &ground, &tree)?;
-    let tree = cheaper(alloc, &whole.instance, branch, tree, spanned)?;
+    let tree = cheaper(alloc, instance, branch, tree, spanned)?;
     let cut = without_branches(alloc, &ground, &tree)?;
-    let tree = cheaper(alloc, &whole.instance, branch, tree, cut)?;
+    let tree = cheaper(alloc, instance, branch, tree, cut)?;
     let more = with_more(alloc, &ground, &tree)?;
-    let tree = cheaper(alloc, &whole.instance, branch, tree, more)?;
+    let tree = cheaper(alloc, instance, branch, tree, more)?;
     let exchanged = with_exchanges(alloc, &ground, &tree)?;
-    let tree = cheaper(alloc, &whole.instance, branch, tree, exchanged)?;
-    prune(alloc, &whole.instance, branch, tree)
+    let tree = cheaper(alloc, instance, branch, tree, exchanged)?;
+    let tree = prune(alloc, instance, branch, tree)?;
+    let Some(widened) = widened_tree(alloc, &ground, &tree)? else {
+        return Ok(tree);
+    };
+    cheaper(alloc, instance, branch, tree, widened)
+}
+
+// What the moves make of the tree once it reaches all that is worth something, if it misses any of
+// that.
+fn widened_tree(alloc: Global, ground: &Ground, tree: &Tree) -> Result<Option<Tree>, AllocError> {
+    let Some(wide) = with_all_worth(alloc, ground, tree)? else {
+        return Ok(None);
+    };
+    let wide = spanning_tree(alloc, ground, &wide)?;
+    let wide = without_branches(alloc, ground, &wide)?;
+    let wide = with_more(alloc, ground, &wide)?;
+    let wide = with_exchanges(alloc, ground, &wide)?;
+    Ok(Some(wide))
 }

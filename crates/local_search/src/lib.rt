@@ -14,6 +14,7 @@ mod exchanging;
 mod ground;
 mod improving;
 mod inserting;
+mod joins;
 mod judging;
 mod search;
 mod spanning;

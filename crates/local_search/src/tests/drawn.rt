@@ -1,5 +1,6 @@
 ghost use Rattle.std.specs.Prelude.{◌≡◌, ◌≢◌, IfOk};
-ghost use Rattle.st_model.specs.Branch.{IsBranch};
+ghost use Rattle.st_model.specs.Arborescence.{IsTree};
+ghost use Rattle.st_model.specs.Branch.{Belongs, IsBranch};
 ghost use Rattle.st_model.specs.Network.{IsVertex};
 
 use super::brute_force::least_over_sets;
@@ -19,81 +20,112 @@ fn sides(alloc: Global, instance: &Instance, inside: u32, outside: u32) -> Resul
     ensures { IfOk result (IsBranch instance.now) }
 {
     let half = Branch::all(alloc).with_inside(alloc, inside)?;
-    Sides::of(alloc, half.with_outside(alloc, outside)?)
+    let branch = half.with_outside(alloc, outside)?;
+    let sides = Sides::of(alloc, branch)?;
+    Ok(sides)
 }
 
-// What trees of a drawn branch cost: the first one, it improved, and the cheapest one.
+// What trees of a drawn branch cost: the first one, it improved, and the cheapest one; and whether
+// what is improved is a tree of the branch.
 #[derive(Drop)]
 struct Costs {
     first: u64,
     better: u64,
     least: u64,
-    // Whether what is improved is a tree of the branch.
     holds: bool,
 }
 
-// The costs in a branch of a drawn instance, if it has a tree.
-fn drawn_costs(
+// Improves the first tree of the branch that reaches vertex 2 and not vertex 5.
+fn improved(
     alloc: Global,
-    seed: u64,
-    inside: u32,
-    outside: u32,
-) -> Result<Option<Costs>, AllocError>
-    requires inside { IsVertex 6 inside }
-    requires outside { IsVertex 6 outside }
-    requires apart { inside ≢ outside }
+    whole: &Whole,
+    branch: &Sides,
+    tree: Tree,
+    least: u64,
+) -> Result<Costs, AllocError>
+    requires branch { IsBranch whole.now.instance branch.now }
+    requires tree { IsTree whole.now.instance tree }
+    requires belongs { Belongs branch.now tree }
 {
+    let first = tree_cost(&whole.instance, &tree);
+    let tree = improve(alloc, whole, branch, tree)?;
+    let better = tree_cost(&whole.instance, &tree);
+    let grows = is_tree(alloc, &whole.instance, &tree)?;
+    Ok(Costs {
+        first,
+        better,
+        least,
+        holds: grows && reaches(&tree, 2) && !reaches(&tree, 5),
+    })
+}
+
+fn reaches(tree: &Tree, vertex: u32) -> bool {
+    let mut found = tree.start == vertex;
+    for (_, head) in tree.arcs.as_slice() {
+        found = found || *head == vertex;
+    }
+    found
+}
+
+// The costs in a drawn instance, if the branch has a tree there.
+fn drawn_costs(alloc: Global, seed: u64) -> Result<Option<Costs>, AllocError> {
     let instance = Draws { state: seed }.instance(alloc)?;
-    let branch = sides(alloc, &instance, inside, outside)?;
-    let least = least_over_sets(&instance, inside, outside);
+    let branch = sides(alloc, &instance, 2, 5)?;
+    let least = least_over_sets(&instance, 2, 5);
     let whole = Whole::of(alloc, instance)?;
     let Some(tree) = first_tree(alloc, &whole.store, &branch)? else {
         return Ok(None);
     };
-    let first = tree_cost(&whole.instance, &tree);
-    let tree = improve(alloc, &whole, &branch, tree)?;
-    let holds = belongs(&tree, inside, outside) && is_tree(alloc, &whole.instance, &tree)?;
-    let better = tree_cost(&whole.instance, &tree);
-    Ok(Some(Costs {
-        first,
-        better,
-        least,
-        holds,
-    }))
+    let costs = improved(alloc, &whole, &branch, tree, least)?;
+    Ok(Some(costs))
 }
 
-// Whether a tree reaches one vertex and not another one.
-fn belongs(tree: &Tree, inside: u32, outside: u32) -> bool {
-    let mut reaches = tree.start == inside;
-    let mut avoids = tree.start != outside;
-    for (_, head) in tree.arcs.as_slice() {
-        reaches = reaches || *head == inside;
-        avoids = avoids && *head != outside;
-    }
-    reaches && avoids
+// Of drawn branches, how many have a tree, in how many of these what is improved is a tree that
+// costs no more than the first one and no less than the cheapest one, and in how many it is
+// cheapest.
+#[derive(Drop)]
+struct Tally {
+    trees: u32,
+    sound: u32,
+    cheapest: u32,
 }
 
-// Whether what was found is a tree of the branch that costs no more than the first one, and no
-// less than the cheapest one.
-fn is_sound(costs: &Costs) -> bool {
-    costs.holds && costs.better <= costs.first && costs.least <= costs.better
-}
-
-// In branches of drawn instances that reach vertex 2 and not vertex 5, what is improved is sound;
-// and cheapest in nine of ten of them.
-#[test]
-fn improves_what_is_drawn(rt: HostRuntime) -> Result<(), Fail> {
-    let mut trees = 0u32;
-    let mut cheapest = 0u32;
-    for seed in 1..41u64 {
-        if let Some(found) = drawn_costs(rt.alloc(), seed, 2, 5)? {
-            assert!(rt; is_sound(&found), "with seed {seed}");
-            trees = trees.saturating_add(1);
-            if found.better == found.least {
-                cheapest = cheapest.saturating_add(1);
-            }
+impl Tally {
+    fn count(&mut self, costs: &Costs) {
+        self.trees = self.trees.saturating_add(1);
+        if costs.holds && costs.better <= costs.first && costs.least <= costs.better {
+            self.sound = self.sound.saturating_add(1);
+        }
+        if costs.better == costs.least {
+            self.cheapest = self.cheapest.saturating_add(1);
         }
     }
-    assert!(rt; trees >= 10 && cheapest.saturating_mul(10) >= trees.saturating_mul(9));
+}
+
+fn tallied(alloc: Global) -> Result<Tally, AllocError> {
+    let mut tally = Tally {
+        trees: 0,
+        sound: 0,
+        cheapest: 0,
+    };
+    for seed in 1..41u64 {
+        if let Some(costs) = drawn_costs(alloc, seed)? {
+            tally.count(&costs);
+        }
+    }
+    Ok(tally)
+}
+
+// Whether there are trees, all are sound, and nine of ten are cheapest.
+fn is_good(tally: &Tally) -> bool {
+    tally.trees >= 10
+        && tally.sound == tally.trees
+        && tally.cheapest.saturating_mul(10) >= tally.trees.saturating_mul(9)
+}
+
+#[test]
+fn improves_what_is_drawn(rt: HostRuntime) -> Result<(), Fail> {
+    let tally = tallied(rt.alloc())?;
+    assert!(rt; is_good(&tally));
     Ok(())
 }

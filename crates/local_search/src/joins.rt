@@ -1,0 +1,44 @@
+use std::alloc::{AllocError, Global};
+
+// Which parts are joined: those of one label, and those of the label of part 0 with the rest.
+#[derive(Drop)]
+pub struct Joins {
+    labels: Vec<u32>,
+    // How many joins are left until all is one.
+    left: u32,
+}
+
+impl Joins {
+    // Each part by itself.
+    pub fn of(alloc: Global, parts: u32) -> Result<Joins, AllocError> {
+        let mut labels = Vec::new(alloc);
+        for part in 0..=parts {
+            labels.push(part)?;
+        }
+        Ok(Joins {
+            labels,
+            left: parts,
+        })
+    }
+
+    // Joins two parts; whether they were apart.
+    pub fn join(&mut self, a: u32, b: u32) -> bool {
+        let a = self.labels.get(a as usize).copied().unwrap_or(0);
+        let b = self.labels.get(b as usize).copied().unwrap_or(0);
+        if a == b {
+            return false;
+        }
+        for label in self.labels.iter_mut() {
+            if *label == b {
+                *label = a;
+            }
+        }
+        self.left = self.left.saturating_sub(1);
+        true
+    }
+
+    // Whether all is one.
+    pub fn are_done(&self) -> bool {
+        self.left == 0
+    }
+}
