@@ -1,0 +1,12 @@
+use Rattle.std.proofs.Common.{◌≡◌, refl, ◌∙◌}
+use Rattle.search_core.specs.State.{beginning}
+use Rattle.search_core.proofs.Keeping.{kept_begun}
+use Rattle.search_core.proofs.Rooted.{root_node}
+use Rattle.search_core.proofs.search.Search.begin.Goals as goal
+
+pub invariant_of-result-2 : goal.invariant_of-result-2
+invariant_of-result-2 c =
+    let I = c.args.instance.now in
+    let gone = c.args.gone.now in
+    let made : c.nodes-2.inside.made.items ≡ (beginning I gone c.args.workers c.args.budget c.args.start_cost).nodes = c.nodes-2.view_is ∙ (c.in_ok-add.ensures.ok ∙ rw (c.new-nodes.ensures, c.in_ok-root.ensures) refl) in
+    kept_begun I gone c.args.workers c.args.budget c.args.start_cost c.in_ok-copied.field-0 c.of.result c.nodes-2.inside.made.items c.in_ok-new_workers.field-0.items (root_node I gone c.requires.gone c.requires.required) c.in_ok-copied.ensures (c.of.ensures ∙ c.in_ok-from_slice.ensures.items) made c.in_ok-new_workers.ensures

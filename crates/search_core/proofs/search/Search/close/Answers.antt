@@ -1,0 +1,8 @@
+use Rattle.search_core.specs.declared.event.Event.TheVariants.{Close}
+use Rattle.search_core.specs.Seen.{state_of}
+use Rattle.search_core.proofs.Keeping.{kept_after}
+use Rattle.search_core.proofs.search.Search.close.Goals as goal
+
+pub invariant_of-self-2 : goal.invariant_of-self-2
+invariant_of-self-2 c =
+    rw (c.set_place.ensures, c.in_ok-close.ensures.ok, c.unwrap_or-id.ensures, c.hand.ensures, ← c.self.view_is) (kept_after (state_of c.self.inside) (Close c.args.w c.args.packing) c.self.invariant (rw (← c.self.view_is) at c.requires))

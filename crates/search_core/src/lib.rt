@@ -1,0 +1,30 @@
+//! The model of a search by several workers: what they hold, what happens next, and what is
+//! gathered of them when they are done.
+//!
+//! A `Search` is seen as its state. `step` answers a fault exactly where the event's need fails,
+//! the first one in order, and else takes the event's effect.
+#![tactic(auto)]
+
+mod copies;
+mod done;
+mod effects;
+mod event;
+mod gathered;
+mod gathering;
+mod judging;
+mod made;
+mod needs;
+mod nodes;
+mod records;
+mod search;
+mod step;
+mod worker;
+mod workers;
+
+pub use done::{Done, End};
+pub use event::{Event, EventFault, StepError};
+pub use gathered::{Gathered, Searched, Segment};
+pub use made::{Made, Place};
+pub use records::Records;
+pub use search::Search;
+pub use worker::Worker;

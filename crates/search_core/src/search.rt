@@ -1,0 +1,199 @@
+ghost use Rattle.std.specs.Prelude.{◌≡◌, ◌≤◌, ◌<◌, ℕ, IsTrue, IsFalse, IfOk, IfSome, false, replicate};
+ghost use Rattle.std.specs.Option.{option_copied};
+ghost use Rattle.st_model.specs.Branch.{IsVertexSet};
+ghost use Rattle.st_model.specs.Lists.{has};
+ghost use Rattle.st_model.specs.Network.{is_required};
+ghost use Rattle.branching.specs.Node.{IsNode};
+ghost use Rattle.search_core.specs.State.{beginning, hand, held, made_as, new_worker, root_of, seen};
+
+use crate::nodes::Nodes;
+use crate::{End, Made, Place, Records, Worker};
+use branching::Node;
+use cut_packing::Packing;
+use st_model::{Branch, Instance, Listed};
+use std::alloc::{AllocError, Global};
+use std::marker::Model;
+
+/// A search by several workers, between two events.
+#[derive(Drop)]
+pub struct Search {
+    instance: Instance,
+    gone: Listed<u32>,
+    pub(crate) start: u64,
+    pub(crate) budget: u64,
+    pub(crate) nodes: Nodes,
+    pub(crate) workers: Vec<Worker>,
+    pub(crate) least: u64,
+    pub(crate) claims: u64,
+    pub(crate) opened: u64,
+    pub(crate) halted: bool,
+}
+
+impl Model for Search {
+    ghost use Rattle.search_core.specs.State.{State};
+    ghost use Rattle.search_core.specs.Kept.{IsKept};
+
+    ghost Value = { State };
+
+    ghost use Rattle.search_core.specs.Seen.{state_of};
+
+    ghost view = { state_of };
+
+    ghost invariant = { λ s. IsKept (state_of s) };
+}
+
+impl Search {
+    /// A search before any event: its one node is the branch of the trees that reach nobody gone,
+    /// and stands in the queue of worker 0.
+    pub fn begin(
+        alloc: Global,
+        instance: &Instance,
+        gone: &[u32],
+        workers: u32,
+        budget: u64,
+        start_cost: u64,
+    ) -> Result<Search, AllocError>
+        requires gone { IsVertexSet instance.now.n gone.now }
+        requires required { (v : ℕ) → IsTrue (has gone.now v) → IsFalse (is_required instance.now v) }
+        ensures { IfOk result (λ search. search ≡ beginning instance.now gone.now workers budget start_cost) }
+    {
+        let mut nodes = Nodes::new(alloc);
+        nodes.add(root(alloc, gone)?)?;
+        Ok(Search {
+            instance: copied(alloc, instance)?,
+            gone: Listed::of(Vec::from_slice(alloc, gone)?),
+            start: start_cost,
+            budget,
+            nodes,
+            workers: new_workers(alloc, workers, start_cost)?,
+            least: start_cost,
+            claims: 0,
+            opened: 1,
+            halted: false,
+        })
+    }
+
+    /// The least of the start cost and all offers.
+    pub fn least(&self) -> u64
+        ensures { result ≡ self.now.least }
+    {
+        self.least
+    }
+
+    /// How many nodes are counted as open.
+    pub fn open_count(&self) -> u64
+        ensures { result ≡ self.now.opened }
+    {
+        self.opened
+    }
+
+    pub(crate) fn instance(&self) -> &Instance
+        ensures { result.now ≡ self.now.instance }
+    {
+        &self.instance
+    }
+
+    pub(crate) fn workers(&self) -> &[Worker]
+        ensures { result.now ≡ self.now.workers }
+    {
+        &self.workers
+    }
+
+    pub(crate) fn alloc(&self) -> Global {
+        self.nodes.allocator()
+    }
+
+    /// The value that a worker saw last.
+    pub(crate) fn seen(&self, w: u32) -> u64
+        ensures { result ≡ seen self.now w }
+    {
+        match self.workers.get(w as usize) {
+            Some(worker) => worker.seen,
+            None => 0,
+        }
+    }
+
+    /// The node that was made under an id.
+    pub(crate) fn made_as(&self, id: u64) -> Option<&Made>
+        ensures { option_copied result ≡ made_as self.now id }
+    {
+        self.nodes.find(id)
+    }
+
+    /// The id of the node in the hand of a worker.
+    pub(crate) fn hand(&self, w: u32) -> Option<u64>
+        ensures { result ≡ hand self.now w }
+    {
+        self.workers.get(w as usize)?.hand
+    }
+
+    /// The node in the hand of a worker.
+    pub(crate) fn held(&self, w: u32) -> Option<&Made>
+        ensures made { option_copied result ≡ held self.now w }
+        ensures node { IfSome result (λ made. IsNode self.now.instance made.now.node) }
+    {
+        match self.hand(w) {
+            Some(id) => self.nodes.find(id),
+            None => None,
+        }
+    }
+}
+
+// The same instance again.
+fn copied(alloc: Global, instance: &Instance) -> Result<Instance, AllocError>
+    ensures { IfOk result (λ copy. copy ≡ instance.now) }
+{
+    let links = Vec::from_slice(alloc, instance.links())?;
+    let needs = Vec::from_slice(alloc, instance.needs())?;
+    Instance::from_parts(alloc, instance.vertices(), links, needs)
+}
+
+// The node that a search starts from.
+fn root(alloc: Global, gone: &[u32]) -> Result<Made, AllocError>
+    ensures { IfOk result (λ made. made ≡ record { node = root_of gone.now; place = Place.Queue 0; claimed = false }) }
+{
+    let branch = Branch {
+        inside: Listed::of(Vec::new(alloc)),
+        outside: Listed::of(Vec::from_slice(alloc, gone)?),
+    };
+    let packing = Packing {
+        root: None,
+        cuts: Listed::of(Vec::new(alloc)),
+    };
+    Ok(Made {
+        node: Node {
+            id: 0,
+            branch,
+            packing,
+        },
+        place: Place::Queue(0),
+        claimed: false,
+    })
+}
+
+// Workers that have done nothing yet.
+fn new_workers(alloc: Global, count: u32, start: u64) -> Result<Vec<Worker>, AllocError>
+    ensures { IfOk result (λ workers. workers.items ≡ replicate count (new_worker start)) }
+{
+    let mut workers = Vec::new(alloc);
+    for _ in 0..count {
+        workers.push(new_worker(alloc, start))?;
+    }
+    Ok(workers)
+}
+
+// A worker that has done nothing yet.
+fn new_worker(alloc: Global, start: u64) -> Worker
+    ensures { result ≡ new_worker start }
+{
+    Worker {
+        hand: None,
+        seen: start,
+        offered: start,
+        refused: false,
+        up: false,
+        closes: 0,
+        done: Records::new(alloc),
+        end: End::OpenZero,
+    }
+}
