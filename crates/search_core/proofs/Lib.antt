@@ -6,3 +6,5 @@ pub mod NodeLists
 pub mod Happened
 pub mod Serving
 pub mod Rooted
+pub mod WorkerLists
+pub mod Running

@@ -111,10 +111,10 @@ impl Search {
         ensures ok { OnOk result (self.new ≡ after self.old (Event.Up w)) }
         ensures err { OnErr result (self.new ≡ self.old) }
     {
-        let Some(opened) = self.opened.checked_add(1) else {
+        if self.opened == u64::MAX {
             return Err(AllocError);
-        };
-        self.opened = opened;
+        }
+        self.opened += 1;
         await_split(&mut self.workers, w);
         Ok(())
     }

@@ -12,18 +12,22 @@ mod event;
 mod gathered;
 mod gathering;
 mod judging;
+mod law;
 mod made;
 mod needs;
 mod nodes;
 mod records;
 mod search;
 mod step;
+#[cfg(test)]
+mod tests;
 mod worker;
 mod workers;
 
 pub use done::{Done, End};
 pub use event::{Event, EventFault, StepError};
 pub use gathered::{Gathered, Searched, Segment};
+pub use law::{events_keep, faults_are_exact};
 pub use made::{Made, Place};
 pub use records::Records;
 pub use search::Search;

@@ -1,0 +1,28 @@
+-- The laws of searches: what every list of events keeps, and that faults are exact.
+use Rattle.std.specs.Prelude.{◌≡◌, ℕ, IsTrue, IsFalse, List}
+use Rattle.st_model.specs.Branch.{IsVertexSet}
+use Rattle.st_model.specs.Lists.{has}
+use Rattle.st_model.specs.Network.{Network, is_required}
+use Rattle.search_core.specs.declared.event.Event.{Event}
+use Rattle.search_core.specs.declared.event.EventFault.{EventFault}
+use Rattle.search_core.specs.State.{State, beginning}
+use Rattle.search_core.specs.Needs.{IsAllowed, IsFault}
+use Rattle.search_core.specs.Steps.{Run}
+use Rattle.search_core.specs.Kept.{IsKept}
+
+-- a search may begin where the gone vertices are a set of vertices, none of them required
+pub record MayBegin (I : Network) (gone : List ℕ) : Type 0 where
+  pub set : IsVertexSet I.n gone
+  pub required : (v : ℕ) → IsTrue (has gone v) → IsFalse (is_required I v)
+
+-- what any list of events leads to from a beginning keeps what every state keeps
+abbrev pub EventsKeep : Type 0
+EventsKeep = (I : Network) (gone : List ℕ) (workers budget start : ℕ) (events : List Event) (S : State) → MayBegin I gone → Run (beginning I gone workers budget start) events S → IsKept S
+
+-- no event that may happen has a fault
+abbrev pub AllowedHasNoFault : Type 0
+AllowedHasNoFault = (S : State) (e : Event) (f : EventFault) → IsAllowed S e → ¬ IsFault S e f
+
+-- and none has two
+abbrev pub FaultIsOne : Type 0
+FaultIsOne = (S : State) (e : Event) (f g : EventFault) → IsFault S e f → IsFault S e g → f ≡ g
