@@ -14,7 +14,7 @@ use Rattle.special_dist.specs.Answers.{HasNoDetour}
 use Rattle.reductions.specs.declared.work.Work.{Work}
 use Rattle.reductions.specs.Results.{HasNoDetourStep}
 use Rattle.reductions.specs.Sizes.{size}
-use Rattle.reductions.specs.Working.{Mirrors}
+use Rattle.reductions.specs.Working.{HasTried, Mirrors}
 use Rattle.reductions.proofs.Mirroring.{same_detour}
 use Rattle.reductions.proofs.Reversing.{turned_detour}
 use Rattle.reductions.proofs.Stepping.{linked_vertices}
@@ -46,19 +46,15 @@ none_mirrored s g a b mirrors none inner detour = none inner (same_detour s.inst
 pub detour_mirrored : (s : State) (g : Graph) (a b : ℕ) (inner : List ℕ) → Mirrors s g → IsDetour g.network a b inner → IsDetour s.instance a b inner
 detour_mirrored s g a b inner mirrors detour = same_detour g.network s.instance a b inner (λ u w. sym (mirrors.links u w)) (λ v. sym (mirrors.needs v)) detour
 
--- what a pass over some links has done
-pub record HasPassed (init now : Work) (any : Bool) (most : Option ℕ) (links : List Link) : Type 0 where
-  pub some : OnTrue any (size now.reduced.state < size init.reduced.state)
-  pub none : OnFalse any ((now ≡ init) × (most ≡ None → All (λ l. HasNoDetour init.reduced.state.instance l.a l.b) links))
-
-pub passed_none : (init : Work) (most : Option ℕ) → HasPassed init init false most []
+-- what trying some links has done
+pub passed_none : (init : Work) (most : Option ℕ) → HasTried init init false most []
 passed_none init most = record { some = tt; none = (refl, (λ is. All-nil (λ l. HasNoDetour init.reduced.state.instance l.a l.b))) }
 
-pub passed_dropped : (init old new : Work) (any : Bool) (most : Option ℕ) (links more : List Link) → size new.reduced.state < size old.reduced.state → HasPassed init old any most links → HasPassed init new true most more
+pub passed_dropped : (init old new : Work) (any : Bool) (most : Option ℕ) (links more : List Link) → size new.reduced.state < size old.reduced.state → HasTried init old any most links → HasTried init new true most more
 passed_dropped init old new true most links more less passed = record { some = (let before = passed.some in omega arith); none = tt }
 passed_dropped init old new false most links more less passed = record { some = subst (λ (w : Work). size new.reduced.state < size w.reduced.state) passed.none.0 less; none = tt }
 
-pub passed_kept : (init old new : Work) (any : Bool) (most : Option ℕ) (links : List Link) (l : Link) → new ≡ old → (most ≡ None → HasNoDetour old.reduced.state.instance l.a l.b) → HasPassed init old any most links → HasPassed init new any most (links ++ l ∷ [])
+pub passed_kept : (init old new : Work) (any : Bool) (most : Option ℕ) (links : List Link) (l : Link) → new ≡ old → (most ≡ None → HasNoDetour old.reduced.state.instance l.a l.b) → HasTried init old any most links → HasTried init new any most (links ++ l ∷ [])
 passed_kept init old new true most links l same without passed = record { some = subst (λ (w : Work). size w.reduced.state < size init.reduced.state) (sym same) passed.some; none = tt }
 passed_kept init old new false most links l same without passed = record {
   some = tt;
@@ -66,20 +62,20 @@ passed_kept init old new false most links l same without passed = record {
 }
 
 -- a link was tried
-pub passed_step : (init old new : Work) (any dropped : Bool) (most : Option ℕ) (links : List Link) (l : Link) → OnTrue dropped (size new.reduced.state < size old.reduced.state) → OnFalse dropped ((new ≡ old) × (most ≡ None → HasNoDetour old.reduced.state.instance l.a l.b)) → HasPassed init old any most links → HasPassed init new (any || dropped) most (links ++ l ∷ [])
+pub passed_step : (init old new : Work) (any dropped : Bool) (most : Option ℕ) (links : List Link) (l : Link) → OnTrue dropped (size new.reduced.state < size old.reduced.state) → OnFalse dropped ((new ≡ old) × (most ≡ None → HasNoDetour old.reduced.state.instance l.a l.b)) → HasTried init old any most links → HasTried init new (any || dropped) most (links ++ l ∷ [])
 passed_step init old new true true most links l less kept passed = passed_dropped init old new true most links (links ++ l ∷ []) less passed
 passed_step init old new false true most links l less kept passed = passed_dropped init old new false most links (links ++ l ∷ []) less passed
 passed_step init old new true false most links l less kept passed = passed_kept init old new true most links l kept.0 kept.1 passed
 passed_step init old new false false most links l less kept passed = passed_kept init old new false most links l kept.0 kept.1 passed
 
 -- all links were tried
-pub passed_all : (init now : Work) (any : Bool) (most : Option ℕ) (links : List Link) → links ≡ init.reduced.state.instance.links → HasPassed init now any most links → OnFalse any ((now ≡ init) × (most ≡ None → HasNoDetourStep now.reduced.state))
-passed_all init now true most links are passed = tt
-passed_all init now false most links are passed = (
-  passed.none.0,
-  λ is a b inner detour.
-      no_detours init.reduced.state.instance (subst (All (λ l. HasNoDetour init.reduced.state.instance l.a l.b)) are (passed.none.1 is)) a b inner
-      (subst (λ (w : Work). IsDetour w.reduced.state.instance a b inner) passed.none.0 detour),
+pub tried_all : (old new : Work) (any : Bool) (links : List Link) → links ≡ old.reduced.state.instance.links → HasTried old new any None links → OnFalse any ((new ≡ old) × HasNoDetourStep new.reduced.state)
+tried_all old new true links are tried = tt
+tried_all old new false links are tried = (
+  tried.none.0,
+  λ a b inner detour.
+      no_detours old.reduced.state.instance (subst (All (λ l. HasNoDetour old.reduced.state.instance l.a l.b)) are (tried.none.1 refl)) a b inner
+      (subst (λ (w : Work). IsDetour w.reduced.state.instance a b inner) tried.none.0 detour),
 )
 
 -- a link for which a detour is found is one between vertices

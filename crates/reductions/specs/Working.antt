@@ -1,5 +1,7 @@
 -- An instance under reduction, with the steps so far and the vertices at which steps are to be tried.
-use Rattle.std.specs.Prelude.{◌≡◌, ℕ, ◌+◌, ◌*◌, IsFalse, List, [], ◌∷◌, ◌++◌, All, length}
+use Rattle.std.specs.Prelude.{◌≡◌, ℕ, ◌+◌, ◌*◌, ◌<◌, Bool, IsFalse, List, [], ◌∷◌, ◌++◌, All, length, Option, None}
+use Rattle.std.specs.Bool.{OnTrue, OnFalse}
+use Rattle.st_model.specs.declared.link.Link.{Link}
 use Rattle.st_model.specs.Lists.{has}
 use Rattle.st_model.specs.Network.{IsVertex, link, need_of}
 use Rattle.graph_store.specs.Graph.{Graph}
@@ -7,8 +9,10 @@ use Rattle.lift_back.specs.declared.step.Step.{Step}
 use Rattle.lift_back.specs.declared.step.Step.TheVariants.{Pendant, Through, Forced, Detour}
 use Rattle.lift_back.specs.declared.ends.Ends.{Ends}
 use Rattle.lift_back.specs.declared.ends.Ends.TheVariants.{Nobody, One, Two, More}
+use Rattle.lift_back.specs.Ends.{HasEnds}
 use Rattle.lift_back.specs.State.{State, IsState, whole}
 use Rattle.lift_back.specs.Steps.{Applies, Takes}
+use Rattle.special_dist.specs.Answers.{HasNoDetour}
 use Rattle.reductions.specs.declared.work.Work.{Work}
 use Rattle.reductions.specs.Results.{HasNoStepAt}
 use Rattle.reductions.specs.Sizes.{size}
@@ -51,6 +55,12 @@ pub record Went (old new : Work) (v : ℕ) : Type 0 where
   pub of : IsOf v step
   pub took : TookStep old new step
 
+-- v went by a step, and these were the ends of its links
+pub record HasGone (old new : Work) (v : ℕ) (ends : Ends) : Type 0 where
+  pub went : Went old new v
+  pub state : IsState new.reduced.state
+  pub led : HasEnds old.reduced.state.instance.links v ends
+
 -- how much is still to be done
 abbrev pub load : Work → ℕ
 load w = 3 * size w.reduced.state + length w.queue.items
@@ -60,3 +70,8 @@ pub record Mirrors (s : State) (g : Graph) : Type 0 where
   pub count : g.network.n ≡ s.instance.n
   pub links : (u w : ℕ) → link g.network.links u w ≡ link s.instance.links u w
   pub needs : (v : ℕ) → need_of g.network v ≡ need_of s.instance v
+
+-- these links were tried: where none was dropped nothing has changed, and where no search may give up none of them has a detour
+pub record HasTried (old new : Work) (any : Bool) (most : Option ℕ) (links : List Link) : Type 0 where
+  pub some : OnTrue any (size new.reduced.state < size old.reduced.state)
+  pub none : OnFalse any ((new ≡ old) × (most ≡ None → All (λ l. HasNoDetour old.reduced.state.instance l.a l.b) links))

@@ -7,16 +7,17 @@ ghost use Rattle.reductions.specs.Working.{IsSettled};
 use crate::work::Work;
 use lift_back::{Reduced, Step};
 use special_dist::Finder;
-use st_model::Instance;
+use st_model::{Instance, VertexSet};
 use std::alloc::{AllocError, Global};
 
 /// An instance with no more links than this is reduced until no link has a detour.
 pub const MANY_LINKS: usize = 4096;
 
-// From how many places a search goes on, and how often all links are tried, where there are more.
+// From how many places a search for a detour that is soon found goes on, and how often some are
+// looked for.
 const MOST_PLACES: u32 = 100;
 
-const MOST_ROUNDS: u32 = 4;
+const MOST_ROUNDS: u32 = 10;
 
 /// Steps that apply to an instance one after another, and what they leave: no vertex may go by a
 /// step any more, and where the instance has at most `MANY_LINKS` links, no link either.
@@ -28,27 +29,27 @@ pub fn reduce(alloc: Global, instance: &Instance) -> Result<(Vec<Step>, Reduced)
 {
     let mut work = Work::of(alloc, instance)?;
     let mut finder = Finder::new(alloc, instance.vertices())?;
-    work.settle()?;
-    let count = instance.links().len();
-    take_detours(alloc, &mut work, &mut finder, count)?;
+    work.settle(&mut Vec::new(alloc))?;
+    take_detours(alloc, &mut work, &mut finder, instance)?;
     Ok((work.steps, work.reduced))
 }
 
-// Takes detours, and the steps by which a vertex goes then: of an instance with so many links.
+// Takes detours, and the steps by which a vertex goes then, of what is left of an instance.
 fn take_detours(
     alloc: Global,
     work: &mut Work,
     finder: &mut Finder,
-    count: usize,
+    instance: &Instance,
 ) -> Result<(), AllocError>
     requires work { IsSettled work.old }
     requires finder { finder.old ≡ work.old.reduced.first.n }
     ensures work { OnOk result (IsSettled work.new) }
-    ensures detours { count ≤ MANY_LINKS → OnOk result (HasNoDetourStep work.new.reduced.state) }
+    ensures detours { length instance.now.links ≤ MANY_LINKS
+        → OnOk result (HasNoDetourStep work.new.reduced.state) }
     ensures first { work.new.reduced.first ≡ work.old.reduced.first }
 {
-    thin_out(alloc, work, finder)?;
-    if count > MANY_LINKS {
+    thin_out(alloc, work, finder, instance.vertices())?;
+    if instance.links().len() > MANY_LINKS {
         return Ok(());
     }
     exhaust(alloc, work, finder)?;
@@ -63,25 +64,35 @@ fn exhaust(alloc: Global, work: &mut Work, finder: &mut Finder) -> Result<(), Al
     ensures detours { OnOk result (HasNoDetourStep work.new.reduced.state) }
     ensures first { work.new.reduced.first ≡ work.old.reduced.first }
 {
-    while work.pass(alloc, finder, None)? {
-        work.settle()?;
+    while work.pass(alloc, finder)? {
+        work.settle(&mut Vec::new(alloc))?;
     }
     Ok(())
 }
 
-// Takes detours that are soon found, as long as enough are.
-fn thin_out(alloc: Global, work: &mut Work, finder: &mut Finder) -> Result<(), AllocError>
+// Takes detours that are soon found: first for any link, then for those round vertices that went
+// meanwhile, where there may be detours that were none before.
+fn thin_out(
+    alloc: Global,
+    work: &mut Work,
+    finder: &mut Finder,
+    vertices: u32,
+) -> Result<(), AllocError>
     requires work { IsSettled work.old }
     requires finder { finder.old ≡ work.old.reduced.first.n }
     ensures work { OnOk result (IsSettled work.new) }
     ensures first { work.new.reduced.first ≡ work.old.reduced.first }
     ensures finder { finder.new ≡ finder.old }
 {
+    let mut ends = None;
     for _round in 0..MOST_ROUNDS {
-        if !work.pass(alloc, finder, Some(MOST_PLACES))? {
+        work.sweep(alloc, finder, ends.as_ref(), MOST_PLACES)?;
+        let mut around = Vec::new(alloc);
+        work.settle(&mut around)?;
+        if around.is_empty() {
             return Ok(());
         }
-        work.settle()?;
+        ends = Some(VertexSet::of(alloc, vertices as usize + 1, &around)?);
     }
     Ok(())
 }

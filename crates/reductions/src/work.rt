@@ -1,19 +1,21 @@
-ghost use Rattle.std.specs.Prelude.{◌≡◌, ℕ, ◌+◌, ◌<◌, ◌≤◌, ◌∷◌, ◌++◌, true, None, IfOk, OnOk, length};
+ghost use Rattle.std.specs.Prelude.{◌≡◌, ℕ, ◌+◌, ◌<◌, ◌≤◌, ◌∷◌, ◌++◌, true, IfOk, IfSome, IfNone, OnOk, length};
 ghost use Rattle.std.specs.Bool.{OnTrue, OnFalse};
 ghost use Rattle.st_model.specs.Lists.{up_to};
+ghost use Rattle.st_model.specs.Network.{IsVertex};
 ghost use Rattle.lift_back.specs.Detours.{IsDetour};
 ghost use Rattle.lift_back.specs.State.{IsState};
 ghost use Rattle.lift_back.specs.Steps.{MayTake};
 ghost use Rattle.special_dist.specs.Answers.{HasNoDetour};
 ghost use Rattle.reductions.specs.Results.{HasNoDetourStep, HasNoStepAt};
 ghost use Rattle.reductions.specs.Sizes.{size};
-ghost use Rattle.reductions.specs.Working.{IsSettled, IsWork, Mirrors, TookStep, Went, load, row_of};
+ghost use Rattle.reductions.specs.Working.{HasGone, HasTried, IsSettled, IsWork, Mirrors, TookStep, Went, load, row_of};
 
 use graph_store::Store;
 use lift_back::{ApplyError, Ends, Reduced, Step};
 use special_dist::{Finder, Found};
-use st_model::{Instance, Listed};
+use st_model::{Instance, Link, Listed, VertexSet};
 use std::alloc::{AllocError, Global};
+use std::cmp::Reverse;
 
 // An instance under reduction.
 #[derive(Drop)]
@@ -38,33 +40,52 @@ impl Work {
         })
     }
 
-    // Takes steps by which a vertex goes, until there is none.
-    pub fn settle(&mut self) -> Result<(), AllocError>
+    // Takes steps by which a vertex goes, until there is none. The vertices round those that went are
+    // put behind the others.
+    pub fn settle(&mut self, around: &mut Vec<u32>) -> Result<(), AllocError>
         requires { IsWork self.old self.old.queue.items }
         ensures settled { OnOk result (IsSettled self.new) }
         ensures size { OnOk result (size self.new.reduced.state ≤ size self.old.reduced.state) }
         ensures first { self.new.reduced.first ≡ self.old.reduced.first }
     {
         while let Some(vertex) = self.queue.pop() {
-            self.settle_at(vertex)?;
+            let ends = self.settle_at(vertex)?;
+            push_ends(around, ends)?;
         }
         Ok(())
     }
 
-    // Takes a step by which a vertex goes, if there is one; what its links lead to is to be looked
-    // at then.
-    fn settle_at(&mut self, vertex: u32) -> Result<(), AllocError>
+    // Takes a step by which a vertex goes, if there is one; what its links led to is to be looked at
+    // then, and is answered.
+    fn settle_at(&mut self, vertex: u32) -> Result<Ends, AllocError>
         requires { IsWork self.old (vertex ∷ self.old.queue.items) }
         ensures work { OnOk result (IsWork self.new self.new.queue.items) }
         ensures size { OnOk result (size self.new.reduced.state ≤ size self.old.reduced.state) }
         ensures load { OnOk result (load self.new ≤ load self.old) }
         ensures first { self.new.reduced.first ≡ self.old.reduced.first }
     {
+        let Some(ends) = self.let_go(vertex)? else {
+            return Ok(Ends::Nobody);
+        };
+        push_ends(&mut self.queue, ends)?;
+        Ok(ends)
+    }
+
+    // Takes a step by which a vertex goes, and answers where its links led; None where there is no
+    // such step.
+    fn let_go(&mut self, vertex: u32) -> Result<Option<Ends>, AllocError>
+        requires { IsVertex self.old.reduced.state.instance.n vertex }
+        ensures gone { IfOk result (λ gone. IfSome gone (HasGone self.old self.new vertex)) }
+        ensures stays { IfOk result (λ gone. IfNone gone
+            (HasNoStepAt self.old.reduced.state vertex × (self.new ≡ self.old))) }
+        ensures first { self.new.reduced.first ≡ self.old.reduced.first }
+        ensures queue { self.new.queue ≡ self.old.queue }
+    {
         let ends = self.reduced.ends(vertex);
         if self.goes(vertex)? {
-            push_ends(&mut self.queue, ends)?;
+            return Ok(Some(ends));
         }
-        Ok(())
+        Ok(None)
     }
 
     // Takes a step by which a vertex goes, and answers whether there was one.
@@ -108,26 +129,65 @@ impl Work {
     }
 
     // Looks for a detour for each link, and takes those that it finds. Answers whether it took any.
-    pub fn pass(
-        &mut self,
-        alloc: Global,
-        finder: &mut Finder,
-        most: Option<u32>,
-    ) -> Result<bool, AllocError>
+    pub fn pass(&mut self, alloc: Global, finder: &mut Finder) -> Result<bool, AllocError>
         requires work { IsWork self.old self.old.queue.items }
         requires finder { finder.old ≡ self.old.reduced.first.n }
         ensures work { OnOk result (IsWork self.new self.new.queue.items) }
         ensures some { IfOk result (λ any. OnTrue any (size self.new.reduced.state < size self.old.reduced.state)) }
         ensures none { IfOk result (λ any. OnFalse any
-            ((self.new ≡ self.old) × (most ≡ None → HasNoDetourStep self.new.reduced.state))) }
+            ((self.new ≡ self.old) × HasNoDetourStep self.new.reduced.state)) }
         ensures first { self.new.reduced.first ≡ self.old.reduced.first }
         ensures finder { finder.new ≡ finder.old }
     {
         let instance = self.reduced.instance(alloc)?;
         let mut store = Store::of(alloc, &instance)?;
+        let any = self.try_links(alloc, finder, &mut store, instance.links(), None)?;
+        Ok(any)
+    }
+
+    // Looks for detours that are soon found, for all links or for those with an end in a set, the
+    // dearest first, and takes them.
+    pub fn sweep(
+        &mut self,
+        alloc: Global,
+        finder: &mut Finder,
+        ends: Option<&VertexSet>,
+        most: u32,
+    ) -> Result<(), AllocError>
+        requires work { IsWork self.old self.old.queue.items }
+        requires finder { finder.old ≡ self.old.reduced.first.n }
+        ensures work { OnOk result (IsWork self.new self.new.queue.items) }
+        ensures first { self.new.reduced.first ≡ self.old.reduced.first }
+        ensures finder { finder.new ≡ finder.old }
+    {
+        let instance = self.reduced.instance(alloc)?;
+        let mut store = Store::of(alloc, &instance)?;
+        let links = dearest_first(alloc, instance.links(), ends)?;
+        self.try_links(alloc, finder, &mut store, &links, Some(most))?;
+        Ok(())
+    }
+
+    // Looks for a detour for each of some links, and takes those that it finds. Answers whether it
+    // took any.
+    fn try_links(
+        &mut self,
+        alloc: Global,
+        finder: &mut Finder,
+        store: &mut Store,
+        links: &[Link],
+        most: Option<u32>,
+    ) -> Result<bool, AllocError>
+        requires work { IsWork self.old self.old.queue.items }
+        requires mirrors { Mirrors self.old.reduced.state store.old }
+        requires finder { finder.old ≡ self.old.reduced.first.n }
+        ensures work { OnOk result (IsWork self.new self.new.queue.items) }
+        ensures tried { IfOk result (λ any. HasTried self.old self.new any most links.now) }
+        ensures first { self.new.reduced.first ≡ self.old.reduced.first }
+        ensures finder { finder.new ≡ finder.old }
+    {
         let mut any = false;
-        for link in instance.links() {
-            let dropped = self.drops(alloc, finder, &mut store, link.a, link.b, most)?;
+        for link in links {
+            let dropped = self.drops(alloc, finder, store, link.a, link.b, most)?;
             any = any | dropped;
         }
         Ok(any)
@@ -218,4 +278,27 @@ fn all_vertices(alloc: Global, vertices: u32) -> Result<Vec<u32>, AllocError>
         all.push(before + 1)?;
     }
     Ok(all)
+}
+
+// The links, or those with an end in a set, the dearest first.
+fn dearest_first(
+    alloc: Global,
+    links: &[Link],
+    ends: Option<&VertexSet>,
+) -> Result<Vec<Link>, AllocError> {
+    let mut kept = match ends {
+        Some(set) => with_end_in(alloc, links, set)?,
+        None => Vec::from_slice(alloc, links)?,
+    };
+    kept.sort_by_key(|link| Reverse(link.cost))?;
+    Ok(kept)
+}
+
+// The links with an end in a set.
+fn with_end_in(alloc: Global, links: &[Link], set: &VertexSet) -> Result<Vec<Link>, AllocError> {
+    links
+        .iter()
+        .copied()
+        .filter(|link| set.contains(link.a) || set.contains(link.b))
+        .collect(alloc)
 }

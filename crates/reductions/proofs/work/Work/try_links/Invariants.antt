@@ -1,7 +1,6 @@
 use Rattle.std.proofs.Common.{◌≡◌, take}
-use Rattle.reductions.specs.Working.{IsWork, Mirrors}
-use Rattle.reductions.proofs.Passing.{HasPassed}
-use Rattle.reductions.proofs.work.Work.pass.Given as goal
+use Rattle.reductions.specs.Working.{HasTried, IsWork, Mirrors}
+use Rattle.reductions.proofs.work.Work.try_links.Given as goal
 
 abbrev pub invariant-loop-link : goal.invariant-loop-link
 invariant-loop-link l = record {
@@ -9,5 +8,5 @@ invariant-loop-link l = record {
   mirrors : Mirrors l.self.reduced.state l.store;
   first : l.self.reduced.first ≡ l.initial.self.reduced.first;
   finder : l.finder ≡ l.initial.finder;
-  passed : HasPassed l.initial.self l.self l.any l.most (take l.link-index l.link-items);
+  tried : HasTried l.initial.self l.self l.any l.most (take l.link-index l.links);
 }
