@@ -1,9 +1,9 @@
--- Proofs of the nodes that wait make the lines a proof of all trees, before and after each step.
+-- Proofs of the nodes that wait make the lines a proof of the branch that is searched, before and after each step.
 use Rattle.std.proofs.Common.{◌≡◌, ℕ, ◌≤◌, cond, ltb, List, [], ◌∷◌, ◌++◌, refl, sym, ap, subst, ◌∙◌, append_assoc, arith}
 use Rattle.std.proofs.lemmas.List.{append-nil}
 use Rattle.st_model.specs.declared.branch.Branch.{Branch}
 use Rattle.st_model.specs.Network.{Network}
-use Rattle.st_model.specs.Branch.{with_inside, with_outside, all_trees}
+use Rattle.st_model.specs.Branch.{with_inside, with_outside}
 use Rattle.cut_packing.specs.declared.packing.Packing.{Packing}
 use Rattle.cut_packing.specs.Packing.{Fits, weight}
 use Rattle.cut_packing.specs.ProofTree.{IsSplit, close, split}
@@ -69,10 +69,10 @@ at_last I x primal (M ∷ Ns) N lines light h =
       weights = h.weights ∙ (ap (λ (r : List ℕ). r ++ h.lower_light) inner.weights ∙ append_assoc inner.upper_light inner.lower_light h.lower_light);
     }
 
--- at the start the branch of all trees waits
-pub continues_at_first : (I : Network) (bound primal : ℕ) (root : Node) → root.branch ≡ all_trees → Continues I bound primal [] [] (root ∷ [])
-continues_at_first I bound primal root is_root x more light low rest =
-    same_proof I all_trees x primal rest.lower more rest.lower_light light
+-- at the start the whole branch waits
+pub continues_at_first : (I : Network) (R : Branch) (bound primal : ℕ) (root : Node) → root.branch ≡ R → Continues I R bound primal [] [] (root ∷ [])
+continues_at_first I R bound primal root is_root x more light low rest =
+    same_proof I R x primal rest.lower more rest.lower_light light
     (rest.joined ∙ ap (λ (r : List ProofLine). r ++ rest.lower) rest.first.0)
     (rest.weights ∙ ap (λ (r : List ℕ). r ++ rest.lower_light) rest.first.1)
     (subst (λ (B : Branch). IsProofOf I B x primal rest.lower rest.lower_light) is_root rest.second)
@@ -82,13 +82,13 @@ abbrev pub light_of : ℕ → ℕ → List ℕ
 light_of weighs primal = cond (ltb weighs primal) (weighs ∷ []) []
 
 -- a close of the last node
-pub continues_closed : (I : Network) (bound primal : ℕ) (light : List ℕ) (lines : List ProofLine) (Ns : List Node) (N : Node) (P : Packing) (lower : ℕ) → Fits I N.branch P
+pub continues_closed : (I : Network) (R : Branch) (bound primal : ℕ) (light : List ℕ) (lines : List ProofLine) (Ns : List Node) (N : Node) (P : Packing) (lower : ℕ) → Fits I N.branch P
     → lower ≤ bound → lower ≤ weight I N.branch P
-    → Continues I bound primal light lines (Ns ++ N ∷ []) → Continues I lower primal (light ++ light_of (weight I N.branch P) primal) (lines ++ Close P ∷ []) Ns
-continues_closed I bound primal light lines Ns N P lower fits below weighs h x more more_light low rest =
+    → Continues I R bound primal light lines (Ns ++ N ∷ []) → Continues I R lower primal (light ++ light_of (weight I N.branch P) primal) (lines ++ Close P ∷ []) Ns
+continues_closed I R bound primal light lines Ns N P lower fits below weighs h x more more_light low rest =
     let extra = light_of (weight I N.branch P) primal in
     let here : IsProofOf I N.branch x primal (Close P ∷ []) extra = record { proof = close P; written = refl; proves = record { fits = fits; weighs = omega arith }; weigh = refl } in
-    same_proof I all_trees x primal (lines ++ Close P ∷ more) ((lines ++ Close P ∷ []) ++ more) (light ++ (extra ++ more_light)) ((light ++ extra) ++ more_light)
+    same_proof I R x primal (lines ++ Close P ∷ more) ((lines ++ Close P ∷ []) ++ more) (light ++ (extra ++ more_light)) ((light ++ extra) ++ more_light)
     (append_assoc lines (Close P ∷ []) more) (append_assoc light extra more_light)
     (h x (Close P ∷ more) (extra ++ more_light) (omega arith) (with_last I x primal Ns N (Close P ∷ []) more extra more_light here rest))
 
@@ -97,10 +97,10 @@ regrouped : {A : Type 0} (all a rest b c : List A) → all ≡ a ++ rest → res
 regrouped all a rest b c is_all is_rest = is_all ∙ (ap (λ r. a ++ r) is_rest ∙ sym (append_assoc a b c))
 
 -- a split of the last node
-pub continues_split : (I : Network) (bound primal : ℕ) (light : List ℕ) (lines : List ProofLine) (Ns : List Node) (N inner outer : Node) (v : ℕ)
+pub continues_split : (I : Network) (R : Branch) (bound primal : ℕ) (light : List ℕ) (lines : List ProofLine) (Ns : List Node) (N inner outer : Node) (v : ℕ)
     → inner.branch ≡ with_inside N.branch v → outer.branch ≡ with_outside N.branch v → IsSplit I N.branch v
-    → Continues I bound primal light lines (Ns ++ N ∷ []) → Continues I bound primal light (lines ++ Split v ∷ []) (Ns ++ outer ∷ inner ∷ [])
-continues_split I bound primal light lines Ns N inner outer v is_inner is_outer is_split h x more more_light low rest =
+    → Continues I R bound primal light lines (Ns ++ N ∷ []) → Continues I R bound primal light (lines ++ Split v ∷ []) (Ns ++ outer ∷ inner ∷ [])
+continues_split I R bound primal light lines Ns N inner outer v is_inner is_outer is_split h x more more_light low rest =
     let halves = subst (λ (r : List Node). AreProofs I x primal r more more_light) (sym (append_assoc Ns (outer ∷ []) (inner ∷ []))) rest in
     let first = at_last I x primal (Ns ++ outer ∷ []) inner more more_light halves in
     let second = at_last I x primal Ns outer first.lower first.lower_light first.second in
@@ -119,10 +119,10 @@ continues_split I bound primal light lines Ns N inner outer v is_inner is_outer 
     let same : more ≡ now ++ second.lower = regrouped more first.upper first.lower second.upper second.lower first.joined second.joined in
     let same_light : more_light ≡ now_light ++ second.lower_light =
     regrouped more_light first.upper_light first.lower_light second.upper_light second.lower_light first.weights second.weights in
-    same_proof I all_trees x primal (lines ++ Split v ∷ (now ++ second.lower)) ((lines ++ Split v ∷ []) ++ more) (light ++ (now_light ++ second.lower_light)) (light ++ more_light)
+    same_proof I R x primal (lines ++ Split v ∷ (now ++ second.lower)) ((lines ++ Split v ∷ []) ++ more) (light ++ (now_light ++ second.lower_light)) (light ++ more_light)
     (append_assoc lines (Split v ∷ []) more ∙ ap (λ (r : List ProofLine). lines ++ Split v ∷ r) same) (ap (λ (r : List ℕ). light ++ r) same_light) whole
 
 -- where nothing waits, the lines are a proof
-pub continues_at_last : (I : Network) (bound primal : ℕ) (light : List ℕ) (lines : List ProofLine) → Continues I bound primal light lines [] → IsProofOf I all_trees bound primal lines light
-continues_at_last I bound primal light lines h =
-    same_proof I all_trees bound primal (lines ++ []) lines (light ++ []) light (sym (append-nil lines)) (sym (append-nil light)) (h bound [] [] (omega arith) (refl, refl))
+pub continues_at_last : (I : Network) (R : Branch) (bound primal : ℕ) (light : List ℕ) (lines : List ProofLine) → Continues I R bound primal light lines [] → IsProofOf I R bound primal lines light
+continues_at_last I R bound primal light lines h =
+    same_proof I R bound primal (lines ++ []) lines (light ++ []) light (sym (append-nil lines)) (sym (append-nil light)) (h bound [] [] (omega arith) (refl, refl))

@@ -3,6 +3,7 @@ pub mod Turns
 pub mod Continuing
 pub mod Writing
 pub mod Narrowing
+pub mod Parts
 pub mod Steps
 pub mod Extended
 pub mod Heavier

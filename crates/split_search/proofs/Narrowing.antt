@@ -1,11 +1,13 @@
 -- What is left of a branch where more is to be avoided.
 use Rattle.std.proofs.Common.{◌≡◌, ℕ, Bool, true, false, not, ◌||◌, List, refl, ◌∙◌}
 use Rattle.std.specs.Prelude.{IsTrue, IsFalse}
+use Rattle.std.proofs.lemmas.Bool.{or_left}
 use Rattle.st_model.specs.declared.branch.Branch.{Branch}
 use Rattle.st_model.specs.Lists.{has}
 use Rattle.st_model.specs.Network.{Network, is_required}
-use Rattle.st_model.specs.Branch.{AreThose, IsBranch}
+use Rattle.st_model.specs.Branch.{AreThose, IsBranch, is_certain}
 use Rattle.st_model.proofs.Branches.{IsVertexSet-member}
+use Rattle.split_search.specs.Node.{IsPartOf}
 use Rattle.split_search.specs.Deciding.{is_left_out}
 
 -- a branch in which more is outside, but nothing that is certain
@@ -21,3 +23,13 @@ narrow_branch I B reached out branch are = record { inside = branch.inside; outs
         by_case : (b : Bool) → not ((b || true) || has reached v) ≡ false
         by_case true = refl
         by_case false = refl
+
+-- it is a part of the branch
+pub narrow_part : (I : Network) (B : Branch) (reached out : List ℕ) → IsBranch I B → AreThose (is_left_out I B reached) I.n out
+    → IsPartOf B (record { inside = B.inside; outside = out })
+narrow_part I B reached out branch are = record { inside = λ v h. h; outside = outside }
+  where
+    outside : (v : ℕ) → IsTrue (has B.outside v) → IsTrue (has out v)
+    outside v h =
+        let vertex = IsVertexSet-member I.n B.outside v branch.outside h in
+        are.same v vertex ∙ or_left (has B.outside v) (not (is_certain I B v || has reached v)) h

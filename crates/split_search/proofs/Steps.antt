@@ -16,10 +16,11 @@ use Rattle.log_format.specs.Text.{IsWritableLine, IsWritablePacking}
 use Rattle.branching.specs.declared.node.Node.{Node}
 use Rattle.branching.specs.Node.{inside_half, outside_half}
 use Rattle.split_search.specs.declared.step.Priced.{Priced}
-use Rattle.split_search.specs.Node.{IsWritableNode}
+use Rattle.split_search.specs.Node.{IsNodeOf, IsPartOf}
 use Rattle.split_search.specs.Step.{IsBetter, SplitsAt, least_after, best_after}
 use Rattle.split_search.specs.Progress.{Continues, IsUnderWay, IsClosing, lowest}
 use Rattle.split_search.proofs.Splits.{writable_halves}
+use Rattle.split_search.proofs.Parts.{belongs_to_whole, inside_part, outside_part}
 use Rattle.split_search.proofs.Turns.{split_turns, close_turns}
 use Rattle.split_search.proofs.Continuing.{light_of, continues_closed, continues_split}
 use Rattle.split_search.proofs.Writing.{any_vertex}
@@ -59,12 +60,13 @@ few_light w top = by_case (ltb w top)
     by_case false = omega arith
 
 -- with a better tree, if there is one, as the best
-pub adopt_keeps : (I : Network) (lines : List ProofLine) (waiting : List Node) (best : Tree) (least : ℕ) (better : Option Priced) → IfSome better (IsBetter I least)
-    → IsUnderWay I lines waiting best least → IsUnderWay I lines waiting (best_after best better) (least_after least better)
-adopt_keeps I lines waiting best least None h u = u
-adopt_keeps I lines waiting best least (Some p) h u = record {
+pub adopt_keeps : (I : Network) (R B : Branch) (lines : List ProofLine) (waiting : List Node) (best : Tree) (least : ℕ) (better : Option Priced) → IsPartOf R B → IfSome better (IsBetter I B least)
+    → IsUnderWay I R lines waiting best least → IsUnderWay I R lines waiting (best_after best better) (least_after least better)
+adopt_keeps I R B lines waiting best least None part h u = u
+adopt_keeps I R B lines waiting best least (Some p) part h u = record {
   instance = u.instance;
   tree = h.is_tree;
+  belongs = belongs_to_whole R B p.tree part h.belongs;
   is_cost = h.is_price;
   cheap = λ nobody. omega (arith, u.cheap nobody, h.cheaper);
   nodes = u.nodes;
@@ -75,57 +77,61 @@ adopt_keeps I lines waiting best least (Some p) h u = record {
 }
 
 -- the same state again
-pub same_state : (I : Network) (lines new_lines : List ProofLine) (waiting new_waiting : List Node) (best new_best : Tree) (least new_least : ℕ) → new_lines ≡ lines
+pub same_state : (I : Network) (R S : Branch) (lines new_lines : List ProofLine) (waiting new_waiting : List Node) (best new_best : Tree) (least new_least : ℕ) → S ≡ R → new_lines ≡ lines
     → new_waiting ≡ waiting → new_best ≡ best → new_least ≡ least
-    → IsUnderWay I lines waiting best least → IsUnderWay I new_lines new_waiting new_best new_least
-same_state I lines new_lines waiting new_waiting best new_best least new_least a b d e u = rw (a, b, d, e) u
+    → IsUnderWay I R lines waiting best least → IsUnderWay I S new_lines new_waiting new_best new_least
+same_state I R S lines new_lines waiting new_waiting best new_best least new_least r a b d e u = rw (r, a, b, d, e) u
 
-pub close_keeps : (I : Network) (lines : List ProofLine) (Ns : List Node) (N : Node) (best : Tree) (least : ℕ) (P : Packing) → Closes I N.branch least P × IsWritablePacking P
-    → IsUnderWay I lines (Ns ++ N ∷ []) best least → IsUnderWay I (lines ++ Close P ∷ []) Ns best least
-close_keeps I lines Ns N best least P (closes, writable) u = record {
+pub close_keeps : (I : Network) (R : Branch) (lines : List ProofLine) (Ns : List Node) (N : Node) (best : Tree) (least : ℕ) (P : Packing) → Closes I N.branch least P × IsWritablePacking P
+    → IsUnderWay I R lines (Ns ++ N ∷ []) best least → IsUnderWay I R (lines ++ Close P ∷ []) Ns best least
+close_keeps I R lines Ns N best least P (closes, writable) u = record {
   instance = u.instance;
   tree = u.tree;
+  belongs = u.belongs;
   is_cost = u.is_cost;
   cheap = u.cheap;
-  nodes = (All-pop (IsWritableNode I) (Ns ++ N ∷ []) Ns (Some N) refl u.nodes).0;
+  nodes = (All-pop (IsNodeOf I R) (Ns ++ N ∷ []) Ns (Some N) refl u.nodes).0;
   continues = λ primal below.
       let heavy : primal ≤ weight I N.branch P = omega (arith, below, closes.weighs) in
-      let closed = continues_closed I primal primal [] lines Ns N P primal closes.fits (omega arith) heavy (u.continues primal below) in
-      subst (λ (light : List ℕ). Continues I primal primal light (lines ++ Close P ∷ []) Ns) (not_light (weight I N.branch P) primal heavy) closed;
+      let closed = continues_closed I R primal primal [] lines Ns N P primal closes.fits (omega arith) heavy (u.continues primal below) in
+      subst (λ (light : List ℕ). Continues I R primal primal light (lines ++ Close P ∷ []) Ns) (not_light (weight I N.branch P) primal heavy) closed;
   few_waiting = omega (arith, u.few_waiting, length-append Ns (N ∷ []), length-append lines (Close P ∷ []));
   turns_left = omega (arith, u.turns_left, close_turns I Ns N, length-append lines (Close P ∷ []));
   written = All-push IsWritableLine lines (Close P) u.written writable;
 }
 
-pub split_keeps : (I : Network) (lines : List ProofLine) (Ns : List Node) (N M : Node) (best : Tree) (least v id id' : ℕ) → SplitsAt I N least M v
-    → IsUnderWay I lines (Ns ++ N ∷ []) best least → IsUnderWay I (lines ++ Split v ∷ []) (Ns ++ outside_half M v id' ∷ inside_half M v id ∷ []) best least
-split_keeps I lines Ns N M best least v id id' h u =
+pub split_keeps : (I : Network) (R : Branch) (lines : List ProofLine) (Ns : List Node) (N M : Node) (best : Tree) (least v id id' : ℕ) → SplitsAt I N least M v
+    → IsUnderWay I R lines (Ns ++ N ∷ []) best least → IsUnderWay I R (lines ++ Split v ∷ []) (Ns ++ outside_half M v id' ∷ inside_half M v id ∷ []) best least
+split_keeps I R lines Ns N M best least v id id' h u =
     let inside = inside_half M v id in
     let outside = outside_half M v id' in
     let inner : inside.branch ≡ with_inside N.branch v = ap (λ B. with_inside B v) h.same in
     let outer : outside.branch ≡ with_outside N.branch v = ap (λ B. with_outside B v) h.same in
     let halves = writable_halves I M v id id' h.node (subst (λ (B : Branch). IsSplit I B v) (sym h.same) h.split) in
-    let old = All-pop (IsWritableNode I) (Ns ++ N ∷ []) Ns (Some N) refl u.nodes in
-    let new = All-cons (IsWritableNode I) outside (inside ∷ []) halves.1 (All-cons (IsWritableNode I) inside [] halves.0 (All-nil (IsWritableNode I))) in
+    let old = All-pop (IsNodeOf I R) (Ns ++ N ∷ []) Ns (Some N) refl u.nodes in
+    let first : IsNodeOf I R inside = record { node = halves.0; part = subst (IsPartOf R) (sym inner) (inside_part R N.branch v old.1.part) } in
+    let second : IsNodeOf I R outside = record { node = halves.1; part = subst (IsPartOf R) (sym outer) (outside_part R N.branch v old.1.part) } in
+    let new = All-cons (IsNodeOf I R) outside (inside ∷ []) second (All-cons (IsNodeOf I R) inside [] first (All-nil (IsNodeOf I R))) in
     record {
       instance = u.instance;
       tree = u.tree;
+      belongs = u.belongs;
       is_cost = u.is_cost;
       cheap = u.cheap;
-      nodes = All-append (IsWritableNode I) Ns (outside ∷ inside ∷ []) old.0 new;
-      continues = λ primal below. continues_split I primal primal [] lines Ns N inside outside v inner outer h.split (u.continues primal below);
+      nodes = All-append (IsNodeOf I R) Ns (outside ∷ inside ∷ []) old.0 new;
+      continues = λ primal below. continues_split I R primal primal [] lines Ns N inside outside v inner outer h.split (u.continues primal below);
       few_waiting = omega (arith, u.few_waiting, length-append Ns (N ∷ []), length-append Ns (outside ∷ inside ∷ []), length-append lines (Split v ∷ []));
       turns_left = omega (arith, u.turns_left, split_turns I Ns N inside outside v inner outer h.split, length-append lines (Split v ∷ []));
       written = All-push IsWritableLine lines (Split v) u.written (any_vertex I v u.instance h.split.vertex);
     }
 
 -- a node that is left closes by its own packing
-pub left_closes : (I : Network) (least : ℕ) (first : List ProofLine) (left : List Node) (lines : List ProofLine) (Ns : List Node) (N : Node) (dual : ℕ)
-    → IsClosing I least first left lines (Ns ++ N ∷ []) dual
-    → IsClosing I least first left (lines ++ Close N.packing ∷ []) Ns (min dual (weight I N.branch N.packing))
-left_closes I least first left lines Ns N dual k =
-    let nodes = All-pop (IsWritableNode I) (Ns ++ N ∷ []) Ns (Some N) refl k.nodes in
-    let node = nodes.1 in
+pub left_closes : (I : Network) (R : Branch) (least : ℕ) (first : List ProofLine) (left : List Node) (lines : List ProofLine) (Ns : List Node) (N : Node) (dual : ℕ)
+    → IsClosing I R least first left lines (Ns ++ N ∷ []) dual
+    → IsClosing I R least first left (lines ++ Close N.packing ∷ []) Ns (min dual (weight I N.branch N.packing))
+left_closes I R least first left lines Ns N dual k =
+    let nodes = All-pop (IsNodeOf I R) (Ns ++ N ∷ []) Ns (Some N) refl k.nodes in
+    let node = nodes.1.node in
     let weighs = weight I N.branch N.packing in
     let lower : min dual weighs ≤ dual = omega arith in
     let lighter : min dual weighs ≤ weighs = omega arith in
@@ -137,13 +143,13 @@ left_closes I least first left lines Ns N dual k =
       few = omega (arith, k.few, few_light weighs least, length-append k.light (light_of weighs least));
       low = ap (λ d. min d weighs) k.low ∙ lowest_with least weighs k.light;
       nodes = nodes.0;
-      continues = continues_closed I dual least k.light lines Ns N N.packing (min dual weighs) node.node.fits lower lighter k.continues;
+      continues = continues_closed I R dual least k.light lines Ns N N.packing (min dual weighs) node.node.fits lower lighter k.continues;
       written = All-push IsWritableLine lines (Close N.packing) k.written node.writable;
     }
 
 -- where nothing is closed yet
-pub none_closed : (I : Network) (lines : List ProofLine) (waiting : List Node) (best : Tree) (least : ℕ) → IsUnderWay I lines waiting best least → IsClosing I least lines waiting lines waiting least
-none_closed I lines waiting best least u = record {
+pub none_closed : (I : Network) (R : Branch) (lines : List ProofLine) (waiting : List Node) (best : Tree) (least : ℕ) → IsUnderWay I R lines waiting best least → IsClosing I R least lines waiting lines waiting least
+none_closed I R lines waiting best least u = record {
   closed = 0;
   count = omega arith;
   more = omega arith;

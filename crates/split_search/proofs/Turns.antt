@@ -7,13 +7,12 @@ use Rattle.std.proofs.Math.Nat.{pow-suc}
 use Rattle.st_model.specs.declared.branch.Branch.{Branch}
 use Rattle.st_model.specs.Lists.{has}
 use Rattle.st_model.specs.Network.{Network, IsVertex, is_required}
-use Rattle.st_model.specs.Branch.{is_free, with_inside, with_outside, all_trees}
+use Rattle.st_model.specs.Branch.{is_free, with_inside, with_outside}
 use Rattle.st_model.proofs.Sums.{total-append, sum_to_same, sum_to-add, sum_to_one}
 use Rattle.st_model.proofs.Halves.{has-with_vertex}
 use Rattle.cut_packing.specs.ProofTree.{IsSplit}
 use Rattle.branching.specs.declared.node.Node.{Node}
 use Rattle.split_search.specs.Node.{free_count, turns, turns_of}
-use Rattle.split_search.specs.Searched.{free_vertices}
 use Rattle.split_search.proofs.Splits.{split_is_free}
 
 -- one free vertex less
@@ -79,14 +78,6 @@ pub close_turns : (I : Network) (Ns : List Node) (N : Node) → turns I Ns + 1 �
 close_turns I Ns N =
     let f : Node → ℕ = λ M. turns_of (free_count I M.branch) in
     omega (arith, total-append f Ns (N ∷ []), turns_of_some (free_count I N.branch))
-
--- in the branch of all trees each vertex is free that isn't required
-pub free_at_first : (I : Network) → free_count I all_trees ≡ free_vertices I
-free_at_first I = sum_to_same _ _ I.n (λ v low high. by_case (is_required I v))
-  where
-    by_case : (r : Bool) → ◌≡◌ {A = ℕ} (cond (not r) 1 0) (cond r 0 1)
-    by_case true = refl
-    by_case false = refl
 
 -- the turns are one less than a power of two
 pub turns_below : (k : ℕ) → turns_of k < 2 ^ (k + 1)

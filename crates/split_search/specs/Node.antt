@@ -1,7 +1,7 @@
--- Nodes that a log can hold, and how often they can be split.
-use Rattle.std.specs.Prelude.{ℕ, zero, suc, ◌+◌, if◌then◌else◌, List, [], None}
+-- Nodes that a log can hold, those of a branch, and how often they can be split.
+use Rattle.std.specs.Prelude.{ℕ, zero, suc, ◌+◌, IsTrue, if◌then◌else◌, List, [], None}
 use Rattle.st_model.specs.declared.branch.Branch.{Branch}
-use Rattle.st_model.specs.Lists.{total, sum_to}
+use Rattle.st_model.specs.Lists.{has, total, sum_to}
 use Rattle.st_model.specs.Network.{Network}
 use Rattle.st_model.specs.Branch.{is_free}
 use Rattle.cut_packing.specs.declared.packing.Packing.{Packing}
@@ -13,6 +13,16 @@ use Rattle.branching.specs.Node.{IsNode}
 pub record IsWritableNode (I : Network) (N : Node) : Type 0 where
   pub node : IsNode I N
   pub writable : IsWritablePacking N.packing
+
+-- a branch in which everyone is inside who is so in R, and everyone outside: each of its trees belongs to R
+pub record IsPartOf (R B : Branch) : Type 0 where
+  pub inside : (v : ℕ) → IsTrue (has R.inside v) → IsTrue (has B.inside v)
+  pub outside : (v : ℕ) → IsTrue (has R.outside v) → IsTrue (has B.outside v)
+
+-- a node of the search of R
+pub record IsNodeOf (I : Network) (R : Branch) (N : Node) : Type 0 where
+  pub node : IsWritableNode I N
+  pub part : IsPartOf R N.branch
 
 -- a packing without cuts
 abbrev pub no_cuts : Packing

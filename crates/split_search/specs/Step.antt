@@ -1,9 +1,10 @@
 -- What the work on a node may answer.
 use Rattle.std.specs.Prelude.{◌≡◌, ℕ, ◌<◌, ◌≤◌, ◌⊎◌, Option, Some, None, IfSome}
+use Rattle.st_model.specs.declared.branch.Branch.{Branch}
 use Rattle.st_model.specs.declared.tree.Tree.{Tree}
 use Rattle.st_model.specs.Network.{Network}
 use Rattle.st_model.specs.Arborescence.{IsTree, cost}
-use Rattle.st_model.specs.Branch.{NoneIsCertain}
+use Rattle.st_model.specs.Branch.{Belongs, NoneIsCertain}
 use Rattle.cut_packing.specs.Packing.{weight}
 use Rattle.cut_packing.specs.Full.{IsFull}
 use Rattle.cut_packing.specs.ProofTree.{Closes, IsSplit}
@@ -16,9 +17,10 @@ use Rattle.split_search.specs.declared.step.End.TheVariants.{Close, Split}
 use Rattle.split_search.specs.declared.step.Step.{Step}
 use Rattle.split_search.specs.Node.{IsWritableNode}
 
--- a tree that costs this, which is less than the least cost known
-pub record IsBetter (I : Network) (least : ℕ) (p : Priced) : Type 0 where
+-- a tree of the branch that costs this, which is less than the least cost known
+pub record IsBetter (I : Network) (B : Branch) (least : ℕ) (p : Priced) : Type 0 where
   pub is_tree : IsTree I p.tree
+  pub belongs : Belongs B p.tree
   pub is_price : p.price ≡ cost I p.tree
   pub cheaper : p.price < least
 
@@ -48,5 +50,5 @@ IsEnd I N least (Split M v) = SplitsAt I N least M v
 
 -- a better tree, if one was found, and how the node ends with the least cost known then
 pub record IsStep (I : Network) (N : Node) (least : ℕ) (step : Step) : Type 0 where
-  pub tree : IfSome step.better (IsBetter I least)
+  pub tree : IfSome step.better (IsBetter I N.branch least)
   pub ends : IsEnd I N (least_after least step.better) step.end

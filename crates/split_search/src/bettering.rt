@@ -1,9 +1,11 @@
 ghost use Rattle.std.specs.Prelude.{◌≡◌, ℕ, ◌+◌, ◌<◌, ◌≤◌, All, IfOk, IfSome, IfNone, length};
+ghost use Rattle.st_model.specs.declared.branch.Branch.{Branch as Part};
 ghost use Rattle.st_model.specs.Arborescence.{IsTree, cost};
-ghost use Rattle.st_model.specs.Branch.{AreThose, IsBranch};
+ghost use Rattle.st_model.specs.Branch.{AreThose, Belongs, IsBranch};
 ghost use Rattle.st_model.specs.Led.{heads_at};
 ghost use Rattle.st_model.specs.Network.{IsVertex};
 ghost use Rattle.split_search.specs.Deciding.{is_left_out};
+ghost use Rattle.split_search.specs.Node.{IsPartOf};
 ghost use Rattle.split_search.specs.Step.{IsBetter};
 
 use crate::step::Priced;
@@ -12,7 +14,7 @@ use st_model::{Branch, Instance, Listed, Sides, Tree, VertexLists, VertexSet, tr
 use std::alloc::{AllocError, Global};
 use tree_heuristic::{first_tree, prune};
 
-/// A tree that costs less than the least cost known, if one is found: a first tree, pruned, over
+/// A tree of the branch that costs less than the least cost known, if one is found: a first tree, pruned, over
 /// the vertices to which arcs with nothing left lead from a root, and those that have to be
 /// reached. `heads` lists the heads of those arcs at their tails.
 pub fn better_tree(
@@ -26,7 +28,7 @@ pub fn better_tree(
     requires branch { IsBranch whole.now.instance branch.now }
     requires heads { (u : ℕ) → All (λ v. v < length heads.now) (heads_at heads.now u) }
     requires root { root < length heads.now }
-    ensures { IfOk result (λ better. IfSome better (IsBetter whole.now.instance least)) }
+    ensures { IfOk result (λ better. IfSome better (IsBetter whole.now.instance branch.now least)) }
 {
     let reached = walk(alloc, heads, root)?;
     let narrow = narrowed(alloc, &whole.instance, branch, &reached)?;
@@ -41,7 +43,7 @@ pub fn better_tree(
 /// A tree and its price, if that is less than the least cost known.
 pub fn priced(instance: &Instance, tree: Tree, least: u64) -> Option<Priced>
     requires { IsTree instance.now tree }
-    ensures better { IfSome result (IsBetter instance.now least) }
+    ensures better { (B : Part) → Belongs B tree → IfSome result (IsBetter instance.now B least) }
     ensures price { IfSome result (λ p. p.price ≡ cost instance.now tree) }
     ensures none { IfNone result (least ≤ cost instance.now tree) }
 {
@@ -62,7 +64,8 @@ fn narrowed(
     reached: &VertexSet,
 ) -> Result<Branch, AllocError>
     requires { IsBranch instance.now branch.now }
-    ensures { IfOk result (IsBranch instance.now) }
+    ensures branch { IfOk result (IsBranch instance.now) }
+    ensures part { IfOk result (IsPartOf branch.now) }
 {
     let outside = left_out(alloc, instance, branch, reached)?;
     let before = branch.branch();

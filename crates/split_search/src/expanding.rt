@@ -1,4 +1,5 @@
 ghost use Rattle.std.specs.Prelude.{◌≡◌, ◌<◌, ◌≤◌, IfOk, IfSome};
+ghost use Rattle.st_model.specs.Branch.{NoneIsCertain};
 ghost use Rattle.st_model.specs.Lists.{sum_to};
 ghost use Rattle.st_model.specs.Network.{IsInstance, pays};
 ghost use Rattle.cut_packing.specs.Full.{IsFull};
@@ -6,7 +7,6 @@ ghost use Rattle.cut_packing.specs.Packing.{weight};
 ghost use Rattle.cut_packing.specs.ProofTree.{IsSplit};
 ghost use Rattle.branching.specs.Choice.{IsChoice, IsDecided};
 ghost use Rattle.split_search.specs.Node.{IsWritableNode};
-ghost use Rattle.split_search.specs.Searched.{IsNobodyRequired};
 ghost use Rattle.split_search.specs.Step.{IsBetter, IsStep, least_after};
 
 use crate::bettering::{better_tree, priced};
@@ -30,7 +30,7 @@ use std::alloc::{AllocError, Global};
 pub fn expand(alloc: Global, whole: &Whole, node: Node, least: u64) -> Result<Step, AllocError>
     requires instance { IsInstance whole.now.instance }
     requires node { IsWritableNode whole.now.instance node }
-    requires cheap { IsNobodyRequired whole.now.instance
+    requires cheap { NoneIsCertain whole.now.instance node.branch
         → least ≤ sum_to (pays whole.now.instance) whole.now.instance.n }
     ensures { IfOk result (IsStep whole.now.instance node least) }
 {
@@ -48,7 +48,7 @@ pub fn expand(alloc: Global, whole: &Whole, node: Node, least: u64) -> Result<St
 fn close(alloc: Global, instance: &Instance, node: Node, least: u64) -> Result<Step, AllocError>
     requires instance { IsInstance instance.now }
     requires node { IsWritableNode instance.now node }
-    requires cheap { IsNobodyRequired instance.now
+    requires cheap { NoneIsCertain instance.now node.branch
         → least ≤ sum_to (pays instance.now) instance.now.n }
     requires decided { IsDecided instance.now node.branch }
     requires light { weight instance.now node.branch node.packing < least }
@@ -140,7 +140,7 @@ fn ended(instance: &Instance, node: Node, vertex: u32, better: Option<Priced>, l
     requires node { IsWritableNode instance.now node }
     requires full { IsFull instance.now node.branch node.packing }
     requires vertex { IsSplit instance.now node.branch vertex }
-    requires better { IfSome better (IsBetter instance.now least) }
+    requires better { IfSome better (IsBetter instance.now node.branch least) }
     ensures { IsStep instance.now node least result }
 {
     let known = least_after(least, &better);

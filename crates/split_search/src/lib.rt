@@ -1,6 +1,6 @@
 //! The search for a least tree by splits, within a budget of nodes, and the proof of its bound.
 //!
-//! `search` takes nodes from a stack, depth first. What `expand` finds closes a node or splits it
+//! `search` takes nodes of a branch from a stack, depth first. What `expand` finds closes a node or splits it
 //! into the half with a vertex inside and the half with it outside; each line of the proof tree is
 //! one node's. Callers may rely on the record *is searched*: a tree, a bound that the lines prove,
 //! and that both are equal unless the whole budget was spent.

@@ -1,5 +1,4 @@
 ghost use Rattle.std.specs.Prelude.{◌≡◌};
-ghost use Rattle.st_model.specs.Branch.{all_trees};
 ghost use Rattle.split_search.specs.Node.{no_cuts};
 
 use branching::Node;
@@ -7,14 +6,14 @@ use cut_packing::Packing;
 use st_model::{Branch, Listed};
 use std::alloc::Global;
 
-// The branch of all trees, with no cut, under the number 0.
-pub fn root(alloc: Global) -> Node
-    ensures branch { result.branch ≡ all_trees }
+// The node of a branch, with no cut, under the number 0.
+pub fn root_of(alloc: Global, branch: Branch) -> Node
+    ensures branch { result.branch ≡ branch }
     ensures packing { result.packing ≡ no_cuts }
 {
     Node {
         id: 0,
-        branch: Branch::all(alloc),
+        branch,
         packing: no_cuts(alloc),
     }
 }

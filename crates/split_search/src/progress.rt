@@ -2,28 +2,29 @@ ghost use Rattle.std.specs.Prelude.{◌≡◌, ◌⊎◌, ◌+◌, ◌-◌, ◌^
 ghost use Rattle.st_model.specs.Lists.{sum_to};
 ghost use Rattle.st_model.specs.Network.{pays};
 ghost use Rattle.st_model.specs.Arborescence.{IsTree, cost};
-ghost use Rattle.log_format.specs.Accepts.{AcceptsFound};
+ghost use Rattle.st_model.specs.Branch.{Belongs, IsBranch, LeavesRequired, NoneIsCertain};
 ghost use Rattle.log_format.specs.Text.{IsWritableFound};
 ghost use Rattle.branching.specs.Node.{inside_half, outside_half};
 ghost use Rattle.split_search.specs.Progress.{GoesOn, IsUnderWay, IsClosing};
-ghost use Rattle.split_search.specs.Searched.{IsGreatestBound, IsNobodyRequired, IsSpent};
+ghost use Rattle.split_search.specs.Searched.{IsFoundIn, IsGreatestOf, IsSpent};
 ghost use Rattle.split_search.specs.Step.{best_after, least_after};
 
 use crate::expanding::expand;
-use crate::node::root;
+use crate::node::root_of;
 use crate::step::{End, Priced, Step};
 use crate::{Gate, Searched};
 use branching::{Node, halves};
 use cut_packing::{Packing, weight};
 use graph_store::Whole;
 use log_format::{Proof, ProofLine};
-use st_model::{Instance, MAX_VERTICES, Tree, tree_cost};
+use st_model::{Branch, Instance, MAX_VERTICES, Tree, tree_cost};
 use std::alloc::{AllocError, Global};
 
-/// A search between two nodes: the lines of the proof so far, the nodes that wait, the next one
-/// last, how many nodes were made, the best tree so far and what it costs.
+/// A search between two nodes: the branch that is searched, the lines of the proof so far, the nodes
+/// that wait, the next one last, how many nodes were made, the best tree so far and what it costs.
 #[derive(Drop)]
 pub struct Progress {
+    root: Branch,
     lines: Vec<ProofLine>,
     waiting: Vec<Node>,
     made: u64,
@@ -32,21 +33,32 @@ pub struct Progress {
 }
 
 impl Progress {
-    /// The start, where the branch of all trees waits.
-    pub fn begin(alloc: Global, instance: &Instance, start: Tree) -> Result<Progress, AllocError>
+    /// The start, where the whole branch waits.
+    pub fn begin(
+        alloc: Global,
+        instance: &Instance,
+        root: Branch,
+        start: Tree,
+    ) -> Result<Progress, AllocError>
+        requires branch { IsBranch instance.now root }
+        requires leaves { LeavesRequired instance.now root }
         requires tree { IsTree instance.now start }
-        requires cheap { IsNobodyRequired instance.now
+        requires belongs { Belongs root start }
+        requires cheap { NoneIsCertain instance.now root
             → cost instance.now start ≤ sum_to (pays instance.now) instance.now.n }
         ensures under_way { IfOk result (GoesOn instance.now) }
         ensures lines { IfOk result (λ p. p.lines.items ≡ []) }
         ensures best { IfOk result (λ p. p.best ≡ start) }
+        ensures root { IfOk result (λ p. p.root ≡ root) }
     {
         // So that each vertex can be written.
         prove!(instance.vertices() <= MAX_VERTICES);
         let least = tree_cost(instance, &start);
+        let first = root_of(alloc, root.copied(alloc)?);
         Ok(Progress {
+            root,
             lines: Vec::new(alloc),
-            waiting: vec![in alloc; root(alloc)]?,
+            waiting: vec![in alloc; first]?,
             made: 1,
             best: start,
             least,
@@ -64,6 +76,7 @@ impl Progress {
         requires under_way { GoesOn whole.now.instance self.old }
         requires lines { self.old.lines.items ≡ [] }
         ensures under_way { OnOk result (GoesOn whole.now.instance self.new) }
+        ensures root { self.new.root ≡ self.old.root }
         ensures no_worse { OnOk result (self.new.least ≤ self.old.least) }
         ensures within { OnOk result (length self.new.lines.items ≤ budget) }
         ensures spent { OnOk result ((self.new.waiting.items ≡ []) ⊎ (length self.new.lines.items ≡ budget)) }
@@ -80,9 +93,10 @@ impl Progress {
 
     // Works on one node.
     fn take(&mut self, alloc: Global, whole: &Whole, node: Node) -> Result<(), AllocError>
-        requires under_way { IsUnderWay whole.now.instance self.old.lines.items
+        requires under_way { IsUnderWay whole.now.instance self.old.root self.old.lines.items
             (self.old.waiting.items ++ node ∷ []) self.old.best self.old.least }
         ensures under_way { OnOk result (GoesOn whole.now.instance self.new) }
+        ensures root { self.new.root ≡ self.old.root }
         ensures no_worse { OnOk result (self.new.least ≤ self.old.least) }
         ensures line { OnOk result (length self.new.lines.items ≡ length self.old.lines.items + 1) }
     {
@@ -96,6 +110,7 @@ impl Progress {
 
     // Takes a better tree as the best, if there is one.
     fn adopt(&mut self, better: Option<Priced>)
+        ensures root { self.new.root ≡ self.old.root }
         ensures lines { self.new.lines ≡ self.old.lines }
         ensures waiting { self.new.waiting ≡ self.old.waiting }
         ensures best { self.new.best ≡ best_after self.old.best better }
@@ -109,6 +124,7 @@ impl Progress {
 
     // Writes a close.
     fn close(&mut self, packing: Packing) -> Result<(), AllocError>
+        ensures root { self.new.root ≡ self.old.root }
         ensures lines { OnOk result (self.new.lines.items ≡ self.old.lines.items ++ ProofLine.Close packing ∷ []) }
         ensures waiting { self.new.waiting ≡ self.old.waiting }
         ensures best { self.new.best ≡ self.old.best }
@@ -121,6 +137,7 @@ impl Progress {
     // Writes a split, and has the halves wait under the next two numbers, the one with the vertex
     // inside as the next.
     fn split(&mut self, alloc: Global, node: Node, vertex: u32) -> Result<(), AllocError>
+        ensures root { self.new.root ≡ self.old.root }
         ensures lines { OnOk result (self.new.lines.items ≡ self.old.lines.items ++ ProofLine.Split vertex ∷ []) }
         ensures waiting { OnOk result (self.new.waiting.items ≡ self.old.waiting.items
             ++ outside_half node vertex (min (self.old.made + 1) (2 ^ 64 - 1))
@@ -142,11 +159,11 @@ impl Progress {
     /// Closes what is left by the packings that it has.
     pub fn finish(mut self, instance: &Instance) -> Result<Searched, AllocError>
         requires { GoesOn instance.now self }
-        ensures accepted { IfOk result (λ s. AcceptsFound instance.now s.primal s.dual s.tree [] s.proof) }
+        ensures found { IfOk result (IsFoundIn instance.now self.root) }
         ensures primal { IfOk result (λ s. s.primal ≡ self.least) }
-        ensures greatest { IfOk result (λ s. IsGreatestBound instance.now s.primal s.dual s.proof) }
+        ensures greatest { IfOk result (λ s. IsGreatestOf instance.now self.root s.primal s.dual s.proof) }
         ensures whole { self.waiting.items ≡ [] → IfOk result (λ s. s.dual ≡ s.primal) }
-        ensures spent { IfOk result (λ s. IsSpent (length self.lines.items) instance.now s.primal s.proof) }
+        ensures spent { IfOk result (λ s. IsSpent (length self.lines.items) instance.now self.root s.primal s.proof) }
         ensures lines { IfOk result (λ s. length s.proof ≡ length self.lines.items + length self.waiting.items) }
         ensures writable { IfOk result (λ s. IsWritableFound s.primal s.dual s.tree [] s.proof) }
     {
@@ -165,7 +182,7 @@ impl Progress {
     // Closes the nodes that wait; the lesser of the least cost known and their weights.
     fn close_left(&mut self, instance: &Instance) -> Result<u64, AllocError>
         requires { GoesOn instance.now self.old }
-        ensures closed { IfOk result (IsClosing instance.now self.old.least
+        ensures closed { IfOk result (IsClosing instance.now self.old.root self.old.least
             self.old.lines.items self.old.waiting.items self.new.lines.items []) }
         ensures best { self.new.best ≡ self.old.best }
         ensures least { self.new.least ≡ self.old.least }

@@ -1,7 +1,7 @@
 use crate::{Gate, OpenGate};
 use graph_store::Whole;
 use st_model::{Instance, Need};
-use starting::bounds;
+use starting::{bounds, bounds_without};
 use std::test::Fail;
 use test_instances::{link, triangle_with_centre};
 
@@ -16,6 +16,18 @@ fn goes_through_the_centre(rt: HostRuntime) -> Result<(), Fail> {
     for (budget, dual, primal) in [(0, 0, 6), (1, 6, 6)] {
         let got = bounds(rt.alloc(), &whole, budget, &OpenGate)?;
         assert_eq!(rt; got, Some((dual, primal)), "with budget {budget}");
+    }
+    Ok(())
+}
+
+// Without the centre two of the sides are left.
+#[test]
+fn avoids_the_centre(rt: HostRuntime) -> Result<(), Fail> {
+    let instance = triangle_with_centre(rt.alloc(), 4)?;
+    let whole = Whole::of(rt.alloc(), instance)?;
+    for (budget, dual) in [(0, 0), (u64::MAX, 8)] {
+        let got = bounds_without(rt.alloc(), &whole, 4, budget)?;
+        assert_eq!(rt; got, Some((dual, 8)), "with budget {budget}");
     }
     Ok(())
 }

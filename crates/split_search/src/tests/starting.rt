@@ -2,12 +2,13 @@ ghost use Rattle.std.specs.Prelude.{◌≡◌, ◌≤◌, [], IfSome, IfNone, Is
 ghost use Rattle.st_model.specs.Arborescence.{cost};
 ghost use Rattle.st_model.specs.Lists.{sum_to};
 ghost use Rattle.st_model.specs.Network.{IsVertex, is_required, pays};
-ghost use Rattle.split_search.specs.Searched.{IsNobodyRequired};
+ghost use Rattle.st_model.specs.Branch.{NoneIsCertain, all_trees};
 
-use crate::{Gate, search};
+use crate::{Gate, OpenGate, search};
 use graph_store::Whole;
-use st_model::{Instance, Listed, Need, Tree, is_tree};
+use st_model::{Branch, Instance, Listed, Need, Sides, Tree, is_tree};
 use std::alloc::{AllocError, Global};
+use tree_heuristic::first_tree;
 
 // The dual and the primal of a search, from a tree over all links where somebody is required, and
 // else from vertex 1 alone. None where that isn't a tree.
@@ -33,13 +34,38 @@ fn bounds_from<G: Gate>(
     budget: u64,
     gate: &G,
 ) -> Result<Option<(u64, u64)>, AllocError>
-    requires { IsNobodyRequired whole.now.instance
+    requires { NoneIsCertain whole.now.instance all_trees
         → cost whole.now.instance start ≤ sum_to (pays whole.now.instance) whole.now.instance.n }
 {
     if !is_tree(alloc, &whole.instance, &start)? {
         return Ok(None);
     }
-    let found = search(alloc, whole, start, budget, gate)?;
+    let found = search(alloc, whole, Branch::all(alloc), start, budget, gate)?;
+    Ok(Some((found.dual, found.primal)))
+}
+
+// The dual and the primal of a search of the trees that avoid a vertex, from a first tree. None where
+// there is none, where the vertex is required, or where nobody is.
+pub fn bounds_without(
+    alloc: Global,
+    whole: &Whole,
+    vertex: u32,
+    budget: u64,
+) -> Result<Option<(u64, u64)>, AllocError>
+    requires { IsVertex whole.now.instance.n vertex }
+{
+    let Some(_required) = first_required(&whole.instance) else {
+        return Ok(None);
+    };
+    if whole.instance.need(vertex) == Need::Required {
+        return Ok(None);
+    }
+    let root = Branch::all(alloc).with_outside(alloc, vertex)?;
+    let sides = Sides::of(alloc, root)?;
+    let Some(start) = first_tree(alloc, &whole.store, &sides)? else {
+        return Ok(None);
+    };
+    let found = search(alloc, whole, sides.into_branch(), start, budget, &OpenGate)?;
     Ok(Some((found.dual, found.primal)))
 }
 
@@ -47,7 +73,7 @@ fn bounds_from<G: Gate>(
 fn first_required(instance: &Instance) -> Option<u32>
     ensures vertex { IfSome result (IsVertex instance.now.n) }
     ensures required { IfSome result (λ v. IsTrue (is_required instance.now v)) }
-    ensures none { IfNone result (IsNobodyRequired instance.now) }
+    ensures none { IfNone result (NoneIsCertain instance.now all_trees) }
 {
     for before in 0..instance.vertices() {
         if instance.need(before + 1) == Need::Required {

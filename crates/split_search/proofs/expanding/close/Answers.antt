@@ -1,4 +1,4 @@
-use Rattle.split_search.proofs.Closed.{some_present, spanned_step}
+use Rattle.split_search.proofs.Closed.{some_present, spanned_step, spanning_belongs}
 use Rattle.split_search.proofs.Splits.{decided_certain}
 use Rattle.split_search.proofs.Writing.{writable_wall}
 use Rattle.split_search.proofs.expanding.close.Goals as goal
@@ -9,7 +9,7 @@ close_all-requires-clause-certain c v here = decided_certain c.args.instance.now
 pub close_all-requires-clause-some : goal.close_all-requires-clause-some
 close_all-requires-clause-some c =
     let r = c.requires in
-    rw c.in_ok-branch.ensures (some_present c.args.instance.now c.args.node.branch c.args.node.packing c.args.least r.node.node.required r.light r.cheap)
+    rw c.in_ok-branch.ensures (some_present c.args.instance.now c.args.node.branch c.args.node.packing c.args.least r.node.node.branch r.node.node.required r.light r.cheap)
 
 pub returns-in-Tree : goal.returns-in-Tree
 returns-in-Tree c =
@@ -17,8 +17,9 @@ returns-in-Tree c =
     let sets = rw c.in-Tree.is at c.in_ok-tree.ensures.sets in
     let few = rw c.in-Tree.is at c.in_ok-tree.ensures.few in
     let p = c.priced.ensures in
+    let belongs = spanning_belongs c.args.instance.now c.args.node.branch c.in-Tree.tree c.requires.node.node.branch closed.0 in
     spanned_step c.args.instance.now c.args.node c.in-Tree.tree c.in-Tree.level c.args.least c.priced.result
-    c.requires.instance closed.0.arborescence closed.1 closed.2 sets few p.better p.price p.none
+    c.requires.instance closed.0.arborescence closed.1 closed.2 sets few (p.better c.args.node.branch belongs) p.price p.none
 
 -- a wall
 pub returns : goal.returns

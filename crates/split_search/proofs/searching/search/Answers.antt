@@ -1,4 +1,4 @@
-use Rattle.std.proofs.Common.{◌≤◌, ap, arith}
+use Rattle.std.proofs.Common.{◌≡◌, ◌≤◌, ap, ◌∙◌, arith}
 use Rattle.st_model.specs.Arborescence.{cost}
 use Rattle.split_search.proofs.Ending.{searched}
 use Rattle.split_search.proofs.searching.search.Goals as goal
@@ -11,5 +11,6 @@ returns g c =
     let first = c.in_ok-progress.ensures in
     let r = c.in_ok-run.ensures in
     let no_worse : p.least ≤ cost I c.args.start = omega (arith, r.no_worse, first.under_way.is_cost, ap (cost I) first.best) in
-    searched I c.args.start c.args.budget p.lines.items p.waiting.items p.best p.least c.finish.result r.under_way no_worse r.within r.spent
-    e.accepted e.primal e.greatest e.whole e.spent e.lines e.writable
+    let root : p.root ≡ c.args.root = c.run.ensures.root ∙ first.root in
+    rw (← root) (searched I p.root c.args.start c.args.budget p.lines.items p.waiting.items p.best p.least c.finish.result r.under_way no_worse r.within r.spent
+    e.found e.primal e.greatest e.whole e.spent e.lines e.writable)
