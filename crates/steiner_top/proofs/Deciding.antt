@@ -48,7 +48,7 @@ answered_found w bytes status tree primal dual log texts taken now sent law shor
     certificate = log;
     sent = sent;
     given = refl;
-    found = subst (λ J. IsFound w.nodes J tree primal dual log) (law.one_instance s.instance I s.reads reads) s.found;
+    found = subst (λ J. IsFound w.nodes w.plain J tree primal dual log) (law.one_instance s.instance I s.reads reads) s.found;
     text = s.text;
     took = took;
     ends = ends;

@@ -1,5 +1,7 @@
 mod Asking
 mod Reasons
+mod Remaining
+mod WritableSteps
 mod Certifying
 mod Deciding
 mod Starting

@@ -1,5 +1,5 @@
 -- How answers follow from what was found, and stops from loads that failed.
-use Rattle.std.proofs.Common.{◌≡◌, ◌≢◌, ◌⊎◌, inl, inr, ℕ, List, [], ◌∷◌, Result, Ok, Err, Option, Some, None, refl, subst, ap, ap₂, ◌∙◌}
+use Rattle.std.proofs.Common.{◌≡◌, ◌≢◌, ◌⊎◌, inl, inr, ℕ, Bool, List, [], ◌∷◌, Result, Ok, Err, Option, Some, None, refl, subst, ap, ap₂, ◌∙◌}
 use Rattle.std.specs.Prelude.{IfOk}
 use Rattle.st_edge.specs.Shelf.{SameTexts}
 use Rattle.st_model.specs.Network.{Network}
@@ -26,12 +26,12 @@ use Rattle.steiner_top.specs.Output.{line_of}
 use Rattle.steiner_top.specs.Causes.{Texts, IsAnswered, IsCutShort, IsStopped, IsUnanswered}
 
 -- bytes that are refused are answered so
-pub refused_answer : (nodes : ℕ) (bytes : List ℕ) (result : Result Outcome SolveFault) → RefusedExactly bytes → Solves nodes bytes result → (line : ℕ) (reason : Reason) → Refused bytes line reason → (result ≡ Err (Stp (record { line = line; reason = reason }))) ⊎ (result ≡ Err NoMemory)
-refused_answer nodes bytes (Ok outcome) law h line reason r = absurd (law.not_both h.0 line reason h.1 r)
-refused_answer nodes bytes (Err (Stp f)) law h line reason r =
+pub refused_answer : (nodes : ℕ) (plain : Bool) (bytes : List ℕ) (result : Result Outcome SolveFault) → RefusedExactly bytes → Solves nodes plain bytes result → (line : ℕ) (reason : Reason) → Refused bytes line reason → (result ≡ Err (Stp (record { line = line; reason = reason }))) ⊎ (result ≡ Err NoMemory)
+refused_answer nodes plain bytes (Ok outcome) law h line reason r = absurd (law.not_both h.0 line reason h.1 r)
+refused_answer nodes plain bytes (Err (Stp f)) law h line reason r =
     let one = law.one_fault f.line line f.reason reason h r in
     inl (ap₂ (λ l q. Err (Stp (record { line = l; reason = q }))) one.0 one.1)
-refused_answer nodes bytes (Err NoMemory) law h line reason r = inr refl
+refused_answer nodes plain bytes (Err NoMemory) law h line reason r = inr refl
 
 -- a text without which a run stops is one of two
 pub first_stops : (a b : List ℕ) (texts : Texts) (status : Status) → IsStopped (a ∷ []) texts status → IsStopped (a ∷ b ∷ []) texts status

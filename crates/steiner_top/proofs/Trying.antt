@@ -36,13 +36,13 @@ no_wall I wall connected h = by_case (has wall 1) refl
         absurd cc
 
 -- so solving it gives a tree
-has_tree : (nodes : ℕ) (I : Network) (outcome : Outcome) → IsConnected I → IsOutcome nodes I outcome → HasTree outcome
-has_tree nodes I (Found tree primal dual log) connected h = tt
-has_tree nodes I (NoTree log) connected h = no_wall I h.wall connected (subst (AcceptsClaim I) h.claims h.accepted)
+has_tree : (nodes : ℕ) (plain : Bool) (I : Network) (outcome : Outcome) → IsConnected I → IsOutcome nodes plain I outcome → HasTree outcome
+has_tree nodes plain I (Found tree primal dual log) connected h = tt
+has_tree nodes plain I (NoTree log) connected h = no_wall I h.wall connected (subst (AcceptsClaim I) h.claims h.accepted)
 
 -- a tree whose cost is a bound is a best one
-best_tree : (nodes : ℕ) (I : Network) (tree : Tree) (primal dual : ℕ) (log : Log) → IsFound nodes I tree primal dual log → dual ≡ primal → IsBest I tree
-best_tree nodes I tree primal dual log h same = record {
+best_tree : (nodes : ℕ) (plain : Bool) (I : Network) (tree : Tree) (primal dual : ℕ) (log : Log) → IsFound nodes plain I tree primal dual log → dual ≡ primal → IsBest I tree
+best_tree nodes plain I tree primal dual log h same = record {
   tree = h.is_tree;
   least = λ t is. let below = h.is_bound t is in let cost_is = h.is_cost in omega (arith, below, cost_is, same);
 }
@@ -52,7 +52,7 @@ best_cost : (I : Network) (t u : Tree) → IsBest I t → IsBest I u → cost I 
 best_cost I t u first second = let low = first.least u second.tree in let high = second.least t first.tree in omega (arith, low, high)
 
 tried_found : (w : TrialWords) (status : Status) (tree : Tree) (primal dual : ℕ) (log : Log) (text : List ℕ)
-    → IsFound 1000000 (tried_instance w) tree primal dual log → text ≡ summary primal dual → ((status ≡ Optimal) × (dual ≡ primal)) ⊎ ((status ≡ Budget) × (dual < primal))
+    → IsFound 1000000 false (tried_instance w) tree primal dual log → text ≡ summary primal dual → ((status ≡ Optimal) × (dual ≡ primal)) ⊎ ((status ≡ Budget) × (dual < primal))
     → IsTried w status (Some (Found tree primal dual log)) text
 tried_found w status tree primal dual log text h is ends = record {
   tree = tree;
@@ -63,7 +63,7 @@ tried_found w status tree primal dual log text h is ends = record {
   found = h;
   text = is;
   ends = ends;
-  best = λ optimal. best_tree 1000000 I tree primal dual log h (reached optimal);
+  best = λ optimal. best_tree 1000000 false I tree primal dual log h (reached optimal);
   only = λ optimal t best. is ∙ ap₂ summary (costs optimal t best) (reached optimal ∙ costs optimal t best);
 } where
   I : Network
@@ -76,10 +76,10 @@ tried_found w status tree primal dual log text h is ends = record {
   ]
 
   costs : status ≡ Optimal → (t : Tree) → IsBest I t → primal ≡ cost I t
-  costs optimal t best = h.is_cost ∙ best_cost I tree t (best_tree 1000000 I tree primal dual log h (reached optimal)) best
+  costs optimal t best = h.is_cost ∙ best_cost I tree t (best_tree 1000000 false I tree primal dual log h (reached optimal)) best
 
 -- what solving the instance gave is what is sent, as a summary
-pub tried : (w : TrialWords) (outcome : Outcome) (text : List ℕ) → IsOutcome 1000000 (tried_instance w) outcome → IsSummary outcome text → IsTried w (status_of_outcome outcome) (Some outcome) text
+pub tried : (w : TrialWords) (outcome : Outcome) (text : List ℕ) → IsOutcome 1000000 false (tried_instance w) outcome → IsSummary outcome text → IsTried w (status_of_outcome outcome) (Some outcome) text
 tried w (Found tree primal dual log) text h is = by_case (eqb dual primal) refl
   where
     by_case : (b : Bool) → eqb dual primal ≡ b → IsTried w (cond b Optimal Budget) (Some (Found tree primal dual log)) text
@@ -101,7 +101,7 @@ numbers_in_range w = record {
 }
 
 -- so solving what they say gives a tree
-pub drawn_has_tree : (w : Trial) (I : Network) (outcome : Outcome) → GeneratedAreConnected → I ≡ tried_instance (trial_words w) → IsOutcome 1000000 I outcome → HasTree outcome
+pub drawn_has_tree : (w : Trial) (I : Network) (outcome : Outcome) → GeneratedAreConnected → I ≡ tried_instance (trial_words w) → IsOutcome 1000000 false I outcome → HasTree outcome
 drawn_has_tree w I outcome law is h =
     let connected = law w.drawn.seed w.drawn.n w.drawn.m w.drawn.t false (numbers_in_range w.drawn) in
-    has_tree 1000000 I outcome (subst IsConnected (sym is) connected) h
+    has_tree 1000000 false I outcome (subst IsConnected (sym is) connected) h

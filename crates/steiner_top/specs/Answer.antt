@@ -33,7 +33,7 @@ IsOutcomeText w (NoTree log) sent = sent ≡ infeasible_line
 pub record IsSolution (w : SolveWords) (bytes : List ℕ) (tree : Tree) (primal dual : ℕ) (log : Log) (sent : List ℕ) : Type 0 where
   pub instance : Network
   pub reads : Reads bytes instance
-  pub found : IsFound w.nodes instance tree primal dual log
+  pub found : IsFound w.nodes w.plain instance tree primal dual log
   pub text : IsSolutionText w.file w.workers tree dual primal sent
 
 -- the file's instance has no tree

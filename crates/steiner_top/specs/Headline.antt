@@ -39,7 +39,7 @@ pub record IsSolved (w : SolveWords) (bytes : List ℕ) (I : Network) (status : 
   pub certificate : Log
   pub sent : List ℕ
   pub given : outcome ≡ Some (Found tree primal dual certificate)
-  pub found : IsFound w.nodes I tree primal dual certificate
+  pub found : IsFound w.nodes w.plain I tree primal dual certificate
   pub text : IsSolutionText w.file w.workers tree dual primal sent
   pub took : now ≡ append_known taken sent
   pub ends : ((status ≡ Optimal) × (dual ≡ primal)) ⊎ ((status ≡ Budget) × (dual < primal))

@@ -1,38 +1,62 @@
 -- What solving a file gives: a tree and a bound with their certificate, or a certificate that there is no tree.
-use Rattle.std.specs.Prelude.{◌≡◌, ℕ, ◌+◌, ◌^◌, ◌<◌, ◌≤◌, List, [], Result, Ok, Err}
+use Rattle.std.specs.Prelude.{◌≡◌, ℕ, ◌+◌, ◌^◌, ◌<◌, ◌≤◌, Bool, true, false, if◌then◌else◌, List, [], Result, Ok, Err}
 use Rattle.st_model.specs.declared.tree.Tree.{Tree}
-use Rattle.st_model.specs.Network.{Network}
+use Rattle.st_model.specs.Lists.{sum_to}
+use Rattle.st_model.specs.Network.{Network, is_required}
 use Rattle.st_model.specs.Arborescence.{IsTree, IsBound, cost}
 use Rattle.stp_reader.specs.declared.fault.ReadError.{ReadError}
 use Rattle.stp_reader.specs.declared.fault.ReadError.TheVariants.{Fault, NoMemory as NoMemoryToRead}
 use Rattle.stp_reader.specs.Reads.{Reads, Refused}
+use Rattle.lift_back.specs.declared.step.Step.{Step}
+use Rattle.lift_back.specs.State.{State, whole}
+use Rattle.lift_back.specs.Steps.{Applies}
 use Rattle.log_format.specs.declared.log.Log.{Log}
 use Rattle.log_format.specs.declared.log.Claim.TheVariants as claim
 use Rattle.log_format.specs.declared.proof_line.ProofLine.{ProofLine}
-use Rattle.log_format.specs.Accepts.{Accepts}
+use Rattle.log_format.specs.Accepts.{Accepts, ProvesAfter, left_of, left_over}
 use Rattle.log_format.specs.Text.{IsLog}
-use Rattle.split_search.specs.Searched.{IsGreatestBound, IsSpent, free_vertices}
+use Rattle.reductions.specs.Results.{HasNoVertexStep}
+use Rattle.split_search.specs.Searched.{IsSpent}
 use Rattle.steiner_top.specs.declared.outcome.Outcome.{Outcome}
 use Rattle.steiner_top.specs.declared.outcome.Outcome.TheVariants.{Found, NoTree}
 use Rattle.steiner_top.specs.declared.outcome.SolveFault.{SolveFault}
 use Rattle.steiner_top.specs.declared.outcome.SolveFault.TheVariants.{Stp, NoMemory}
 
--- the log claims this tree and this bound, takes no step, and its proof shows no greater bound; and the proof spent the budget if they are apart
-pub record IsCertificate (nodes : ℕ) (I : Network) (tree : Tree) (primal dual : ℕ) (log : Log) : Type 0 where
+-- how many vertices aren't required
+abbrev pub free_vertices : Network → ℕ
+free_vertices I = sum_to (λ v. if is_required I v then 0 else 1) I.n
+
+-- of the numbers up to primal that the lines prove after the steps, dual is the greatest
+abbrev pub IsGreatestBound : Network → List Step → ℕ → ℕ → List ProofLine → Type 0
+IsGreatestBound I steps primal dual lines = (x : ℕ) → x ≤ primal → ProvesAfter I steps x lines → x ≤ dual
+
+-- which steps are taken, where they leave this: none, where it is to be plain, and else so many that no vertex may go by one more
+abbrev pub AreSteps : Bool → List Step → State → Type 0
+AreSteps true steps left = steps ≡ []
+AreSteps false steps left = HasNoVertexStep left
+
+-- the log claims this tree and this bound, and its proof shows no greater bound after its steps; and the proof spent the budget on what these leave if they are apart
+pub record IsCertificate (nodes : ℕ) (plain : Bool) (I : Network) (tree : Tree) (primal dual : ℕ) (log : Log) : Type 0 where
+  pub steps : List Step
   pub proof : List ProofLine
-  pub claims : log.claim ≡ claim.Found primal dual tree [] proof
-  pub greatest : IsGreatestBound I primal dual proof
-  pub spent : dual < primal → IsSpent nodes I primal proof
+  pub claims : log.claim ≡ claim.Found primal dual tree steps proof
+  -- what the steps leave
+  pub left : State
+  pub applies : Applies steps (whole I) left
+  pub reduced : AreSteps plain steps left
+  pub greatest : IsGreatestBound I steps primal dual proof
+  -- a close is light where it weighs less than primal together with what is paid besides
+  pub spent : dual < primal → IsSpent nodes left.instance (left_over left) (left_of primal left) proof
   pub is_log : IsLog log
   pub accepted : Accepts I log
 
 -- a tree of this cost, a bound on the cost of every tree, and their certificate
-pub record IsFound (nodes : ℕ) (I : Network) (tree : Tree) (primal dual : ℕ) (log : Log) : Type 0 where
+pub record IsFound (nodes : ℕ) (plain : Bool) (I : Network) (tree : Tree) (primal dual : ℕ) (log : Log) : Type 0 where
   pub is_tree : IsTree I tree
   pub is_cost : primal ≡ cost I tree
   pub is_bound : IsBound I dual
   pub is_below : dual ≤ primal
-  pub certified : IsCertificate nodes I tree primal dual log
+  pub certified : IsCertificate nodes plain I tree primal dual log
   -- a budget that is sure to suffice
   pub enough : 2 ^ (free_vertices I + 1) ≤ nodes → dual ≡ primal
 
@@ -44,10 +68,10 @@ pub record IsWithoutTree (I : Network) (log : Log) : Type 0 where
   pub is_log : IsLog log
   pub accepted : Accepts I log
 
--- what is right of an instance, where so many nodes may be expanded
-abbrev pub IsOutcome : ℕ → Network → Outcome → Type 0
-IsOutcome nodes I (Found tree primal dual log) = IsFound nodes I tree primal dual log
-IsOutcome nodes I (NoTree log) = IsWithoutTree I log
+-- what is right of an instance, where so many nodes may be expanded, and it is to be plain or not
+abbrev pub IsOutcome : ℕ → Bool → Network → Outcome → Type 0
+IsOutcome nodes plain I (Found tree primal dual log) = IsFound nodes plain I tree primal dual log
+IsOutcome nodes plain I (NoTree log) = IsWithoutTree I log
 
 -- the certificate of an outcome
 abbrev pub certificate_of : Outcome → Log
@@ -55,10 +79,10 @@ certificate_of (Found tree primal dual log) = log
 certificate_of (NoTree log) = log
 
 -- what the bytes of a file give: an outcome of their instance, or the line at which they are refused
-abbrev pub Solves : ℕ → List ℕ → Result Outcome SolveFault → Type 0
-Solves nodes bytes (Ok outcome) = (I : Network) × Reads bytes I × IsOutcome nodes I outcome
-Solves nodes bytes (Err (Stp f)) = Refused bytes f.line f.reason
-Solves nodes bytes (Err NoMemory) = Unit {0}
+abbrev pub Solves : ℕ → Bool → List ℕ → Result Outcome SolveFault → Type 0
+Solves nodes plain bytes (Ok outcome) = (I : Network) × Reads bytes I × IsOutcome nodes plain I outcome
+Solves nodes plain bytes (Err (Stp f)) = Refused bytes f.line f.reason
+Solves nodes plain bytes (Err NoMemory) = Unit {0}
 
 -- the fault of a file that isn't read
 abbrev pub fault_of_file : ReadError → SolveFault

@@ -26,7 +26,8 @@ pub struct Ended {
 /// Does what the words of the command line say, without the program's name.
 ///
 /// `solve FILE` loads the file from the shelf, reads it as an STP file and solves it within the
-/// budget of nodes, saves the log if the words ask for it, and then sends the solution to the sink.
+/// budget of nodes, by a search of what reduction steps leave of it unless the words say `--plain`,
+/// saves the log if the words ask for it, and then sends the solution to the sink.
 /// `check FILE LOG` loads both, and sends what may be concluded of the file from the log.
 /// `gen SEED N M T` draws an instance and sends its text. `trial SEED N M T` draws one and solves it within a budget of
 /// 1,000,000 nodes, and sends the cost of its tree and a bound; where they are equal the words say which cost that is.

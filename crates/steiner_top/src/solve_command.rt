@@ -64,7 +64,7 @@ fn answer_bytes<G: Gate>(
     ensures { IfOk result (λ a.
         SolveAnswer (solve_words words.now) bytes.now a.status a.outcome a.text.items) }
 {
-    match solve_bytes(alloc, bytes, words.nodes, gate) {
+    match solve_bytes(alloc, bytes, words.nodes, words.plain, gate) {
         Ok(outcome) => {
             let text = outcome_text(alloc, words, &outcome)?;
             let status = outcome_status(&outcome);

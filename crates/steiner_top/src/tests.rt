@@ -10,6 +10,7 @@ mod draws;
 mod faults;
 mod gates;
 mod lines;
+mod reduced;
 mod solves;
 mod worked;
 
@@ -68,6 +69,13 @@ fn shelf_of(alloc: Global, lines: &str, failing: &[u64]) -> Result<MemoryShelf, 
 /// A sink with room enough, none of whose writes fails.
 fn sink_of(alloc: Global) -> Result<MemorySink, AllocError> {
     MemorySink::of(alloc, 1_000_000, 99, Vec::new(alloc))
+}
+
+/// The status of a run with these words over this shelf.
+fn status_of<F: Shelf>(alloc: Global, line: &str, shelf: &mut F) -> Result<Status, AllocError> {
+    let words = words_of(alloc, line)?;
+    let mut out = sink_of(alloc)?;
+    Ok(run(alloc, &words, shelf, &mut out, &OpenGate).status)
 }
 
 /// How a run with these words over this shelf ends, and what it sends, in so many words.

@@ -45,7 +45,7 @@ pub fn trial_command<G: Gate>(
 {
     generated_are_connected();
     let instance = draw(alloc, words)?;
-    let outcome = solve_instance(alloc, instance, NODES, gate)?;
+    let outcome = solve_instance(alloc, &instance, NODES, false, gate)?;
     let text = summary_of(alloc, &outcome)?;
     Ok(Answer {
         status: outcome_status(&outcome),

@@ -41,13 +41,13 @@ fn file_of(alloc: Global, seed: u64) -> Result<String, AllocError> {
     Ok(text)
 }
 
-/// Solves a drawn file, and checks the log that is saved: it shows the same cost.
-fn is_accepted(rt: &(impl Abort + AllocGlobal), seed: u64) -> Result<(), Fail> {
+/// Solves a drawn file by these words, and checks the log that is saved: it shows the same cost.
+fn is_accepted(rt: &(impl Abort + AllocGlobal), seed: u64, line: &str) -> Result<(), Fail> {
     let text = file_of(rt.alloc(), seed)?;
     let mut texts = Vec::new(rt.alloc());
     texts.push((String::from_str(rt.alloc(), "a.stp")?, text.into_bytes()))?;
     let mut shelf = MemoryShelf::of(rt.alloc(), texts, Vec::new(rt.alloc()));
-    let words = words_of(rt.alloc(), "solve a.stp --log b")?;
+    let words = words_of(rt.alloc(), line)?;
     let mut out = sink_of(rt.alloc())?;
     let ended = run(rt.alloc(), &words, &mut shelf, &mut out, &OpenGate);
     let Some(Outcome::Found { primal, dual, .. }) = ended.outcome else {
@@ -61,13 +61,14 @@ fn is_accepted(rt: &(impl Abort + AllocGlobal), seed: u64) -> Result<(), Fail> {
 #[test]
 fn accepts_the_logs_of_drawn_files(rt: HostRuntime) -> Result<(), Fail> {
     for seed in 1..21 {
-        is_accepted(&rt, seed)?;
+        is_accepted(&rt, seed, "solve a.stp --log b")?;
+        is_accepted(&rt, seed, "solve a.stp --log b --plain")?;
     }
     Ok(())
 }
 
-/// The first tree of a file is one, and pruned it is still one and costs no more. Without a budget solving gives a tree
-/// of the pruned one's cost.
+/// The first tree of a file is one, and pruned it is still one and costs no more. Without a budget plain solving gives
+/// a tree of the pruned one's cost.
 fn compare_starts(rt: &(impl Abort + AllocGlobal), text: &[u8]) -> Result<(), Fail> {
     let instance = read_stp(rt.alloc(), text)?;
     let store = Store::of(rt.alloc(), &instance)?;
@@ -81,7 +82,7 @@ fn compare_starts(rt: &(impl Abort + AllocGlobal), text: &[u8]) -> Result<(), Fa
     assert!(rt; is_tree(rt.alloc(), &instance, &pruned)?);
     let after = tree_cost(&instance, &pruned);
     assert!(rt; after <= before);
-    let Ok(Outcome::Found { primal, .. }) = solve_bytes(rt.alloc(), text, 0, &OpenGate) else {
+    let Ok(Outcome::Found { primal, .. }) = solve_bytes(rt.alloc(), text, 0, true, &OpenGate) else {
         return Err(Fail::new("no tree"));
     };
     assert_eq!(rt; primal, after);

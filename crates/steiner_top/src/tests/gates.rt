@@ -1,6 +1,7 @@
 use super::{PRIZES, TRIANGLE, WHEEL, text_of};
 use crate::{Gate, Outcome, solve_bytes};
 use log_format::{Claim, Log};
+use std::alloc::Global;
 use std::process::Abort;
 use std::sync::atomic::{AtomicU64, Ordering};
 use std::test::Fail;
@@ -47,21 +48,28 @@ fn lines_of(log: &Log) -> u64 {
     }
 }
 
+/// Whether as many nodes are shown as the proof has lines, each once.
+fn shows_each_line(alloc: Global, lines: &str, nodes: u64, plain: bool) -> Result<bool, Fail> {
+    let text = text_of(alloc, lines)?;
+    let gate = CountingGate::new();
+    let Ok(outcome) = solve_bytes(alloc, &text, nodes, plain, &gate) else {
+        return Ok(false);
+    };
+    let expanded = gate.nodes.load(Ordering::SeqCst);
+    let strays = gate.strays.load(Ordering::SeqCst);
+    Ok(expanded > 0 && expanded == lines_of(outcome.certificate()) && strays == 0)
+}
+
 /// Files and budgets that suffice for them.
 const FILES: &[(&str, u64)] = &[(TRIANGLE, 16), (WHEEL, 16), (PRIZES, 8)];
 
 #[test]
 fn shows_each_node_to_the_gate_once(rt: HostRuntime) -> Result<(), Fail> {
     for (lines, nodes) in FILES {
-        let text = text_of(rt.alloc(), lines)?;
-        let gate = CountingGate::new();
-        let Ok(outcome) = solve_bytes(rt.alloc(), &text, *nodes, &gate) else {
-            return Err(Fail::new("not solved"));
-        };
-        let expanded = gate.nodes.load(Ordering::SeqCst);
-        assert_eq!(rt; expanded, lines_of(outcome.certificate()), "for {lines}");
-        assert!(rt; expanded > 0, "for {lines}");
-        assert_eq!(rt; gate.strays.load(Ordering::SeqCst), 0, "for {lines}");
+        for plain in [true, false] {
+            let shown = shows_each_line(rt.alloc(), lines, *nodes, plain)?;
+            assert!(rt; shown, "for {lines}");
+        }
     }
     Ok(())
 }
@@ -72,8 +80,8 @@ fn shows_no_more_nodes_than_the_budget(rt: HostRuntime) -> Result<(), Fail> {
     let text = text_of(rt.alloc(), WHEEL)?;
     for budget in [0, 1] {
         let gate = CountingGate::new();
-        let Ok(Outcome::Found { primal, dual, .. }) = solve_bytes(rt.alloc(), &text, budget, &gate)
-        else {
+        let found = solve_bytes(rt.alloc(), &text, budget, false, &gate);
+        let Ok(Outcome::Found { primal, dual, .. }) = found else {
             return Err(Fail::new("no tree"));
         };
         assert!(rt; dual < primal);

@@ -9,10 +9,15 @@ use std::test::Fail;
 pub const STAR: &str =
     "33D32945 STP File, STP Format Version 1.0\nSECTION Comment\nName \"a.stp\"\nProgram \"steiner\"\nRemark \"optimal\"\nEND\nSECTION Solutions\nSolution 0 6\nEND\nSECTION Run\nThreads 1\nTime 0\nDual 6\nPrimal 6\nEND\nSECTION Finalsolution\nVertices 4\nV 1\nV 2\nV 3\nV 4\nEdges 3\nE 1 4\nE 2 4\nE 3 4\nEND\nEOF\n";
 
-/// The dual and the primal of a file, where so many nodes may be expanded.
-fn numbers_of(alloc: Global, lines: &str, nodes: u64) -> Result<Option<(u64, u64)>, Fail> {
+/// The dual and the primal of a file, where so many nodes may be expanded, and it is to be plain or not.
+fn numbers_of(
+    alloc: Global,
+    lines: &str,
+    nodes: u64,
+    plain: bool,
+) -> Result<Option<(u64, u64)>, Fail> {
     let text = text_of(alloc, lines)?;
-    let Ok(outcome) = solve_bytes(alloc, &text, nodes, &OpenGate) else {
+    let Ok(outcome) = solve_bytes(alloc, &text, nodes, plain, &OpenGate) else {
         return Ok(None);
     };
     match outcome {
@@ -81,8 +86,10 @@ const BEST: &[(&str, u64)] = &[
 #[test]
 fn finds_the_best_cost(rt: HostRuntime) -> Result<(), Fail> {
     for (lines, cost) in BEST {
-        let found = numbers_of(rt.alloc(), lines, 1_000_000)?;
-        assert_eq!(rt; found, Some((*cost, *cost)), "for {lines}");
+        for plain in [true, false] {
+            let found = numbers_of(rt.alloc(), lines, 1_000_000, plain)?;
+            assert_eq!(rt; found, Some((*cost, *cost)), "for {lines}");
+        }
     }
     Ok(())
 }
@@ -100,10 +107,10 @@ fn tells_that_there_is_no_tree(rt: HostRuntime) -> Result<(), Fail> {
     ends(&rt, "solve a.stp", &mut shelf, want)
 }
 
-/// Without a budget nothing is proved; the tree is that from which the search starts.
+/// Without a budget nothing is proved of the whole instance; the tree is that from which the search starts.
 #[test]
 fn proves_nothing_without_a_budget(rt: HostRuntime) -> Result<(), Fail> {
-    let (dual, primal) = numbers_of(rt.alloc(), TRIANGLE, 0)?.ok_or("no tree")?;
+    let (dual, primal) = numbers_of(rt.alloc(), TRIANGLE, 0, true)?.ok_or("no tree")?;
     assert!(rt; dual == 0 && 6 <= primal && primal <= 8, "{dual} {primal}");
     Ok(())
 }
@@ -119,7 +126,7 @@ fn proves_the_triangle_by_one_node(rt: HostRuntime) -> Result<(), Fail> {
         return Err(Fail::new("no tree"));
     };
     assert!(rt; dual == 6 && 6 <= primal && primal <= 8, "{dual} {primal}");
-    let (dual, _) = numbers_of(rt.alloc(), WHEEL, 1)?.ok_or("no tree")?;
+    let (dual, _) = numbers_of(rt.alloc(), WHEEL, 1, false)?.ok_or("no tree")?;
     assert!(rt; dual < 10, "{dual}");
     Ok(())
 }
@@ -128,11 +135,12 @@ fn proves_the_triangle_by_one_node(rt: HostRuntime) -> Result<(), Fail> {
 #[test]
 fn spends_a_budget_on_the_wheel(rt: HostRuntime) -> Result<(), Fail> {
     for nodes in [0, 1, 2] {
-        let (dual, primal) = numbers_of(rt.alloc(), WHEEL, nodes)?.ok_or("no tree")?;
+        let (dual, primal) = numbers_of(rt.alloc(), WHEEL, nodes, true)?.ok_or("no tree")?;
         assert!(rt; dual <= 10 && 10 <= primal, "{nodes}: {dual} {primal}");
     }
     // Three vertices aren't required.
-    assert_eq!(rt; numbers_of(rt.alloc(), WHEEL, 16)?, Some((10, 10)));
+    assert_eq!(rt; numbers_of(rt.alloc(), WHEEL, 16, true)?, Some((10, 10)));
+    assert_eq!(rt; numbers_of(rt.alloc(), WHEEL, 16, false)?, Some((10, 10)));
     Ok(())
 }
 

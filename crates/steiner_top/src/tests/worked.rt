@@ -120,17 +120,30 @@ fn is_one_of(
     Ok(false)
 }
 
+/// Whether a line sends one of these solutions of a file, as an optimal one.
+fn sends_one_of(
+    alloc: Global,
+    line: &str,
+    lines: &str,
+    cost: u64,
+    trees: &[Shape],
+) -> Result<bool, AllocError> {
+    let words = words_of(alloc, line)?;
+    let mut shelf = shelf_of(alloc, lines, &[])?;
+    let mut out = sink_of(alloc)?;
+    let ended = run(alloc, &words, &mut shelf, &mut out, &OpenGate);
+    let is_best = is_one_of(alloc, out.bytes(), "optimal", cost, cost, trees)?;
+    Ok(is_best && ended.status == Status::Optimal)
+}
+
 #[test]
 fn sends_a_best_tree(rt: HostRuntime) -> Result<(), Fail> {
     let alloc = rt.alloc();
-    let words = words_of(alloc, "solve a.stp")?;
     for (lines, cost, trees) in BEST {
-        let mut shelf = shelf_of(alloc, lines, &[])?;
-        let mut out = sink_of(alloc)?;
-        let ended = run(alloc, &words, &mut shelf, &mut out, &OpenGate);
-        assert_eq!(rt; ended.status, Status::Optimal, "for {lines}");
-        let is_best = is_one_of(alloc, out.bytes(), "optimal", *cost, *cost, trees)?;
-        assert!(rt; is_best, "for {lines}");
+        for line in ["solve a.stp", "solve a.stp --plain"] {
+            let is_best = sends_one_of(alloc, line, lines, *cost, trees)?;
+            assert!(rt; is_best, "for {lines}");
+        }
     }
     Ok(())
 }

@@ -1,0 +1,105 @@
+use super::{APART, PRIZES, TRIANGLE, WHEEL, ends, shelf_of, text_of};
+use crate::{OpenGate, Outcome, Status, solve_bytes};
+use log_format::{Claim, Log};
+use std::alloc::Global;
+use std::process::Abort;
+use std::test::Fail;
+
+/// A path of three vertices that pay nothing.
+const IDLE: &str =
+    "H / SECTION Graph / Nodes 3 / Edges 2 / E 1 2 1 / E 2 3 1 / END / SECTION Terminals / Terminals 1 / TP 2 0 / END / EOF";
+
+/// A required vertex alone.
+const ALONE: &str =
+    "H / SECTION Graph / Nodes 1 / Edges 0 / END / SECTION Terminals / Terminals 1 / T 1 / END / EOF";
+
+/// How many steps a log has, and how many lines its proof has.
+fn counts_of(log: &Log) -> Option<(usize, usize)> {
+    match &log.claim {
+        Claim::Found { steps, proof, .. } => Some((steps.as_slice().len(), proof.lines().len())),
+        Claim::NoTree { .. } => None,
+    }
+}
+
+/// The same of the log of a file.
+fn solved(
+    alloc: Global,
+    lines: &str,
+    nodes: u64,
+    plain: bool,
+) -> Result<Option<(usize, usize)>, Fail> {
+    let text = text_of(alloc, lines)?;
+    let Ok(outcome) = solve_bytes(alloc, &text, nodes, plain, &OpenGate) else {
+        return Ok(None);
+    };
+    Ok(counts_of(outcome.certificate()))
+}
+
+/// Plain solving takes no step. Of the triangle, whose sides are no cheaper than the spokes, and of the
+/// path a single vertex is left; of the wheel and of prizes that are linked nothing goes.
+#[test]
+fn takes_steps_unless_it_is_plain(rt: HostRuntime) -> Result<(), Fail> {
+    for lines in [TRIANGLE, WHEEL, PRIZES, IDLE, ALONE] {
+        let (steps, _) = solved(rt.alloc(), lines, 16, true)?.ok_or("no tree")?;
+        assert_eq!(rt; steps, 0, "for {lines}");
+    }
+    for (lines, want) in [
+        (TRIANGLE, 6),
+        (WHEEL, 0),
+        (PRIZES, 0),
+        (IDLE, 2),
+        (ALONE, 0),
+    ] {
+        let (steps, _) = solved(rt.alloc(), lines, 16, false)?.ok_or("no tree")?;
+        assert_eq!(rt; steps, want, "for {lines}");
+    }
+    Ok(())
+}
+
+/// Where a single vertex is left, what was paid is the cost, with no node at all.
+#[test]
+fn needs_no_node_where_all_is_gone(rt: HostRuntime) -> Result<(), Fail> {
+    for (lines, cost) in [(TRIANGLE, 6), (IDLE, 0), (ALONE, 0)] {
+        let text = text_of(rt.alloc(), lines)?;
+        let outcome = solve_bytes(rt.alloc(), &text, 0, false, &OpenGate);
+        let is_cost =
+            matches!(outcome, Ok(Outcome::Found { primal, dual, .. }) if primal == cost && dual == cost);
+        assert!(rt; is_cost, "for {lines}");
+    }
+    Ok(())
+}
+
+/// Files, and how their logs are answered, whether they were to be plain or not.
+const CHECKED: &[(&str, &str)] = &[
+    (TRIANGLE, "optimal 6\n"),
+    (WHEEL, "optimal 10\n"),
+    (PRIZES, "optimal 3\n"),
+    (IDLE, "optimal 0\n"),
+    (ALONE, "optimal 0\n"),
+];
+
+#[test]
+fn accepts_logs_with_steps_and_without(rt: HostRuntime) -> Result<(), Fail> {
+    for (lines, line) in CHECKED {
+        for words in ["solve a.stp --log b", "solve a.stp --log b --plain"] {
+            let mut shelf = shelf_of(rt.alloc(), lines, &[])?;
+            let solving = super::status_of(rt.alloc(), words, &mut shelf)?;
+            assert_eq!(rt; solving, Status::Optimal, "for {lines}");
+            ends(&rt, "check a.stp b", &mut shelf, (Status::Optimal, 0, line))?;
+        }
+    }
+    Ok(())
+}
+
+/// A file without a tree is answered by a wall of its own instance.
+#[test]
+fn reduces_nothing_without_a_tree(rt: HostRuntime) -> Result<(), Fail> {
+    for words in ["solve a.stp --log b", "solve a.stp --log b --plain"] {
+        let mut shelf = shelf_of(rt.alloc(), APART, &[])?;
+        let want = (Status::Infeasible, 4, "infeasible\n");
+        ends(&rt, words, &mut shelf, want)?;
+        let want = (Status::Infeasible, 4, "no tree\n");
+        ends(&rt, "check a.stp b", &mut shelf, want)?;
+    }
+    Ok(())
+}
