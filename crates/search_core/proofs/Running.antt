@@ -1,7 +1,11 @@
 -- Lists of events keep what each event keeps, and faults are exact.
-use Rattle.std.proofs.Common.{◌≡◌, ℕ, List, [], ◌∷◌, Option, Some, None, refl, sym, ◌∙◌, subst, inl, inr}
+use Rattle.std.proofs.Common.{◌≡◌, ℕ, List, [], ◌∷◌, Option, Some, None, refl, sym, ◌∙◌, ◌<◌, ◌≤◌, arith, subst, inl, inr}
 use Rattle.std.specs.Prelude.{IfSome}
+use Rattle.st_model.specs.declared.branch.Branch.{Branch}
+use Rattle.st_model.specs.Network.{Network}
+use Rattle.cut_packing.specs.declared.packing.Packing.{Packing}
 use Rattle.cut_packing.specs.Packing.{weight}
+use Rattle.search_core.specs.declared.made.Made.{Made}
 use Rattle.search_core.specs.declared.event.Event.{Event}
 use Rattle.search_core.specs.declared.event.Event.TheVariants.{Take, Pick, Give, Claim, See, Offer, Up, Split, Close, Down, SeeOpen, SeeHalt, Halt, Keep}
 use Rattle.search_core.specs.declared.event.EventFault.{EventFault}
@@ -13,6 +17,7 @@ use Rattle.search_core.specs.Steps.{Step, Run}
 use Rattle.search_core.specs.Kept.{IsKept}
 use Rattle.search_core.specs.Laws.{EventsKeep, AllowedHasNoFault, FaultIsOne}
 use Rattle.search_core.proofs.Keeping.{kept_after, kept_beginning}
+use Rattle.search_core.proofs.Early.{split_early, up_early}
 use Rattle.search_core.proofs.Rooted.{root_node}
 
 run_kept : (S : State) (es : List Event) (T : State) → IsKept S → Run S es T → IsKept T
@@ -27,6 +32,66 @@ pub events_keep_lem : EventsKeep
 events_keep_lem I gone workers budget start es S may run =
     run_kept (beginning I gone workers budget start) es S (kept_beginning I gone workers budget start (root_node I gone may.set may.required)) run
 
--- a split's packing has one fault at most
-no_split_fault : (S : State) (w : ℕ) (e : Option EventFault) → ⊥ → ⊥
-no_split_fault S w e h = h
+-- a packing that allows a split has no fault, and another has one
+split_serves : (I : Network) (B : Branch) (P : Packing) (x : ℕ) (f : EventFault) → IsSplitFault I B P x None → IsSplitFault I B P x (Some f) → ⊥
+split_serves I B P x BadPacking serves fails = fails serves
+split_serves I B P x _ serves fails = fails
+
+split_one : (I : Network) (B : Branch) (P : Packing) (x : ℕ) (f g : EventFault) → IsSplitFault I B P x (Some f) → IsSplitFault I B P x (Some g) → f ≡ g
+split_one I B P x BadPacking BadPacking a b = refl
+split_one I B P x BadPacking _ a b = absurd b
+split_one I B P x _ g a b = absurd a
+
+-- the same of a packing that closes
+close_serves : (I : Network) (B : Branch) (P : Packing) (x : ℕ) (f : EventFault) → IsCloseFault I B P x None → IsCloseFault I B P x (Some f) → ⊥
+close_serves I B P x BadPacking serves fails = fails serves.fits
+close_serves I B P x TooLight serves fails = apart x (weight I B P) serves.weighs fails.1
+  where
+    apart : (a b : ℕ) → a ≤ b → b < a → ⊥
+    apart a b h k = omega arith
+close_serves I B P x _ serves fails = fails
+
+close_one : (I : Network) (B : Branch) (P : Packing) (x : ℕ) (f g : EventFault) → IsCloseFault I B P x (Some f) → IsCloseFault I B P x (Some g) → f ≡ g
+close_one I B P x BadPacking BadPacking a b = refl
+close_one I B P x BadPacking TooLight a b = absurd (a b.0)
+close_one I B P x TooLight BadPacking a b = absurd (b a.0)
+close_one I B P x TooLight TooLight a b = refl
+close_one I B P x BadPacking _ a b = absurd b
+close_one I B P x TooLight _ a b = absurd b
+close_one I B P x _ g a b = absurd a
+
+-- what holds of the node in a hand where there is one
+of_held : {P Q : Made → Type 0} {R : Type 0} (k : Option Made) (m : Made) → k ≡ Some m → ((m : Made) → P m → Q m → R) → IfSome k P → IfSome k Q → R
+of_held None m e both p q = absurd cc
+of_held (Some n) m e both p q = both n p q
+
+some_fault : {R : Type 0} (f : EventFault) → Some f ≡ None → R
+some_fault f h = absurd cc
+
+serves_or_fails : (S : State) (e : Event) (f : EventFault) → early_fault S e ≡ None → IsPackingFault S e None → IsPackingFault S e (Some f) → ⊥
+serves_or_fails S (Split w v i o P) f early serves fails =
+    let h = split_early S w v i o P early in
+    of_held (held S w) h.made h.held (λ m. split_serves S.instance m.node.branch P (seen S w) f) serves fails
+serves_or_fails S (Close w P) f early serves fails =
+    let h = up_early S w early in
+    of_held (held S w) h.made h.held (λ m. close_serves S.instance m.node.branch P (seen S w) f) serves fails
+serves_or_fails S _ f early serves fails = some_fault f fails
+
+fails_once : (S : State) (e : Event) (f g : EventFault) → early_fault S e ≡ None → IsPackingFault S e (Some f) → IsPackingFault S e (Some g) → f ≡ g
+fails_once S (Split w v i o P) f g early a b =
+    let h = split_early S w v i o P early in
+    of_held (held S w) h.made h.held (λ m. split_one S.instance m.node.branch P (seen S w) f g) a b
+fails_once S (Close w P) f g early a b =
+    let h = up_early S w early in
+    of_held (held S w) h.made h.held (λ m. close_one S.instance m.node.branch P (seen S w) f g) a b
+fails_once S _ f g early a b = some_fault f a
+
+pub allowed_lem : AllowedHasNoFault
+allowed_lem S e f allowed (inl early) = some_fault f (sym early ∙ allowed.early)
+allowed_lem S e f allowed (inr (early, fails)) = serves_or_fails S e f early allowed.packing fails
+
+pub one_lem : FaultIsOne
+one_lem S e f g (inl a) (inl b) = let same : Some f ≡ Some g = sym a ∙ b in cc
+one_lem S e f g (inl a) (inr (early, b)) = some_fault f (sym a ∙ early)
+one_lem S e f g (inr (early, a)) (inl b) = some_fault g (sym b ∙ early)
+one_lem S e f g (inr (early, a)) (inr (also, b)) = fails_once S e f g early a b
