@@ -7,7 +7,7 @@ use Rattle.st_model.specs.Branch.{Belongs}
 use Rattle.st_model.specs.Network.{Network}
 
 -- a tree of the branch that costs less than the old one
-pub record IsBetter (I : Network) (B : Branch) (old new : Tree) : Type 0 where
+pub record IsCheaper (I : Network) (B : Branch) (old new : Tree) : Type 0 where
   pub tree : IsTree I new
   pub belongs : Belongs B new
   pub less : cost I new < cost I old

@@ -3,7 +3,7 @@ ghost use Rattle.std.specs.Bool.{OnTrue};
 ghost use Rattle.st_model.specs.Arborescence.{IsArborescence, IsTree, reached};
 ghost use Rattle.st_model.specs.Branch.{Belongs, IsBranch};
 ghost use Rattle.st_model.specs.Lists.{has};
-ghost use Rattle.local_search.specs.Better.{IsBetter, IsNoDearer};
+ghost use Rattle.local_search.specs.Better.{IsCheaper, IsNoDearer};
 
 use st_model::{Instance, Sides, Tree, VertexSet, is_tree, tree_cost};
 use std::alloc::{AllocError, Global};
@@ -38,7 +38,7 @@ fn is_better(
 ) -> Result<bool, AllocError>
     requires branch { IsBranch instance.now branch.now }
     requires tree { IsArborescence instance.now tree.now }
-    ensures { IfOk result (λ answer. OnTrue answer (IsBetter instance.now branch.now tree.now other.now)) }
+    ensures { IfOk result (λ answer. OnTrue answer (IsCheaper instance.now branch.now tree.now other.now)) }
 {
     if !is_tree(alloc, instance, other)? {
         return Ok(false);

@@ -8,6 +8,7 @@ ghost use Rattle.st_model.specs.Wall.{IsWall};
 ghost use Rattle.log_format.specs.Text.{IsWritableSet};
 
 use graph_store::{Store, Whole};
+use local_search::improve;
 use st_model::{Instance, Sides, Tree, lone_starts_miss_the_rest};
 use std::alloc::{AllocError, Global};
 use tree_heuristic::{first_tree, prune, store_wall};
@@ -36,7 +37,10 @@ pub fn start_tree(alloc: Global, whole: &Whole, branch: &Sides) -> Result<Tree, 
     lone_starts_miss_the_rest();
     prove!(1 <= whole.instance.vertices());
     match first_tree(alloc, &whole.store, branch)? {
-        Some(tree) => prune(alloc, &whole.instance, branch, tree),
+        Some(tree) => {
+            let pruned = prune(alloc, &whole.instance, branch, tree)?;
+            improve(alloc, whole, branch, pruned)
+        }
         None => unreachable!(),
     }
 }

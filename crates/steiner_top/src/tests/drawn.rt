@@ -1,13 +1,9 @@
 use super::{ends, sink_of, words_of};
-use crate::{OpenGate, Outcome, Status, run, solve_bytes};
-use graph_store::Store;
+use crate::{OpenGate, Outcome, Status, run};
 use st_edge::MemoryShelf;
-use st_model::{Branch, Sides, is_tree, tree_cost};
 use std::alloc::{AllocError, Global};
 use std::process::Abort;
 use std::test::Fail;
-use stp_reader::read_stp;
-use tree_heuristic::{first_tree, prune};
 
 /// The next of some numbers that look random (Park and Miller 1988).
 fn draw(state: &mut u64, below: u64) -> u64 {
@@ -63,37 +59,6 @@ fn accepts_the_logs_of_drawn_files(rt: HostRuntime) -> Result<(), Fail> {
     for seed in 1..21 {
         is_accepted(&rt, seed, "solve a.stp --log b")?;
         is_accepted(&rt, seed, "solve a.stp --log b --plain")?;
-    }
-    Ok(())
-}
-
-/// The first tree of a file is one, and pruned it is still one and costs no more. Without a budget plain solving gives
-/// a tree of the pruned one's cost.
-fn compare_starts(rt: &(impl Abort + AllocGlobal), text: &[u8]) -> Result<(), Fail> {
-    let instance = read_stp(rt.alloc(), text)?;
-    let store = Store::of(rt.alloc(), &instance)?;
-    let branch = Sides::of(rt.alloc(), Branch::all(rt.alloc()))?;
-    let Some(tree) = first_tree(rt.alloc(), &store, &branch)? else {
-        return Err(Fail::new("no tree"));
-    };
-    assert!(rt; is_tree(rt.alloc(), &instance, &tree)?);
-    let before = tree_cost(&instance, &tree);
-    let pruned = prune(rt.alloc(), &instance, &branch, tree)?;
-    assert!(rt; is_tree(rt.alloc(), &instance, &pruned)?);
-    let after = tree_cost(&instance, &pruned);
-    assert!(rt; after <= before);
-    let Ok(Outcome::Found { primal, .. }) = solve_bytes(rt.alloc(), text, 0, true, &OpenGate) else {
-        return Err(Fail::new("no tree"));
-    };
-    assert_eq!(rt; primal, after);
-    Ok(())
-}
-
-#[test]
-fn starts_from_the_pruned_first_tree(rt: HostRuntime) -> Result<(), Fail> {
-    for seed in 1..21 {
-        let text = file_of(rt.alloc(), seed)?;
-        compare_starts(&rt, text.as_bytes())?;
     }
     Ok(())
 }

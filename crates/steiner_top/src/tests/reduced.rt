@@ -1,7 +1,10 @@
 use super::{APART, PRIZES, TRIANGLE, WHEEL, ends, shelf_of, text_of};
 use crate::{OpenGate, Outcome, Status, solve_bytes};
+use instance_gen::generate;
+use lift_back::Step;
 use log_format::{Claim, Log};
-use std::alloc::Global;
+use reductions::{MANY_LINKS, reduce};
+use std::alloc::{AllocError, Global};
 use std::process::Abort;
 use std::test::Fail;
 
@@ -101,5 +104,31 @@ fn reduces_nothing_without_a_tree(rt: HostRuntime) -> Result<(), Fail> {
         let want = (Status::Infeasible, 4, "no tree\n");
         ends(&rt, "check a.stp b", &mut shelf, want)?;
     }
+    Ok(())
+}
+
+/// How many detours are taken of a drawn instance with many links; None where it hasn't so many.
+fn detours_of_many(alloc: Global) -> Result<Option<usize>, AllocError> {
+    let instance = generate(alloc, 1, 120, 8_000, 10, false)?;
+    if instance.links().len() <= MANY_LINKS {
+        return Ok(None);
+    }
+    let (steps, _) = reduce(alloc, &instance)?;
+    Ok(Some(count_detours(&steps)))
+}
+
+/// How many of the steps are detours.
+fn count_detours(steps: &[Step]) -> usize {
+    steps
+        .iter()
+        .filter(|step| matches!(step, Step::Detour { .. }))
+        .count()
+}
+
+/// Where there are too many links for all detours to be found, most still are.
+#[test]
+fn takes_detours_of_many_links(rt: HostRuntime) -> Result<(), Fail> {
+    let count = detours_of_many(rt.alloc())?.ok_or("few links")?;
+    assert!(rt; count > 4_000, "detours: {count}");
     Ok(())
 }

@@ -115,6 +115,16 @@ fn proves_nothing_without_a_budget(rt: HostRuntime) -> Result<(), Fail> {
     Ok(())
 }
 
+/// The first tree goes over two sides of 7, each shorter than the way over the centre; the search starts from a
+/// better one, the three spokes of 4.
+#[test]
+fn starts_from_an_improved_tree(rt: HostRuntime) -> Result<(), Fail> {
+    let lines =
+        "H / SECTION Graph / Nodes 4 / Edges 6 / E 1 4 4 / E 2 4 4 / E 3 4 4 / E 1 2 7 / E 2 3 7 / E 1 3 7 / END / SECTION Terminals / Terminals 3 / T 1 / T 2 / T 3 / END / EOF";
+    assert_eq!(rt; numbers_of(rt.alloc(), lines, 0, true)?, Some((0, 12)));
+    Ok(())
+}
+
 /// One node proves the best cost of the triangle, but not that of the wheel, which has to split.
 #[test]
 fn proves_the_triangle_by_one_node(rt: HostRuntime) -> Result<(), Fail> {

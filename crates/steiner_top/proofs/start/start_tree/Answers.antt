@@ -1,3 +1,4 @@
+use Rattle.std.proofs.Common.{arith}
 use Rattle.std.proofs.lemmas.Result.{IfOk-weaker}
 use Rattle.steiner_top.proofs.Starting.{cheap_start, some_first}
 use Rattle.steiner_top.proofs.start.start_tree.Goals as goal
@@ -8,6 +9,7 @@ unreachable-requires c = some_first c.args.whole.now.instance c.args.whole.now.s
 pub returns-clause-cheap : goal.returns-clause-cheap
 returns-clause-cheap c =
     let low = rw c.in-Some.is at c.in_ok-tree.ensures.lone in
-    IfOk-weaker c.prune.result _ _
+    let no_dearer = c.in_ok-pruned-in-Some.ensures.cost in
+    IfOk-weaker c.improve.result _ _
     (λ new less. cheap_start c.args.whole.now.instance c.args.whole.now.store c.args.branch.now c.in-Some.tree new c.vertices.ensures.instance c.requires.branch c.args.whole.now.whole
-    c.lone_starts_miss_the_rest.ensures c.requires.some low less) c.prune.ensures.cost
+    c.lone_starts_miss_the_rest.ensures c.requires.some low (omega arith)) c.improve.ensures.cost
