@@ -1,9 +1,10 @@
 //! Dual ascent: directed cuts that bound a branch from below, added one by one (Wong 1984).
 //!
 //! `ascend` raises a cut round all that reaches a vertex which the root doesn't reach over arcs
-//! with nothing left, until a target is reached or none can be added. A caller may rely on each
-//! cut's clause and on the laws: joined to a packing that was charged before, the cuts fit the
-//! branch, and where none can be added the whole is full.
+//! with nothing left, until a target is reached or none can be added. `fix_levels` cuts round one
+//! vertex, by how far others are from it. A caller may rely on each cut's clause and on the laws:
+//! joined to a packing that was charged before, the cuts fit the branch, and where none can be
+//! added the whole is full.
 #![tactic(auto)]
 
 mod ascending;

@@ -1,2 +1,3 @@
 mod ascending;
 mod extending;
+mod fixing;

@@ -12,7 +12,7 @@ use std::test::Fail;
 use test_instances::{pair, triangle_with_centre};
 
 // The arcs of an instance from vertex 1 on, and the ends, all whole.
-fn whole(alloc: Global, instance: &Instance) -> Result<(Arcs, Twins), AllocError>
+pub fn whole(alloc: Global, instance: &Instance) -> Result<(Arcs, Twins), AllocError>
     requires { 1 ≤ instance.now.n }
     ensures { IfOk result (λ made. AreEndsOf made.0 made.1) }
 {
@@ -44,7 +44,8 @@ fn outcome(ascent: &Ascent) -> (bool, u64, usize) {
     (ascent.is_reached(), weight(packing), cuts)
 }
 
-fn weight(packing: &Packing) -> u64 {
+// What the cuts of a packing weigh.
+pub fn weight(packing: &Packing) -> u64 {
     let mut sum: u64 = 0;
     for cut in packing.cuts.as_slice() {
         sum = sum.saturating_add(cut.y);

@@ -5,7 +5,7 @@ ghost use Rattle.st_model.specs.Network.{IsVertex, is_required};
 ghost use Rattle.cut_packing.specs.Packing.{Fits};
 ghost use Rattle.dual_ascent.specs.Extension.{IsStart, IsRootFor};
 
-use crate::{charge_cuts, extend, joined_is_full};
+use crate::{charge_cuts, extend, joined_fits, joined_inside_fits, joined_is_full};
 use bidirected_form::Arcs;
 use cut_packing::{Cut, Packing, fits, weight};
 use graph_store::Store;
@@ -183,6 +183,8 @@ fn extended(
 
 #[test]
 fn extends_the_triangle(rt: HostRuntime) -> Result<(), Fail> {
+    joined_fits();
+    joined_inside_fits();
     joined_is_full();
     let alloc = rt.alloc();
     let instance = triangle_with_centre(alloc, 4)?;
