@@ -1,43 +1,65 @@
-ghost use Rattle.std.specs.Prelude.{◌≡◌, ℕ, ◌+◌, ◌<◌, ◌≤◌, All, IfOk, IfSome, IfNone, length};
+ghost use Rattle.std.specs.Prelude.{◌≡◌, ◌≤◌, IfOk, IfSome, IfNone};
 ghost use Rattle.st_model.specs.declared.branch.Branch.{Branch as Part};
 ghost use Rattle.st_model.specs.Arborescence.{IsTree, cost};
 ghost use Rattle.st_model.specs.Branch.{AreThose, Belongs, IsBranch};
-ghost use Rattle.st_model.specs.Led.{heads_at};
 ghost use Rattle.st_model.specs.Network.{IsVertex};
 ghost use Rattle.split_search.specs.Deciding.{is_left_out};
 ghost use Rattle.split_search.specs.Node.{IsPartOf};
 ghost use Rattle.split_search.specs.Step.{IsBetter};
 
 use crate::step::Priced;
+use crate::used_up::used_up;
+use bidirected_form::Arcs;
 use graph_store::Whole;
-use st_model::{Branch, Instance, Listed, Sides, Tree, VertexLists, VertexSet, tree_cost, walk};
+use local_search::improve;
+use st_model::{Branch, Instance, Listed, Sides, Tree, VertexSet, tree_cost, walk};
 use std::alloc::{AllocError, Global};
 use tree_heuristic::{first_tree, prune};
 
-/// A tree of the branch that costs less than the least cost known, if one is found: a first tree, pruned, over
-/// the vertices to which arcs with nothing left lead from a root, and those that have to be
-/// reached. `heads` lists the heads of those arcs at their tails.
+/// A tree of the branch that costs less than the least cost known, if one is found: a first tree,
+/// pruned, over the vertices to which arcs with nothing left lead from the root, and those that have
+/// to be reached. Where it costs no more than a limit, it is improved.
 pub fn better_tree(
     alloc: Global,
     whole: &Whole,
     branch: &Sides,
-    heads: &VertexLists<u32>,
-    root: u32,
+    arcs: &Arcs,
     least: u64,
+    limit: u128,
 ) -> Result<Option<Priced>, AllocError>
     requires branch { IsBranch whole.now.instance branch.now }
-    requires heads { (u : ℕ) → All (λ v. v < length heads.now) (heads_at heads.now u) }
-    requires root { root < length heads.now }
     ensures { IfOk result (λ better. IfSome better (IsBetter whole.now.instance branch.now least)) }
 {
-    let reached = walk(alloc, heads, root)?;
+    let heads = used_up(alloc, arcs)?;
+    let reached = walk(alloc, &heads, arcs.root())?;
     let narrow = narrowed(alloc, &whole.instance, branch, &reached)?;
     let narrow = Sides::of(alloc, narrow)?;
     let Some(tree) = first_tree(alloc, &whole.store, &narrow)? else {
         return Ok(None);
     };
     let tree = prune(alloc, &whole.instance, &narrow, tree)?;
+    let tree = improved(alloc, whole, branch, tree, limit)?;
     Ok(priced(&whole.instance, tree, least))
+}
+
+// The tree, or where it costs no more than a limit one that local search makes of it.
+fn improved(
+    alloc: Global,
+    whole: &Whole,
+    branch: &Sides,
+    tree: Tree,
+    limit: u128,
+) -> Result<Tree, AllocError>
+    requires branch { IsBranch whole.now.instance branch.now }
+    requires tree { IsTree whole.now.instance tree }
+    requires belongs { Belongs branch.now tree }
+    ensures tree { IfOk result (IsTree whole.now.instance) }
+    ensures belongs { IfOk result (Belongs branch.now) }
+{
+    if u128::from(tree_cost(&whole.instance, &tree)) > limit {
+        return Ok(tree);
+    }
+    improve(alloc, whole, branch, tree)
 }
 
 /// A tree and its price, if that is less than the least cost known.

@@ -1,5 +1,5 @@
 ghost use Rattle.std.specs.Prelude.{◌≡◌, ◌<◌, ◌≤◌, IfOk, IfSome};
-ghost use Rattle.st_model.specs.Branch.{NoneIsCertain};
+ghost use Rattle.st_model.specs.Branch.{IsBranch, NoneIsCertain};
 ghost use Rattle.st_model.specs.Lists.{sum_to};
 ghost use Rattle.st_model.specs.Network.{IsInstance, pays};
 ghost use Rattle.cut_packing.specs.Full.{IsFull};
@@ -14,7 +14,6 @@ use crate::deciding::root_of;
 use crate::picking::pick;
 use crate::raising::raise;
 use crate::step::{End, Priced, Step};
-use crate::used_up::used_up;
 use branching::{Node, choose};
 use cut_packing::{Packing, weight};
 use dual_ascent::{Ascent, Extension};
@@ -110,8 +109,8 @@ fn work_on(
     match ascent {
         Ascent::Reached(packing) => Ok(closed(packing)),
         Ascent::Full(packing) => {
-            let heads = used_up(alloc, &arcs)?;
-            let better = better_tree(alloc, whole, &branch, &heads, root, least)?;
+            let limit = worth_improving(&whole.instance, &branch, &packing, least);
+            let better = better_tree(alloc, whole, &branch, &arcs, least, limit)?;
             let vertex = pick(&arcs, &whole.instance, &branch, given);
             let branch = branch.into_branch();
             let node = Node {
@@ -122,6 +121,16 @@ fn work_on(
             Ok(ended(&whole.instance, node, vertex, better, least))
         }
     }
+}
+
+// The most that a tree may cost to be worth improving. One that costs more than the least cost known
+// by over twice what the packing weighs less hardly becomes the cheapest.
+fn worth_improving(instance: &Instance, branch: &Sides, packing: &Packing, least: u64) -> u128
+    requires { IsBranch instance.now branch.now }
+{
+    let least = u128::from(least);
+    let gap = least.saturating_sub(weight(instance, branch.branch(), packing));
+    least.saturating_add(gap.saturating_mul(2))
 }
 
 // A split, with no better tree.
