@@ -1,5 +1,5 @@
 -- That the heavier of two packings extends as the first does.
-use Rattle.std.proofs.Common.{◌≡◌, ℕ, ◌-◌, ◌<◌, ◌≤◌, ◌⊎◌, Option, None, Some, inl, inr, refl, sym, subst, arith}
+use Rattle.std.proofs.Common.{◌≡◌, ℕ, ◌-◌, ◌≤◌, ◌⊎◌, Option, None, Some, inl, inr, refl, sym, subst, arith}
 use Rattle.std.specs.Prelude.{IfSome}
 use Rattle.std.proofs.lemmas.List.Elements.{All-nil}
 use Rattle.st_model.specs.declared.branch.Branch.{Branch}
@@ -28,7 +28,7 @@ first_heavy : (I : Network) (B : Branch) (P : Packing) (root target : ℕ) (firs
 first_heavy I B P root target (Full new) h = h.0.no_lighter
 first_heavy I B P root target (Reached new) h = h.0.no_lighter
 
-second_extends : (I : Network) (B : Branch) (P E : Packing) (root least : ℕ) (first second : Ascent) → weight I B E ≤ weight I B P → weight I B P < least
+second_extends : (I : Network) (B : Branch) (P E : Packing) (root least : ℕ) (first second : Ascent) → weight I B E ≤ weight I B P → weight I B P ≤ least
     → IsExtension I B P root (least - weight I B P) first → IsExtension I B E root (least - weight I B E) second → IsNoWorse I B first second
     → IsExtension I B P root (least - weight I B P) second
 second_extends I B P E root least first (Full new) lighter light h s worse =

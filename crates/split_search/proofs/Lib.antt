@@ -7,6 +7,7 @@ pub mod Parts
 pub mod Steps
 pub mod Extended
 pub mod Heavier
+pub mod Found
 pub mod Closed
 pub mod Proved
 pub mod Ending

@@ -5,7 +5,7 @@ use Rattle.std.proofs.lemmas.Bool.{both_ways, or_left, or_right}
 use Rattle.st_model.specs.declared.branch.Branch.{Branch}
 use Rattle.st_model.specs.declared.tree.Tree.{Tree}
 use Rattle.st_model.specs.Lists.{has}
-use Rattle.st_model.specs.Network.{Network, is_required}
+use Rattle.st_model.specs.Network.{Network, IsVertex, is_required}
 use Rattle.st_model.specs.Branch.{Belongs, NoneIsCertain, with_inside, with_outside, with_vertex}
 use Rattle.st_model.proofs.Halves.{has-with_vertex}
 use Rattle.split_search.specs.Node.{IsPartOf}
@@ -36,3 +36,7 @@ none_certain I R B part none v vertex = by_case (is_required I v) refl (has R.in
     by_case true is i e free = absurd (both_ways (is_required I v || has B.inside v) free (or_left (is_required I v) (has B.inside v) is))
     by_case false is true e free = absurd (both_ways (is_required I v || has B.inside v) free (or_right (is_required I v) (has B.inside v) (part.inside v e)))
     by_case false is false e free = refl
+
+-- where a vertex is required, one is certain in every branch
+pub someone_certain : (I : Network) (B : Branch) (v : ℕ) → IsVertex I.n v → IsTrue (is_required I v) → NoneIsCertain I B → ⊥
+someone_certain I B v vertex required none = both_ways (is_required I v || has B.inside v) (none v vertex) (or_left (is_required I v) (has B.inside v) required)

@@ -1,7 +1,7 @@
 ghost use Rattle.std.specs.Prelude.{◌≡◌, ◌≤◌, IfOk, IfSome, IfNone};
 ghost use Rattle.st_model.specs.declared.branch.Branch.{Branch as Part};
 ghost use Rattle.st_model.specs.Arborescence.{IsTree, cost};
-ghost use Rattle.st_model.specs.Branch.{AreThose, Belongs, IsBranch};
+ghost use Rattle.st_model.specs.Branch.{AreThose, Belongs, IsBranch, LeavesRequired};
 ghost use Rattle.st_model.specs.Network.{IsVertex};
 ghost use Rattle.split_search.specs.Deciding.{is_left_out};
 ghost use Rattle.split_search.specs.Node.{IsPartOf};
@@ -10,6 +10,7 @@ ghost use Rattle.split_search.specs.Step.{IsBetter};
 use crate::step::Priced;
 use crate::used_up::used_up;
 use bidirected_form::Arcs;
+use cut_packing::{Packing, weight};
 use graph_store::Whole;
 use local_search::improve;
 use st_model::{Branch, Instance, Listed, Sides, Tree, VertexSet, tree_cost, walk};
@@ -18,14 +19,15 @@ use tree_heuristic::{first_tree, prune};
 
 /// A tree of the branch that costs less than the least cost known, if one is found: a first tree,
 /// pruned, over the vertices to which arcs with nothing left lead from the root, and those that have
-/// to be reached. Where it costs no more than a limit, it is improved.
+/// to be reached. One that costs more than the least cost known by over twice the gap hardly becomes
+/// the cheapest, and isn't improved. The gap is what the bound is below that cost.
 pub fn better_tree(
     alloc: Global,
     whole: &Whole,
     branch: &Sides,
     arcs: &Arcs,
     least: u64,
-    limit: u128,
+    gap: u64,
 ) -> Result<Option<Priced>, AllocError>
     requires branch { IsBranch whole.now.instance branch.now }
     ensures { IfOk result (λ better. IfSome better (IsBetter whole.now.instance branch.now least)) }
@@ -38,6 +40,7 @@ pub fn better_tree(
         return Ok(None);
     };
     let tree = prune(alloc, &whole.instance, &narrow, tree)?;
+    let limit = least.saturating_add(gap.saturating_mul(2));
     let tree = improved(alloc, whole, branch, tree, limit)?;
     Ok(priced(&whole.instance, tree, least))
 }
@@ -48,7 +51,7 @@ fn improved(
     whole: &Whole,
     branch: &Sides,
     tree: Tree,
-    limit: u128,
+    limit: u64,
 ) -> Result<Tree, AllocError>
     requires branch { IsBranch whole.now.instance branch.now }
     requires tree { IsTree whole.now.instance tree }
@@ -56,10 +59,22 @@ fn improved(
     ensures tree { IfOk result (IsTree whole.now.instance) }
     ensures belongs { IfOk result (Belongs branch.now) }
 {
-    if u128::from(tree_cost(&whole.instance, &tree)) > limit {
+    if tree_cost(&whole.instance, &tree) > limit {
         return Ok(tree);
     }
     improve(alloc, whole, branch, tree)
+}
+
+/// What a packing of the branch weighs less than the least cost known.
+pub fn gap(instance: &Instance, branch: &Sides, packing: &Packing, least: u64) -> u64
+    requires { IsBranch instance.now branch.now }
+{
+    let weighs = weight(instance, branch.branch(), packing);
+    if weighs < u128::from(least) {
+        least.saturating_sub(weighs as u64)
+    } else {
+        0
+    }
 }
 
 /// A tree and its price, if that is less than the least cost known.
@@ -77,9 +92,9 @@ pub fn priced(instance: &Instance, tree: Tree, least: u64) -> Option<Priced>
     }
 }
 
-// The branch, in which each vertex is also outside that is neither required nor inside nor in a
-// set.
-fn narrowed(
+/// The branch, in which each vertex is also outside that is neither required nor inside nor in a
+/// set.
+pub fn narrowed(
     alloc: Global,
     instance: &Instance,
     branch: &Sides,
@@ -88,6 +103,7 @@ fn narrowed(
     requires { IsBranch instance.now branch.now }
     ensures branch { IfOk result (IsBranch instance.now) }
     ensures part { IfOk result (IsPartOf branch.now) }
+    ensures required { LeavesRequired instance.now branch.now → IfOk result (LeavesRequired instance.now) }
 {
     let outside = left_out(alloc, instance, branch, reached)?;
     let before = branch.branch();

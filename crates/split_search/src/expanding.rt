@@ -1,19 +1,22 @@
 ghost use Rattle.std.specs.Prelude.{◌≡◌, ◌<◌, ◌≤◌, IfOk, IfSome};
-ghost use Rattle.st_model.specs.Branch.{IsBranch, NoneIsCertain};
+ghost use Rattle.st_model.specs.Branch.{NoneIsCertain};
 ghost use Rattle.st_model.specs.Lists.{sum_to};
 ghost use Rattle.st_model.specs.Network.{IsInstance, pays};
 ghost use Rattle.cut_packing.specs.Full.{IsFull};
 ghost use Rattle.cut_packing.specs.Packing.{weight};
 ghost use Rattle.cut_packing.specs.ProofTree.{IsSplit};
 ghost use Rattle.branching.specs.Choice.{IsChoice, IsDecided};
+ghost use Rattle.split_search.specs.Finding.{IsFinding};
 ghost use Rattle.split_search.specs.Node.{IsWritableNode};
 ghost use Rattle.split_search.specs.Step.{IsBetter, IsStep, least_after};
 
-use crate::bettering::{better_tree, priced};
+use crate::bettering::{better_tree, gap, priced};
 use crate::deciding::root_of;
+use crate::distances::near_root;
+use crate::guessing::{guess, together};
 use crate::picking::pick;
 use crate::raising::raise;
-use crate::step::{End, Priced, Step};
+use crate::step::{End, Finding, Priced, Step};
 use branching::{Node, choose};
 use cut_packing::{Packing, weight};
 use dual_ascent::{Ascent, Extension};
@@ -109,28 +112,21 @@ fn work_on(
     match ascent {
         Ascent::Reached(packing) => Ok(closed(packing)),
         Ascent::Full(packing) => {
-            let limit = worth_improving(&whole.instance, &branch, &packing, least);
-            let better = better_tree(alloc, whole, &branch, &arcs, least, limit)?;
-            let vertex = pick(&arcs, &whole.instance, &branch, given);
+            let below = gap(&whole.instance, &branch, &packing, least);
+            let better = better_tree(alloc, whole, &branch, &arcs, least, below)?;
+            let known = least_after(least, &better);
+            let near = near_root(alloc, &arcs, gap(&whole.instance, &branch, &packing, known))?;
+            let more = guess(alloc, whole, &branch, &packing, &near, root, known)?;
+            let vertex = pick(&arcs, &whole.instance, &branch, &near, given);
             let branch = branch.into_branch();
             let node = Node {
                 id,
                 branch,
                 packing,
             };
-            Ok(ended(&whole.instance, node, vertex, better, least))
+            Ok(concluded(&whole.instance, node, vertex, together(better, more), least))
         }
     }
-}
-
-// The most that a tree may cost to be worth improving. One that costs more than the least cost known
-// by over twice what the packing weighs less hardly becomes the cheapest.
-fn worth_improving(instance: &Instance, branch: &Sides, packing: &Packing, least: u64) -> u128
-    requires { IsBranch instance.now branch.now }
-{
-    let least = u128::from(least);
-    let gap = least.saturating_sub(weight(instance, branch.branch(), packing));
-    least.saturating_add(gap.saturating_mul(2))
 }
 
 // A split, with no better tree.
@@ -140,6 +136,25 @@ fn split(node: Node, vertex: u32) -> Step
     Step {
         better: None,
         end: End::Split(node, vertex),
+    }
+}
+
+// Ends a node with a full packing, beside which something was found: it closes by a packing that was
+// found to close it.
+fn concluded(instance: &Instance, node: Node, vertex: u32, finding: Finding, least: u64) -> Step
+    requires node { IsWritableNode instance.now node }
+    requires full { IsFull instance.now node.branch node.packing }
+    requires vertex { IsSplit instance.now node.branch vertex }
+    requires finding { IsFinding instance.now node.branch least finding }
+    ensures { IsStep instance.now node least result }
+{
+    let Finding { better, closing } = finding;
+    match closing {
+        Some(packing) => Step {
+            better,
+            end: End::Close(packing),
+        },
+        None => ended(instance, node, vertex, better, least),
     }
 }
 

@@ -8,12 +8,16 @@
 
 mod bettering;
 mod deciding;
+mod distances;
 mod expanding;
 mod gate;
+mod guessing;
 mod node;
 mod picking;
 mod progress;
 mod raising;
+mod repairing;
+mod room;
 mod searched;
 mod searching;
 mod step;

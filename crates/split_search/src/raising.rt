@@ -33,8 +33,8 @@ pub fn raise(
     Ok(first)
 }
 
-// Extends a packing for a root, so that it weighs `least` or is full.
-fn raise_from(
+/// Extends a packing for a root, so that it weighs `least` or is full.
+pub fn raise_from(
     alloc: Global,
     whole: &Whole,
     branch: &Sides,

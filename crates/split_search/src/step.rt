@@ -9,6 +9,14 @@ pub struct Priced {
     pub price: u64,
 }
 
+/// What is found beside a full packing: a tree cheaper than the least cost known, and a packing that
+/// weighs at least the least cost known by then.
+#[derive(Debug, Drop)]
+pub struct Finding {
+    pub better: Option<Priced>,
+    pub closing: Option<Packing>,
+}
+
 /// What the work on a node gave: a tree cheaper than the least cost known, if one was found, and
 /// how the node ends.
 #[derive(Debug, Drop)]

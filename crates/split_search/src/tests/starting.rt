@@ -54,9 +54,10 @@ pub fn bounds_without(
 ) -> Result<Option<(u64, u64)>, AllocError>
     requires { IsVertex whole.now.instance.n vertex }
 {
-    let Some(_required) = first_required(&whole.instance) else {
+    let Some(certain) = first_required(&whole.instance) else {
         return Ok(None);
     };
+    prove!(whole.instance.need(certain) == Need::Required);
     if whole.instance.need(vertex) == Need::Required {
         return Ok(None);
     }

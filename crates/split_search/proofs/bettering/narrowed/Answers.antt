@@ -1,6 +1,6 @@
 use Rattle.std.proofs.Common.{◌≡◌, ap, ◌∙◌}
 use Rattle.st_model.specs.declared.branch.Branch.{Branch}
-use Rattle.split_search.proofs.Narrowing.{narrow_branch, narrow_part}
+use Rattle.split_search.proofs.Narrowing.{narrow_branch, narrow_part, narrow_required}
 use Rattle.split_search.proofs.bettering.narrowed.Goals as goal
 
 pub returns-clause-branch : goal.returns-clause-branch
@@ -14,3 +14,7 @@ returns-clause-part c =
     let same : c.as_slice.result.now ≡ c.args.branch.now.inside = c.as_slice.ensures ∙ ap (λ (b : Branch). b.inside) c.branch-before.ensures in
     let part = narrow_part c.args.instance.now c.args.branch.now c.args.reached.now.members c.in_ok-outside.outside.items c.requires c.in_ok-outside.ensures in
     rw (c.of.ensures, c.in_ok-inside.ensures.items, same, c.of-2.ensures) part
+
+pub returns-clause-required : goal.returns-clause-required
+returns-clause-required c leaves =
+    rw c.of-2.ensures (narrow_required c.args.instance.now c.args.branch.now c.args.reached.now.members c.in_ok-outside.outside.items leaves c.in_ok-outside.ensures)
