@@ -1,332 +1,39 @@
 -- Each event keeps what a state keeps.
-use Rattle.std.proofs.Common.{◌≡◌, ℕ, zero, suc, replicate, Bool, true, false, cond, not, ◌&&◌, ◌+◌, ◌-◌, ◌<◌, ◌≤◌, length, arith, List, [], ◌∷◌, ◌++◌, Option, Some, None, refl, sym, ap, ◌∙◌, subst, inl, inr}
-use Rattle.std.specs.Prelude.{All, Contains, map, min, slice_get, IsTrue, IsFalse, nat_lt, nat_le, find, IfSome, ◌==◌, option_and_then, unwrap_or}
-use Rattle.std.specs.Option.{option_map_or}
-use Rattle.std.proofs.lemmas.Bool.Decides.{nat_tests}
-use Rattle.std.proofs.lemmas.List.Elements.{All-append, All-from_recursion, All-nil, All-push, All-replicate, All-weaker, Contains-append_left, Contains-append_right}
-use Rattle.std.proofs.lemmas.List.{map-append}
-use Rattle.st_model.specs.Branch.{is_free, is_undecided}
-use Rattle.st_model.specs.Network.{Network, IsVertex, is_required}
-use Rattle.cut_packing.specs.declared.packing.Packing.{Packing}
-use Rattle.cut_packing.specs.Packing.{Fits, weight}
-use Rattle.cut_packing.specs.ProofTree.{IsSplit, Closes}
-use Rattle.st_model.specs.declared.branch.Branch.{Branch}
-use Rattle.branching.specs.declared.node.Node.{Node}
-use Rattle.branching.specs.Node.{IsNode, inside_half, outside_half}
-use Rattle.branching.proofs.NoLighter.{inside_node, outside_node}
+use Rattle.std.proofs.Common.{◌≡◌, ℕ, true, false, List, refl}
+use Rattle.branching.specs.Node.{IsNode}
+use Rattle.st_model.specs.Network.{Network}
+use Rattle.search_core.specs.declared.done.End.{End}
+use Rattle.search_core.specs.declared.done.End.TheVariants.{ClaimRefused}
 use Rattle.search_core.specs.declared.event.Event.{Event}
-use Rattle.search_core.specs.declared.event.Event.TheVariants.{Take, Pick, Give, Claim, See, Offer, Up, Split, Close, Down, SeeOpen, SeeHalt, Halt, Keep}
-use Rattle.search_core.specs.declared.done.Done.{Done}
-use Rattle.search_core.specs.declared.done.Done.TheVariants as done
 use Rattle.search_core.specs.declared.made.Made.{Made}
-use Rattle.search_core.specs.State.{State, made_as, hand, held, with_made, changed_at, has_id, seen, beginning, new_worker, root_of}
-use Rattle.search_core.specs.declared.made.Place.TheVariants.{Queue}
-use Rattle.search_core.specs.declared.made.Place.TheVariants as place
-use Rattle.search_core.specs.Needs.{IsAllowed, AllowsSplit, early_fault, can_split, splits_at}
-use Rattle.search_core.specs.Effects.{after, granted, refused, ended, halves_made, id_in_hand}
-use Rattle.search_core.specs.declared.done.End.TheVariants.{OpenZero, HaltSeen}
 use Rattle.search_core.specs.declared.worker.Worker.{Worker}
-use Rattle.search_core.specs.Kept.{IsKept, IsSoundRecord, IsSoundWork, made_nodes, least_offered}
-use Rattle.search_core.proofs.Early.{see_early, split_early, up_early}
-use Rattle.search_core.proofs.Happened.{after_split, split_state, inside_made, outside_made}
-use Rattle.search_core.proofs.NodeLists.{all-with_made, all-found, nodes-with_made, found-id, found-among}
-use Rattle.search_core.proofs.WorkerLists.{all-changed, least-unchanged, least-offer, least-start}
-
--- a change of a node's place and claim keeps it a node
-abbrev AreNodes : Network → List Made → Type 0
-AreNodes I nodes = All (λ m. IsNode I m.node) nodes
-
-kept_nodes : (S : State) (id : ℕ) (f : Made → Made) → ((m : Made) → IsNode S.instance m.node → IsNode S.instance (f m).node) → IsKept S → AreNodes S.instance (with_made S.nodes id f)
-kept_nodes S id f same kept = all-with_made (λ m. IsNode S.instance m.node) S.nodes id f same kept.nodes
-
--- the test of a vertex says that the branch can be split there
-splits : (I : Network) (N : Node) (v : ℕ) → splits_at I N.branch v ≡ true → IsSplit I N.branch v
-splits I N v h =
-    let p = both (nat_le 1 v && nat_le v I.n) (is_free I N.branch v) h in
-    let q = both (nat_le 1 v) (nat_le v I.n) p.0 in
-    let r = both (is_undecided N.branch v) (not (is_required I v)) p.1 in
-    record { vertex = (at_most 1 v q.0, at_most v I.n q.1); undecided = r.0; free = not-true (is_required I v) r.1 }
-  where
-    both : (a b : Bool) → a && b ≡ true → (a ≡ true) × (b ≡ true)
-    both true b h = (refl, h)
-    both false b h = absurd cc
-
-    at_most : (a b : ℕ) → nat_le a b ≡ true → a ≤ b
-    at_most a b h = grind (arith, nat_tests)
-
-    not-true : (b : Bool) → not b ≡ true → IsFalse b
-    not-true true h = absurd cc
-    not-true false h = refl
-
--- the node in a hand is one of the nodes
-held_found : (P : Made → Type 0) (S : State) (w : ℕ) (m : Made) → All P S.nodes → held S w ≡ Some m → P m
-held_found P S w m all e = by_hand (hand S w) e
-  where
-    by_hand : (h : Option ℕ) → option_and_then (made_as S) h ≡ Some m → P m
-    by_hand None e = absurd cc
-    by_hand (Some id) e = all-found P S.nodes id m all e
-
-halves_nodes : (I : Network) (k : Option Made) (w v i o : ℕ) (P : Packing) → IfSome k (λ m. IsNode I m.node × IsSplit I m.node.branch v × Fits I m.node.branch P) → AreNodes I (halves_made k w v i o P)
-halves_nodes I None w v i o P h = All-nil (λ m. IsNode I m.node)
-halves_nodes I (Some m) w v i o P h =
-    let node : IsNode I (record m.node { packing = P }) = record { branch = h.0.branch; required = h.0.required; fits = h.2 } in
-    All-from_recursion (λ m. IsNode I m.node) (halves_made (Some m) w v i o P) (inside_node I (record m.node { packing = P }) v i node h.1, (outside_node I (record m.node { packing = P }) v o node h.1, tt))
-
--- what the need of a split says of the node in hand
-split_halves : (S : State) (w v i o : ℕ) (P : Packing) → IsKept S → IsAllowed S (Split w v i o P) → AreNodes S.instance (halves_made (held S w) w v i o P)
-split_halves S w v i o P kept allowed =
-    by_held (held S w) refl (split_early S w v i o P allowed.early).vertex allowed.packing
-  where
-    by_held : (k : Option Made) → held S w ≡ k → option_map_or (λ m. splits_at S.instance m.node.branch v) k false ≡ true → IfSome k (λ m. AllowsSplit S.instance m.node.branch P (seen S w)) → AreNodes S.instance (halves_made k w v i o P)
-    by_held None e vertex allows = All-nil (λ m. IsNode S.instance m.node)
-    by_held (Some m) e vertex allows = halves_nodes S.instance (Some m) w v i o P (held_found (λ m. IsNode S.instance m.node) S w m kept.nodes e, splits S.instance m.node v vertex, allows.fits)
-
--- what was made before is among what is made after
-abbrev pub AreMore : List Node → List Node → Type 0
-AreMore nodes more = (N : Node) → Contains nodes N → Contains more N
-
--- a record stays sound where more nodes are made, and a lower value is seen
-record-kept : (I : Network) (start : ℕ) (nodes more : List Node) (seen lower : ℕ) → AreMore nodes more → lower ≤ seen → (d : Done) → IsSoundRecord I start nodes seen d → IsSoundRecord I start more lower d
-record-kept I start nodes more seen lower grown low (done.Split id v i o P) (N, h) = (N, record { node = grown N h.node; id_is = h.id_is; vertex = h.vertex; packing = h.packing; inside_made = grown _ h.inside_made; outside_made = grown _ h.outside_made })
-record-kept I start nodes more seen lower grown low (done.Close id P) (N, h) = (N, record { node = grown N h.node; id_is = h.id_is; packing = record { fits = h.packing.fits; weighs = at_least lower seen (weight I N.branch P) low h.packing.weighs } })
-  where
-    at_least : (a b c : ℕ) → a ≤ b → b ≤ c → a ≤ c
-    at_least a b c h k = omega arith
-
--- and so does a worker's work
-work-kept : (I : Network) (start least least' : ℕ) (nodes more : List Node) (seen lower : ℕ) (ds : List Done) → AreMore nodes more → lower ≤ seen → least' ≤ lower → IsSoundWork I start least nodes seen ds → IsSoundWork I start least' more lower ds
-work-kept I start least least' nodes more seen lower ds grown low bound h = record {
-  low = bound;
-  high = at_most lower seen start low h.high;
-  records = All-weaker (IsSoundRecord I start nodes seen) (IsSoundRecord I start more lower) (record-kept I start nodes more seen lower grown low) ds h.records;
-}
-  where
-    at_most : (a b c : ℕ) → a ≤ b → b ≤ c → a ≤ c
-    at_most a b c h k = omega arith
-
--- the workers of a state, where one of them is changed and more nodes may be made
-abbrev AreSound : Network → ℕ → ℕ → List Node → List Worker → Type 0
-AreSound I start least nodes workers = All (λ x. IsSoundWork I start least nodes x.seen x.done) workers
-
--- a change that leaves what was seen and done
-idle_change : (S : State) (w : ℕ) (f : Worker → Worker) (more : List Node) → ((x : Worker) → (f x).seen ≡ x.seen) → ((x : Worker) → (f x).done ≡ x.done) → AreMore (made_nodes S) more → IsKept S → AreSound S.instance S.start S.least more (changed_at S.workers w f)
-idle_change S w f more seen_same done_same grown kept =
-    all-changed _ _ S.workers w f (λ x h. kept_one x h) (λ x e h. rw (seen_same x, done_same x) (kept_one x h)) kept.workers
-  where
-    kept_one : (x : Worker) → IsSoundWork S.instance S.start S.least (made_nodes S) x.seen x.done → IsSoundWork S.instance S.start S.least more x.seen x.done
-    kept_one x h = work-kept S.instance S.start S.least S.least (made_nodes S) more x.seen x.seen x.done grown (omega arith) h.low h
-
--- the same nodes are there after a change of one
-same_nodes : (S : State) (id : ℕ) (f : Made → Made) → ((m : Made) → (f m).node ≡ m.node) → AreMore (made_nodes S) (map (λ m. m.node) (with_made S.nodes id f))
-same_nodes S id f same N h = rw (nodes-with_made S.nodes id f same) h
-
-no_more : (S : State) → AreMore (made_nodes S) (made_nodes S)
-no_more S N h = h
-
--- the work of all, where no worker is changed
-same_work : (S : State) (more : List Node) → AreMore (made_nodes S) more → IsKept S → AreSound S.instance S.start S.least more S.workers
-same_work S more grown kept =
-    All-weaker _ _ (λ x h. work-kept S.instance S.start S.least S.least (made_nodes S) more x.seen x.seen x.done grown (omega arith) h.low h) S.workers kept.workers
-
--- the least offer, where no offer is changed
-same_least : (S : State) (w : ℕ) (f : Worker → Worker) → ((x : Worker) → (f x).offered ≡ x.offered) → IsKept S → S.least ≡ least_offered S.start (changed_at S.workers w f)
-same_least S w f same kept = kept.least ∙ sym (least-unchanged S.start S.workers w f same)
-
--- a change of one worker that leaves what it saw, offered and did
-pub kept_idle : (S : State) (w : ℕ) (f : Worker → Worker) (opened : ℕ) → ((x : Worker) → (f x).seen ≡ x.seen) → ((x : Worker) → (f x).done ≡ x.done) → ((x : Worker) → (f x).offered ≡ x.offered) → IsKept S → IsKept (record S { workers = changed_at S.workers w f; opened = opened })
-kept_idle S w f opened seen_same done_same offered_same kept = record {
-  nodes = kept.nodes;
-  workers = idle_change S w f (made_nodes S) seen_same done_same (no_more S) kept;
-  least = same_least S w f offered_same kept;
-  claims = kept.claims;
-}
-
--- a change of one node's place or claim
-kept_moved : (S : State) (id : ℕ) (f : Made → Made) (claims : ℕ) → ((m : Made) → (f m).node ≡ m.node) → claims ≤ S.budget → IsKept S → IsKept (record S { nodes = with_made S.nodes id f; claims = claims })
-kept_moved S id f claims same bound kept = record {
-  nodes = kept_nodes S id f (λ m h. rw (same m) h) kept;
-  workers = same_work S (map (λ m. m.node) (with_made S.nodes id f)) (same_nodes S id f same) kept;
-  least = kept.least;
-  claims = bound;
-}
-
--- a state with its own counts is the state
-kept_claim : (S : State) (w : ℕ) → IsKept S → IsKept (after S (Claim w))
-kept_claim S w kept = by_test (nat_lt S.claims S.budget) refl
-  where
-    below : (a b : ℕ) → nat_lt a b ≡ true → a + 1 ≤ b
-    below a b h = grind (arith, nat_tests)
-
-    by_test : (b : Bool) → nat_lt S.claims S.budget ≡ b → IsKept (cond b (granted S w) (refused S w))
-    by_test true e = kept_moved S (id_in_hand S w) (λ m. record m { claimed = true }) (S.claims + 1) (λ m. refl) (below S.claims S.budget e) kept
-    by_test false e = kept_idle S w _ S.opened (λ x. refl) (λ x. refl) (λ x. refl) kept
-
-kept_see : (S : State) (w : ℕ) → IsKept S → IsKept (after S (See w))
-kept_see S w kept = record {
-  nodes = kept.nodes;
-  workers = all-changed _ _ S.workers w _ (λ x h. h) (λ x e h. work-kept S.instance S.start S.least S.least (made_nodes S) (made_nodes S) x.seen S.least x.done (no_more S) h.low (omega arith) h) kept.workers;
-  least = same_least S w _ (λ x. refl) kept;
-  claims = kept.claims;
-}
-
-kept_offer : (S : State) (w value : ℕ) → w < length S.workers → IsKept S → IsKept (after S (Offer w value))
-kept_offer S w value there kept = record {
-  nodes = kept.nodes;
-  workers = all-changed _ _ S.workers w _ (λ x h. work-kept S.instance S.start S.least (min S.least value) (made_nodes S) (made_nodes S) x.seen x.seen x.done (no_more S) (omega arith) (lower S.least value x.seen h.low) h) (λ x e h. work-kept S.instance S.start S.least (min S.least value) (made_nodes S) (made_nodes S) x.seen (min S.least value) x.done (no_more S) (lower S.least value x.seen h.low) (omega arith) h) kept.workers;
-  least = ap (λ n. min n value) kept.least ∙ sym (least-offer S.start value S.workers w _ (λ x. refl) there);
-  claims = kept.claims;
-}
-  where
-    lower : (a b c : ℕ) → a ≤ c → min a b ≤ c
-    lower a b c h = omega arith
-
--- a node that goes from place to place with its worker
-kept_carried : (S : State) (id w : ℕ) (f : Made → Made) (g : Worker → Worker) → ((m : Made) → (f m).node ≡ m.node) → ((x : Worker) → (g x).seen ≡ x.seen) → ((x : Worker) → (g x).done ≡ x.done) → ((x : Worker) → (g x).offered ≡ x.offered) → IsKept S → IsKept (record S { nodes = with_made S.nodes id f; workers = changed_at S.workers w g })
-kept_carried S id w f g same seen_same done_same offered_same kept =
-    kept_idle (record S { nodes = with_made S.nodes id f }) w g S.opened seen_same done_same offered_same (kept_moved S id f S.claims same kept.claims kept)
-
--- the node in a hand is one of those that were made, under an id
-pub record HeldNode (S : State) (w : ℕ) (m : Made) : Type 0 where
-  pub id : ℕ
-  pub in_hand : hand S w ≡ Some id
-  pub found : made_as S id ≡ Some m
-
-pub held_node : (S : State) (w : ℕ) (m : Made) → held S w ≡ Some m → HeldNode S w m
-held_node S w m e = by_hand (hand S w) refl e
-  where
-    by_hand : (h : Option ℕ) → hand S w ≡ h → option_and_then (made_as S) h ≡ Some m → HeldNode S w m
-    by_hand None is e = absurd cc
-    by_hand (Some id) is e = record { id = id; in_hand = is; found = e }
-
--- what w saw is what its worker saw
-seen_by : (S : State) (w : ℕ) (x : Worker) → slice_get S.workers w ≡ Some x → seen S w ≡ x.seen
-seen_by S w x e = ap (λ (o : Option Worker). option_map_or (λ y. y.seen) o 0) e
-
--- what allows a split below a value does so below a greater one
-allows_below : (I : Network) (B : Branch) (P : Packing) (x y : ℕ) → x ≤ y → AllowsSplit I B P x → AllowsSplit I B P y
-allows_below I B P x y bound allows = record { fits = allows.fits; full = elim allows.full [ inl f ↦ inl (record { full = f.full; below = lower (weight I B P) x y f.below bound }) | inr n ↦ inr n ] }
-  where
-    lower : (a b c : ℕ) → a < b → b ≤ c → a < c
-    lower a b c h k = omega arith
-
--- the nodes after a split: those before it, and the halves
-split_nodes : (S : State) (w v i o : ℕ) (P : Packing) (id : ℕ) (m : Made) → made_nodes (split_state S w v i o P id m) ≡ made_nodes S ++ (inside_made m w v i P).node ∷ (outside_made m w v o P).node ∷ []
-split_nodes S w v i o P id m =
-    nodes-with_made (S.nodes ++ inside_made m w v i P ∷ outside_made m w v o P ∷ []) id (λ m. record m { place = place.Split }) (λ m. refl)
-    ∙ map-append (λ (m : Made). m.node) S.nodes (inside_made m w v i P ∷ outside_made m w v o P ∷ [])
-
--- a split of a node at a vertex where it can be, on a packing that allows it
-kept_halves : (S : State) (w v i o : ℕ) (P : Packing) (id : ℕ) (m : Made) → made_as S id ≡ Some m → IsSplit S.instance m.node.branch v → AllowsSplit S.instance m.node.branch P (seen S w) → AreNodes S.instance (halves_made (Some m) w v i o P) → IsKept S → IsKept (split_state S w v i o P id m)
-kept_halves S w v i o P id m found vertex allows halves kept = record {
-  nodes = all-with_made (λ m. IsNode S.instance m.node) (S.nodes ++ halves_made (Some m) w v i o P) id _ (λ m h. h) (All-append (λ m. IsNode S.instance m.node) S.nodes (halves_made (Some m) w v i o P) kept.nodes halves);
-  workers = all-changed _ _ S.workers w _ (λ x h. kept_one x h) (λ x e h. work x e h) kept.workers;
-  least = same_least S w _ (λ x. refl) kept;
-  claims = kept.claims;
-}
-  where
-    halves_are : (N : Node) → Contains ((inside_made m w v i P).node ∷ (outside_made m w v o P).node ∷ []) N → Contains (made_nodes (split_state S w v i o P id m)) N
-    halves_are N h = rw (split_nodes S w v i o P id m) (Contains-append_right (made_nodes S) ((inside_made m w v i P).node ∷ (outside_made m w v o P).node ∷ []) N h)
-
-    grown : AreMore (made_nodes S) (made_nodes (split_state S w v i o P id m))
-    grown N h = rw (split_nodes S w v i o P id m) (Contains-append_left (made_nodes S) ((inside_made m w v i P).node ∷ (outside_made m w v o P).node ∷ []) N h)
-
-    kept_one : (x : Worker) → IsSoundWork S.instance S.start S.least (made_nodes S) x.seen x.done → IsSoundWork S.instance S.start S.least (made_nodes (split_state S w v i o P id m)) x.seen x.done
-    kept_one x h = work-kept S.instance S.start S.least S.least (made_nodes S) (made_nodes (split_state S w v i o P id m)) x.seen x.seen x.done grown (omega arith) h.low h
-
-    at_most : (a b c : ℕ) → a ≡ b → b ≤ c → a ≤ c
-    at_most a b c h k = omega arith
-
-    work : (x : Worker) → slice_get S.workers w ≡ Some x → IsSoundWork S.instance S.start S.least (made_nodes S) x.seen x.done → IsSoundWork S.instance S.start S.least (made_nodes (split_state S w v i o P id m)) x.seen (x.done ++ done.Split id v i o P ∷ [])
-    work x e h = record {
-      low = h.low; high = h.high;
-      records = All-push (IsSoundRecord S.instance S.start (made_nodes (split_state S w v i o P id m)) x.seen) x.done (done.Split id v i o P) (kept_one x h).records (m.node, record {
-        node = grown m.node (found-among S.nodes id m found);
-        id_is = found-id S.nodes id m found;
-        vertex = vertex;
-        packing = allows_below S.instance m.node.branch P (seen S w) S.start (at_most (seen S w) x.seen S.start (seen_by S w x e) h.high) allows;
-        inside_made = halves_are _ (0, omega arith, refl);
-        outside_made = halves_are _ (1, omega arith, refl);
-      });
-    }
-
--- a close of a node by a packing that fits it and weighs at least what was seen
-kept_closed : (S : State) (w : ℕ) (P : Packing) (m : Made) (id : ℕ) → id_in_hand S w ≡ id → made_as S id ≡ Some m → Closes S.instance m.node.branch (seen S w) P → IsKept S → IsKept (after S (Close w P))
-kept_closed S w P m id in_hand found closes kept = record {
-  nodes = kept_nodes S (id_in_hand S w) (λ m. record m { place = place.Closed }) (λ m h. h) kept;
-  workers = all-changed _ _ S.workers w _ (λ x h. kept_one x h) (λ x e h. work x e h) kept.workers;
-  least = same_least S w _ (λ x. refl) kept;
-  claims = kept.claims;
-}
-  where
-    grown : AreMore (made_nodes S) (made_nodes (after S (Close w P)))
-    grown = same_nodes S (id_in_hand S w) (λ m. record m { place = place.Closed }) (λ m. refl)
-
-    kept_one : (x : Worker) → IsSoundWork S.instance S.start S.least (made_nodes S) x.seen x.done → IsSoundWork S.instance S.start S.least (made_nodes (after S (Close w P))) x.seen x.done
-    kept_one x h = work-kept S.instance S.start S.least S.least (made_nodes S) (made_nodes (after S (Close w P))) x.seen x.seen x.done grown (omega arith) h.low h
-
-    work : (x : Worker) → slice_get S.workers w ≡ Some x → IsSoundWork S.instance S.start S.least (made_nodes S) x.seen x.done → IsSoundWork S.instance S.start S.least (made_nodes (after S (Close w P))) x.seen (x.done ++ done.Close (id_in_hand S w) P ∷ [])
-    work x e h = record {
-      low = h.low; high = h.high;
-      records = All-push (IsSoundRecord S.instance S.start (made_nodes (after S (Close w P))) x.seen) x.done (done.Close (id_in_hand S w) P) (kept_one x h).records (m.node, record {
-        node = grown m.node (found-among S.nodes id m found);
-        id_is = found-id S.nodes id m found ∙ sym in_hand;
-        packing = subst (λ (n : ℕ). Closes S.instance m.node.branch n P) (seen_by S w x e) closes;
-      });
-    }
-
-kept_split : (S : State) (w v i o : ℕ) (P : Packing) → IsKept S → IsAllowed S (Split w v i o P) → IsKept (after S (Split w v i o P))
-kept_split S w v i o P kept allowed =
-    let early = split_early S w v i o P allowed.early in
-    let m = early.made in
-    let at = held_node S w m early.held in
-    let halves : AreNodes S.instance (halves_made (Some m) w v i o P) = subst (λ (k : Option Made). AreNodes S.instance (halves_made k w v i o P)) early.held (split_halves S w v i o P kept allowed) in
-    let vertex : splits_at S.instance m.node.branch v ≡ true = subst (λ (k : Option Made). option_map_or (λ m. splits_at S.instance m.node.branch v) k false ≡ true) early.held early.vertex in
-    let allows : AllowsSplit S.instance m.node.branch P (seen S w) = subst (λ (k : Option Made). IfSome k (λ m. AllowsSplit S.instance m.node.branch P (seen S w))) early.held allowed.packing in
-    subst (λ (T : State). IsKept T) (sym (after_split S w v i o P at.id m at.in_hand at.found)) (kept_halves S w v i o P at.id m at.found (splits S.instance m.node v vertex) allows halves kept)
-
-kept_close : (S : State) (w : ℕ) (P : Packing) → IsKept S → IsAllowed S (Close w P) → IsKept (after S (Close w P))
-kept_close S w P kept allowed =
-    let early = up_early S w allowed.early in
-    let m = early.made in
-    let at = held_node S w m early.held in
-    let closes : Closes S.instance m.node.branch (seen S w) P = subst (λ (k : Option Made). IfSome k (λ m. Closes S.instance m.node.branch (seen S w) P)) early.held allowed.packing in
-    kept_closed S w P m at.id (ap (λ (h : Option ℕ). unwrap_or h 0) at.in_hand) at.found closes kept
+use Rattle.search_core.specs.State.{State, beginning, root_of}
+use Rattle.search_core.specs.Needs.{IsAllowed}
+use Rattle.search_core.specs.Effects.{after, ended, refused}
+use Rattle.search_core.specs.Kept.{IsKept}
+use Rattle.search_core.proofs.Soundness.{sound_after, sound_beginning, sound_idle}
+use Rattle.search_core.proofs.Counting.{counted_after, counted_beginning, counted_idle}
 
 pub kept_after : (S : State) (e : Event) → IsKept S → IsAllowed S e → IsKept (after S e)
-kept_after S (Take w id) kept allowed = kept_carried S id w _ _ (λ m. refl) (λ x. refl) (λ x. refl) (λ x. refl) kept
-kept_after S (Pick w id) kept allowed = kept_carried S id w _ _ (λ m. refl) (λ x. refl) (λ x. refl) (λ x. refl) kept
-kept_after S (Give w id) kept allowed = kept_moved S id _ S.claims (λ m. refl) kept.claims kept
-kept_after S (Keep w id) kept allowed = kept_carried S id w _ _ (λ m. refl) (λ x. refl) (λ x. refl) (λ x. refl) kept
-kept_after S (Claim w) kept allowed = kept_claim S w kept
-kept_after S (See w) kept allowed = kept_see S w kept
-kept_after S (Offer w value) kept allowed = kept_offer S w value (see_early S w allowed.early) kept
-kept_after S (Up w) kept allowed = kept_idle S w _ (S.opened + 1) (λ x. refl) (λ x. refl) (λ x. refl) kept
-kept_after S (Split w v i o P) kept allowed = kept_split S w v i o P kept allowed
-kept_after S (Close w P) kept allowed = kept_close S w P kept allowed
-kept_after S (Down w) kept allowed = kept_idle S w _ (S.opened - 1) (λ x. refl) (λ x. refl) (λ x. refl) kept
-kept_after S (SeeOpen w) kept allowed = by_test (S.opened == 0)
-  where
-    by_test : (b : Bool) → IsKept (cond b (ended S w OpenZero) S)
-    by_test true = kept_idle S w _ S.opened (λ x. refl) (λ x. refl) (λ x. refl) kept
-    by_test false = kept
-kept_after S (SeeHalt w) kept allowed = by_test S.halted
-  where
-    by_test : (b : Bool) → IsKept (cond b (ended S w HaltSeen) S)
-    by_test true = kept_idle S w _ S.opened (λ x. refl) (λ x. refl) (λ x. refl) kept
-    by_test false = kept
-kept_after S (Halt w) kept allowed = record { nodes = kept.nodes; workers = kept.workers; least = kept.least; claims = kept.claims }
+kept_after S e kept allowed = record { sound = sound_after S e kept.sound allowed; counted = counted_after S e kept.counted allowed }
 
--- and the beginning does
 pub kept_beginning : (I : Network) (gone : List ℕ) (workers budget start : ℕ) → IsNode I (root_of gone) → IsKept (beginning I gone workers budget start)
-kept_beginning I gone workers budget start root = record { workers = All-replicate (λ x. IsSoundWork I start start (root_of gone ∷ []) x.seen x.done) workers (new_worker start) (record { low = omega arith; high = omega arith; records = All-nil (IsSoundRecord I start (root_of gone ∷ []) start) }); least = sym (all_start workers); claims = omega arith; nodes = All-from_recursion (λ m. IsNode I m.node) (record { node = root_of gone; place = Queue 0; claimed = false } ∷ []) (root, tt) }
-  where
-    both_start : (a b : ℕ) → b ≡ a → min a b ≡ a
-    both_start a b h = omega arith
-
-    all_start : (n : ℕ) → least_offered start (replicate n (new_worker start)) ≡ start
-    all_start zero = refl
-    all_start (suc n) = both_start start (least_offered start (replicate n (new_worker start))) (all_start n)
+kept_beginning I gone workers budget start root = record { sound = sound_beginning I gone workers budget start root; counted = counted_beginning I gone workers budget start }
 
 -- the same where the parts are known by equations
 pub kept_begun : (I : Network) (gone : List ℕ) (count budget start : ℕ) (I' : Network) (gone' : List ℕ) (nodes : List Made) (workers : List Worker) → IsNode I (root_of gone) → I' ≡ I → gone' ≡ gone → nodes ≡ (beginning I gone count budget start).nodes → workers ≡ (beginning I gone count budget start).workers → IsKept (record { instance = I'; gone = gone'; start = start; budget = budget; nodes = nodes; workers = workers; least = start; claims = 0; opened = 1; halted = false })
 kept_begun I gone count budget start I' gone' nodes workers root a b d e = rw (a, b, d, e) (kept_beginning I gone count budget start root)
+
+-- the end of a worker
+pub kept_ended : (S : State) (w : ℕ) (why : End) → IsKept S → IsKept (ended S w why)
+kept_ended S w why kept = record {
+  sound = sound_idle S w (λ x. record x { end = why }) S.opened (λ x. refl) (λ x. refl) (λ x. refl) kept.sound;
+  counted = counted_idle S w (λ x. record x { end = why }) (λ x. refl) (λ x. refl) (λ x. refl) kept.counted;
+}
+
+-- a claim that is refused
+pub kept_refused : (S : State) (w : ℕ) → IsKept S → IsKept (refused S w)
+kept_refused S w kept = record {
+  sound = sound_idle S w (λ x. record x { refused = true; end = ClaimRefused }) S.opened (λ x. refl) (λ x. refl) (λ x. refl) kept.sound;
+  counted = counted_idle S w (λ x. record x { refused = true; end = ClaimRefused }) (λ x. refl) (λ x. refl) (λ x. refl) kept.counted;
+}

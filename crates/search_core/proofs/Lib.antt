@@ -1,5 +1,7 @@
 pub mod Found
 pub mod Changed
+pub mod Soundness
+pub mod Counting
 pub mod Keeping
 pub mod Early
 pub mod NodeLists
@@ -8,3 +10,4 @@ pub mod Serving
 pub mod Rooted
 pub mod WorkerLists
 pub mod Running
+pub mod Look

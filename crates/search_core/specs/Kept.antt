@@ -1,5 +1,6 @@
 -- What every state keeps that a search reaches from its beginning.
-use Rattle.std.specs.Prelude.{◌≡◌, ℕ, ◌≤◌, min, List, [], ◌∷◌, map, All, Contains}
+use Rattle.std.specs.Prelude.{◌≡◌, ℕ, ◌+◌, ◌≤◌, min, Bool, true, not, if◌then◌else◌, Option, Some, List, [], ◌∷◌, map, find, All, Contains}
+use Rattle.st_model.specs.Lists.{total}
 use Rattle.st_model.specs.Network.{Network}
 use Rattle.cut_packing.specs.declared.packing.Packing.{Packing}
 use Rattle.cut_packing.specs.ProofTree.{IsSplit, Closes}
@@ -8,8 +9,12 @@ use Rattle.branching.specs.Node.{IsNode, inside_half, outside_half}
 use Rattle.search_core.specs.declared.done.Done.{Done}
 use Rattle.search_core.specs.declared.done.Done.TheVariants.{Split, Close}
 use Rattle.search_core.specs.declared.worker.Worker.{Worker}
-use Rattle.search_core.specs.Needs.{AllowsSplit}
-use Rattle.search_core.specs.State.{State}
+use Rattle.search_core.specs.declared.made.Made.{Made}
+use Rattle.search_core.specs.declared.made.Place.{Place}
+use Rattle.search_core.specs.declared.made.Place.TheVariants.{Queue, Hand, Fresh, Left}
+use Rattle.search_core.specs.Needs.{AllowsSplit, is_claimed, up_waits}
+use Rattle.search_core.specs.Settled.{is_done}
+use Rattle.search_core.specs.State.{State, has_id, hand}
 
 -- the nodes that were made, as they were made
 abbrev pub made_nodes : State → List Node
@@ -46,7 +51,8 @@ pub record IsSoundWork (I : Network) (start least : ℕ) (nodes : List Node) (se
   pub high : seen ≤ start
   pub records : All (IsSoundRecord I start nodes seen) done
 
-pub record IsKept (S : State) : Type 0 where
+-- what is said of nodes, and of what each worker saw and did
+pub record IsSound (S : State) : Type 0 where
   -- each node is a branch of the instance, with a packing that fits it
   pub nodes : All (λ m. IsNode S.instance m.node) S.nodes
   -- what each worker saw and did is sound
@@ -55,3 +61,54 @@ pub record IsKept (S : State) : Type 0 where
   pub least : S.least ≡ least_offered S.start S.workers
   -- no more claims are granted than the budget allows
   pub claims : S.claims ≤ S.budget
+
+-- 1 for what holds, so that a sum counts
+abbrev pub one_if : Bool → ℕ
+one_if b = if b then 1 else 0
+
+-- whether a node of this place may be claimed or not: only one in hand may be either
+abbrev pub claim_fits : Place → Bool → Bool
+claim_fits (Queue w) claimed = not claimed
+claim_fits (Hand w) claimed = true
+claim_fits (Fresh w) claimed = not claimed
+claim_fits (Left w) claimed = not claimed
+claim_fits _ claimed = claimed
+
+-- how many nodes are neither split nor closed
+abbrev pub undone : List Made → ℕ
+undone nodes = total (λ m. one_if (not (is_done m.place))) nodes
+
+-- how many nodes are claimed
+abbrev pub claimed : List Made → ℕ
+claimed nodes = total (λ m. one_if m.claimed) nodes
+
+-- how many ups wait for their split
+abbrev pub ups_waiting : List Worker → ℕ
+ups_waiting workers = total (λ x. one_if x.up) workers
+
+-- how many closes wait for their down
+abbrev pub closes_waiting : List Worker → ℕ
+closes_waiting workers = total (λ x. x.closes) workers
+
+-- the node under an id is in the hand of w
+pub record InHand (nodes : List Made) (w id : ℕ) : Type 0 where
+  pub made : Made
+  pub found : find (has_id id) nodes ≡ Some made
+  pub place : made.place ≡ Hand w
+
+-- what is said of counts
+pub record IsCounted (S : State) : Type 0 where
+  -- what a worker has in its hand stands there
+  pub hands : (w id : ℕ) → hand S w ≡ Some id → InHand S.nodes w id
+  -- an up waits for a node that is in hand, and claimed
+  pub ups : (w : ℕ) → up_waits S w ≡ true → is_claimed S w ≡ true
+  -- split and closed nodes are claimed, and of the others at most those in hands
+  pub places : All (λ m. claim_fits m.place m.claimed ≡ true) S.nodes
+  -- claims went to nodes
+  pub claims : S.claims ≡ claimed S.nodes
+  -- open are the nodes that are neither split nor closed, the ups that wait and the closes that wait
+  pub opened : S.opened ≡ undone S.nodes + ups_waiting S.workers + closes_waiting S.workers
+
+pub record IsKept (S : State) : Type 0 where
+  pub sound : IsSound S
+  pub counted : IsCounted S

@@ -4,6 +4,7 @@ ghost use Rattle.st_model.specs.Branch.{IsVertexSet};
 ghost use Rattle.st_model.specs.Lists.{has};
 ghost use Rattle.st_model.specs.Network.{is_required};
 ghost use Rattle.branching.specs.Node.{IsNode};
+ghost use Rattle.search_core.specs.Kept.{IsKept};
 ghost use Rattle.search_core.specs.State.{beginning, hand, held, made_as, new_worker, root_of, seen};
 
 use crate::nodes::Nodes;
@@ -75,14 +76,16 @@ impl Search {
 
     /// The least of the start cost and all offers.
     pub fn least(&self) -> u64
-        ensures { result ≡ self.now.least }
+        ensures least { result ≡ self.now.least }
+        ensures kept { IsKept self.now }
     {
         self.least
     }
 
     /// How many nodes are counted as open.
     pub fn open_count(&self) -> u64
-        ensures { result ≡ self.now.opened }
+        ensures count { result ≡ self.now.opened }
+        ensures kept { IsKept self.now }
     {
         self.opened
     }

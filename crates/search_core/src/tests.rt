@@ -62,7 +62,13 @@ fn close(alloc: Global, first: u64) -> Result<Event, AllocError> {
     })
 }
 
-fn split(alloc: Global, v: u32, inside: u64, outside: u64, first: u64) -> Result<Event, AllocError> {
+fn split(
+    alloc: Global,
+    v: u32,
+    inside: u64,
+    outside: u64,
+    first: u64,
+) -> Result<Event, AllocError> {
     Ok(Event::Split {
         w: 0,
         v,
@@ -83,14 +89,16 @@ fn counts(all: &Gathered) -> Option<(usize, usize, usize, u64)> {
 // Whether the root of the triangle is closed on the spot.
 fn closes_the_root(alloc: Global) -> Result<bool, AllocError> {
     let mut search = triangle(alloc, 1, 6)?;
-    Ok(refuses(&mut search, close(alloc, 2)?, EventFault::HandEmpty)?
-        && takes(&mut search, Event::Take { w: 0, id: 0 })?
-        && takes(&mut search, Event::Claim { w: 0 })?
-        && takes(&mut search, close(alloc, 2)?)?
-        && takes(&mut search, Event::Down { w: 0 })?
-        && search.open_count() == 0
-        && search.least() == 6
-        && ends_with_a_close(&search.segments()?))
+    Ok(
+        refuses(&mut search, close(alloc, 2)?, EventFault::HandEmpty)?
+            && takes(&mut search, Event::Take { w: 0, id: 0 })?
+            && takes(&mut search, Event::Claim { w: 0 })?
+            && takes(&mut search, close(alloc, 2)?)?
+            && takes(&mut search, Event::Down { w: 0 })?
+            && search.open_count() == 0
+            && search.least() == 6
+            && ends_with_a_close(&search.segments()?),
+    )
 }
 
 // Whether all that was done is one close.
@@ -113,72 +121,82 @@ fn one_packing_closes_the_triangle(rt: HostRuntime) -> Result<(), Fail> {
 
 // Whether each event is refused that needs a node elsewhere, before anything was taken.
 fn refuses_without_a_node(alloc: Global, search: &mut Search) -> Result<bool, AllocError> {
-    Ok(refuses(search, Event::See { w: 1 }, EventFault::NoWorker)?
-        && refuses(search, Event::Take { w: 1, id: 0 }, EventFault::NoWorker)?
-        && refuses(search, Event::Take { w: 0, id: 5 }, EventFault::NotThere)?
-        && refuses(search, Event::Pick { w: 0, id: 0 }, EventFault::NotThere)?
-        && refuses(search, Event::Give { w: 0, id: 0 }, EventFault::NotThere)?
-        && refuses(search, Event::Keep { w: 0, id: 0 }, EventFault::NotThere)?
-        && refuses(search, Event::Claim { w: 0 }, EventFault::HandEmpty)?
-        && refuses(search, Event::Up { w: 0 }, EventFault::HandEmpty)?
-        && refuses(search, split(alloc, 4, 1, 2, 2)?, EventFault::HandEmpty)?
-        && refuses(search, Event::Down { w: 0 }, EventFault::OutOfTurn)?
-        && refuses(search, Event::Halt { w: 0 }, EventFault::NotRefused)?)
+    Ok(
+        refuses(search, Event::See { w: 1 }, EventFault::NoWorker)?
+            && refuses(search, Event::Take { w: 1, id: 0 }, EventFault::NoWorker)?
+            && refuses(search, Event::Take { w: 0, id: 5 }, EventFault::NotThere)?
+            && refuses(search, Event::Pick { w: 0, id: 0 }, EventFault::NotThere)?
+            && refuses(search, Event::Give { w: 0, id: 0 }, EventFault::NotThere)?
+            && refuses(search, Event::Keep { w: 0, id: 0 }, EventFault::NotThere)?
+            && refuses(search, Event::Claim { w: 0 }, EventFault::HandEmpty)?
+            && refuses(search, Event::Up { w: 0 }, EventFault::HandEmpty)?
+            && refuses(search, split(alloc, 4, 1, 2, 2)?, EventFault::HandEmpty)?
+            && refuses(search, Event::Down { w: 0 }, EventFault::OutOfTurn)?
+            && refuses(search, Event::Halt { w: 0 }, EventFault::NotRefused)?,
+    )
 }
 
 // Whether a node in hand is claimed once, and can't be closed before.
 fn claims_once(alloc: Global, search: &mut Search) -> Result<bool, AllocError> {
-    Ok(takes(search, Event::Take { w: 0, id: 0 })?
-        && refuses(search, Event::Take { w: 0, id: 0 }, EventFault::HandFull)?
-        && refuses(search, Event::Pick { w: 0, id: 0 }, EventFault::HandFull)?
-        && refuses(search, Event::Up { w: 0 }, EventFault::NotClaimed)?
-        && refuses(search, close(alloc, 2)?, EventFault::NotClaimed)?
-        && refuses(search, split(alloc, 4, 1, 2, 2)?, EventFault::OutOfTurn)?
-        && takes(search, Event::Claim { w: 0 })?
-        && refuses(search, Event::Claim { w: 0 }, EventFault::IsClaimed)?
-        && refuses(search, Event::Keep { w: 0, id: 0 }, EventFault::IsClaimed)?
-        && refuses(search, close(alloc, 3)?, EventFault::BadPacking)?
-        && refuses(search, close(alloc, 2)?, EventFault::TooLight)?)
+    Ok(
+        takes(search, Event::Take { w: 0, id: 0 })?
+            && refuses(search, Event::Take { w: 0, id: 0 }, EventFault::HandFull)?
+            && refuses(search, Event::Pick { w: 0, id: 0 }, EventFault::HandFull)?
+            && refuses(search, Event::Up { w: 0 }, EventFault::NotClaimed)?
+            && refuses(search, close(alloc, 2)?, EventFault::NotClaimed)?
+            && refuses(search, split(alloc, 4, 1, 2, 2)?, EventFault::OutOfTurn)?
+            && takes(search, Event::Claim { w: 0 })?
+            && refuses(search, Event::Claim { w: 0 }, EventFault::IsClaimed)?
+            && refuses(search, Event::Keep { w: 0, id: 0 }, EventFault::IsClaimed)?
+            && refuses(search, close(alloc, 3)?, EventFault::BadPacking)?
+            && refuses(search, close(alloc, 2)?, EventFault::TooLight)?,
+    )
 }
 
 // Whether the claimed node is split after an up, at its centre alone, and on a full packing.
 fn splits_once(alloc: Global, search: &mut Search) -> Result<bool, AllocError> {
-    Ok(takes(search, Event::Up { w: 0 })?
-        && search.open_count() == 2
-        && refuses(search, Event::Up { w: 0 }, EventFault::OutOfTurn)?
-        && refuses(search, close(alloc, 2)?, EventFault::OutOfTurn)?
-        && refuses(search, split(alloc, 1, 1, 2, 2)?, EventFault::BadVertex)?
-        && refuses(search, split(alloc, 5, 1, 2, 2)?, EventFault::BadVertex)?
-        && refuses(search, split(alloc, 4, 1, 1, 2)?, EventFault::UsedId)?
-        && refuses(search, split(alloc, 4, 1, 0, 2)?, EventFault::UsedId)?
-        && refuses(search, split(alloc, 4, 1, 2, 1)?, EventFault::BadPacking)?
-        && takes(search, split(alloc, 4, 1, 2, 2)?)?
-        && search.open_count() == 2)
+    Ok(
+        takes(search, Event::Up { w: 0 })?
+            && search.open_count() == 2
+            && refuses(search, Event::Up { w: 0 }, EventFault::OutOfTurn)?
+            && refuses(search, close(alloc, 2)?, EventFault::OutOfTurn)?
+            && refuses(search, split(alloc, 1, 1, 2, 2)?, EventFault::BadVertex)?
+            && refuses(search, split(alloc, 5, 1, 2, 2)?, EventFault::BadVertex)?
+            && refuses(search, split(alloc, 4, 1, 1, 2)?, EventFault::UsedId)?
+            && refuses(search, split(alloc, 4, 1, 0, 2)?, EventFault::UsedId)?
+            && refuses(search, split(alloc, 4, 1, 2, 1)?, EventFault::BadPacking)?
+            && takes(search, split(alloc, 4, 1, 2, 2)?)?
+            && search.open_count() == 2,
+    )
 }
 
 // Whether the half inside is closed, and the other is left where its claim is refused.
 fn leaves_the_rest(alloc: Global, search: &mut Search) -> Result<bool, AllocError> {
-    Ok(takes(search, Event::Claim { w: 0 })?
-        && takes(search, Event::Offer { w: 0, value: 6 })?
-        && search.least() == 6
-        && takes(search, close(alloc, 2)?)?
-        && takes(search, Event::Pick { w: 0, id: 2 })?
-        && takes(search, Event::Claim { w: 0 })?
-        && refuses(search, Event::Claim { w: 0 }, EventFault::WasRefused)?
-        && takes(search, Event::Halt { w: 0 })?
-        && takes(search, Event::Keep { w: 0, id: 2 })?
-        && takes(search, Event::Down { w: 0 })?
-        && search.open_count() == 1
-        && counts(&search.segments()?) == Some((2, 1, 0, 2)))
+    Ok(
+        takes(search, Event::Claim { w: 0 })?
+            && takes(search, Event::Offer { w: 0, value: 6 })?
+            && search.least() == 6
+            && takes(search, close(alloc, 2)?)?
+            && takes(search, Event::Pick { w: 0, id: 2 })?
+            && takes(search, Event::Claim { w: 0 })?
+            && refuses(search, Event::Claim { w: 0 }, EventFault::WasRefused)?
+            && takes(search, Event::Halt { w: 0 })?
+            && takes(search, Event::Keep { w: 0, id: 2 })?
+            && takes(search, Event::Down { w: 0 })?
+            && search.open_count() == 1
+            && counts(&search.segments()?) == Some((2, 1, 0, 2)),
+    )
 }
 
 // Whether each fault comes in its order.
 fn faults_come_in_order(alloc: Global) -> Result<bool, AllocError> {
     let mut search = triangle(alloc, 2, 7)?;
-    Ok(refuses_without_a_node(alloc, &mut search)?
-        && claims_once(alloc, &mut search)?
-        && splits_once(alloc, &mut search)?
-        && leaves_the_rest(alloc, &mut search)?)
+    Ok(
+        refuses_without_a_node(alloc, &mut search)?
+            && claims_once(alloc, &mut search)?
+            && splits_once(alloc, &mut search)?
+            && leaves_the_rest(alloc, &mut search)?,
+    )
 }
 
 #[test]
