@@ -11,3 +11,5 @@ pub mod Rooted
 pub mod WorkerLists
 pub mod Running
 pub mod Look
+pub mod Ids
+pub mod Reading

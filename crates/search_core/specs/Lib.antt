@@ -6,3 +6,5 @@ pub mod Kept
 pub mod Seen
 pub mod Settled
 pub mod Laws
+pub mod Complete
+pub mod ReadOff

@@ -1,4 +1,5 @@
 ghost use Rattle.search_core.specs.Laws.{EventsKeep, AllowedHasNoFault, FaultIsOne};
+ghost use Rattle.search_core.specs.ReadOff.{CompleteIsProof};
 
 /// Whatever list of events follows a beginning, the state keeps what every state keeps.
 pub fn events_keep()
@@ -10,4 +11,11 @@ pub fn events_keep()
 pub fn faults_are_exact()
     ensures allowed { AllowedHasNoFault }
     ensures one { FaultIsOne }
+{}
+
+/// What was gathered, where it is complete, is a proof tree: of the splits and closes that were
+/// recorded, and of the nodes that wait, closed by their packings. It proves the least weight of
+/// its closes for all trees that reach nobody gone.
+pub fn complete_is_proof()
+    ensures { CompleteIsProof }
 {}

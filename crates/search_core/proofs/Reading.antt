@@ -1,0 +1,206 @@
+-- A proof tree is read off what is complete.
+use Rattle.std.proofs.Common.{◌≡◌, ℕ, zero, suc, ◌+◌, ◌<◌, ◌≤◌, min, Bool, true, false, cond, not, ◌&&◌, ◌||◌, List, [], ◌∷◌, ◌++◌, map, refl, sym, ap, ◌∙◌, subst, arith, inl, inr}
+use Rattle.std.specs.Prelude.{◌==◌, Contains, All, IsTrue, IsFalse, ◌⊎◌}
+use Rattle.std.specs.List.{flat_map}
+use Rattle.std.proofs.lemmas.Bool.Decides.{nat_tests}
+use Rattle.std.proofs.lemmas.List.Elements.{All-contains, All-head, All-tail, Contains-append_cases}
+use Rattle.st_model.specs.declared.branch.Branch.{Branch}
+use Rattle.st_model.specs.Branch.{is_undecided, with_inside, with_outside}
+use Rattle.st_model.specs.Lists.{has, sum_to, total}
+use Rattle.st_model.specs.Network.{Network, IsVertex}
+use Rattle.st_model.proofs.Halves.{has-with_vertex}
+use Rattle.cut_packing.specs.declared.packing.Packing.{Packing}
+use Rattle.cut_packing.specs.Packing.{Fits, weight}
+use Rattle.cut_packing.specs.ProofTree.{ProofTree, close, split, Proves, IsSplit}
+use Rattle.branching.specs.declared.node.Node.{Node}
+use Rattle.search_core.specs.declared.done.Done.{Done}
+use Rattle.search_core.specs.declared.done.Done.TheVariants.{Split, Close}
+use Rattle.search_core.specs.declared.gathered.Gathered.{Gathered}
+use Rattle.search_core.specs.declared.gathered.Segment.{Segment}
+use Rattle.search_core.specs.Complete.{IsComplete, IsMade, root, inside_of, outside_of, IsRightRecord, IsRightNode, IsRightSegment, records, waiting, done_id, standing_ids, made_ids, times, without_gone}
+use Rattle.search_core.specs.ReadOff.{CompleteIsProof, IsReadOff, closed, waits, was_split, least_weight, ProvesItsLeast}
+use Rattle.search_core.proofs.Ids.{one_branch, made_times, times-append}
+use Rattle.search_core.proofs.Look.{same_number}
+
+abbrev one_of : Bool → ℕ
+one_of b = cond b 1 0
+
+-- how many vertices are undecided
+abbrev free : Network → Branch → ℕ
+free I B = sum_to (λ v. one_of (is_undecided B v)) I.n
+
+-- a sum falls where no term rises and one falls
+sum_falls : (f g : ℕ → ℕ) (n v : ℕ) → ((w : ℕ) → g w ≤ f w) → g v + 1 ≤ f v → 1 ≤ v → v ≤ n → sum_to g n + 1 ≤ sum_to f n
+sum_falls f g zero v all here low high = absurd (no_place low high)
+  where
+    no_place : 1 ≤ v → v ≤ 0 → ⊥
+    no_place a b = omega arith
+sum_falls f g (suc n) v all here low high = by_case (v == suc n) refl (sum_falls f g n v all here low)
+  where
+    sums : (m : ℕ) → sum_to g m ≤ sum_to f m
+    sums zero = omega arith
+    sums (suc m) = both _ _ _ _ (sums m) (all (suc m))
+      where
+        both : (a b c d : ℕ) → a ≤ b → c ≤ d → a + c ≤ b + d
+        both a b c d h k = omega arith
+
+    last : (a b c d : ℕ) → a ≤ b → c + 1 ≤ d → a + c + 1 ≤ b + d
+    last a b c d h k = omega arith
+
+    before : (a b c d : ℕ) → a + 1 ≤ b → c ≤ d → a + c + 1 ≤ b + d
+    before a b c d h k = omega arith
+
+    lower : (a b : ℕ) → (a == suc b) ≡ false → a ≤ suc b → a ≤ b
+    lower a b h k = grind (arith, nat_tests)
+
+    by_case : (b : Bool) → (v == suc n) ≡ b → (v ≤ n → sum_to g n + 1 ≤ sum_to f n) → sum_to g (suc n) + 1 ≤ sum_to f (suc n)
+    by_case true is rest = last _ _ _ _ (sums n) (subst (λ (k : ℕ). g k + 1 ≤ f k) (same_number v (suc n) is) here)
+    by_case false is rest = before _ _ _ _ (rest (lower v n is high)) (all (suc n))
+
+-- a half leaves one vertex less to decide
+free-inside : (I : Network) (B : Branch) (v : ℕ) → IsSplit I B v → free I (with_inside B v) + 1 ≤ free I B
+free-inside I B v may = sum_falls (λ w. one_of (is_undecided B w)) (λ w. one_of (is_undecided (with_inside B v) w)) I.n v (λ w. rw (has-with_vertex B.inside v w) (fewer (v == w) (has B.inside w) (has B.outside w))) (rw (has-with_vertex B.inside v v, itself v) (one (is_undecided B v) may.undecided)) may.vertex.0 may.vertex.1
+  where
+    fewer : (a b c : Bool) → one_of (not (a || b) && not c) ≤ one_of (not b && not c)
+    fewer true true true = omega arith
+    fewer true true false = omega arith
+    fewer true false true = omega arith
+    fewer true false false = omega arith
+    fewer false b c = omega arith
+
+    itself : (a : ℕ) → (a == a) ≡ true
+    itself a = grind (arith, nat_tests)
+
+    one : (b : Bool) → b ≡ true → 0 + 1 ≤ one_of b
+    one b e = rw e (omega arith)
+
+free-outside : (I : Network) (B : Branch) (v : ℕ) → IsSplit I B v → free I (with_outside B v) + 1 ≤ free I B
+free-outside I B v may = sum_falls (λ w. one_of (is_undecided B w)) (λ w. one_of (is_undecided (with_outside B v) w)) I.n v (λ w. rw (has-with_vertex B.outside v w) (fewer (v == w) (has B.inside w) (has B.outside w))) (rw (has-with_vertex B.outside v v, itself v) (one (has B.inside v) (is_undecided B v) may.undecided)) may.vertex.0 may.vertex.1
+  where
+    fewer : (a b c : Bool) → one_of (not b && not (a || c)) ≤ one_of (not b && not c)
+    fewer true true c = omega arith
+    fewer true false true = omega arith
+    fewer true false false = omega arith
+    fewer false b c = omega arith
+
+    itself : (a : ℕ) → (a == a) ≡ true
+    itself a = grind (arith, nat_tests)
+
+    one : (a b : Bool) → b ≡ true → one_of (not a && false) + 1 ≤ one_of b
+    one true b e = rw e (omega arith)
+    one false b e = rw e (omega arith)
+
+-- what proves a value proves a lower one
+proves-lower : (I : Network) (B : Branch) (x y : ℕ) (p : ProofTree) → x ≤ y → Proves I B y p → Proves I B x p
+proves-lower I B x y (close P) low h = record { fits = h.fits; weighs = at_most x y (weight I B P) low h.weighs }
+  where
+    at_most : (a b c : ℕ) → a ≤ b → b ≤ c → a ≤ c
+    at_most a b c h k = omega arith
+proves-lower I B x y (split v p q) low h = (h.0, proves-lower I (with_inside B v) x y p low h.1, proves-lower I (with_outside B v) x y q low h.2)
+
+-- who has an id that stands in a list
+id_there : {X : Type 0} (f : X → ℕ) (xs : List X) (id : ℕ) → 1 ≤ times id (map f xs) → (x : X) × Contains xs x × (f x ≡ id)
+id_there f [] id h = absurd (none h)
+  where
+    none : 1 ≤ 0 → ⊥
+    none h = omega arith
+id_there {X} f (x ∷ xs) id h = by_case (f x == id) refl h (id_there f xs id)
+  where
+    later : (y : X) × Contains xs y × (f y ≡ id) → (y : X) × Contains (x ∷ xs) y × (f y ≡ id)
+    later (y, (k, below, is), e) = (y, (suc k, omega arith, is), e)
+
+    rest_of : (n : ℕ) → 1 ≤ 0 + n → 1 ≤ n
+    rest_of n h = omega arith
+
+    by_case : (b : Bool) → (f x == id) ≡ b → 1 ≤ cond b 1 0 + times id (map f xs) → (1 ≤ times id (map f xs) → (y : X) × Contains xs y × (f y ≡ id)) → (y : X) × Contains (x ∷ xs) y × (f y ≡ id)
+    by_case true is h rest = (x, (0, omega arith, refl), same_number (f x) id is)
+    by_case false is h rest = later (rest (rest_of _ h))
+
+-- a record of all workers is right
+right_record : (I : Network) (gone : List ℕ) (start least : ℕ) (done : List Done) (ss : List Segment) (d : Done) → All (IsRightSegment I gone start least done) ss → Contains (flat_map (λ s. s.done) ss) d → (seen : ℕ) × IsRightRecord I gone start done seen d
+right_record I gone start least done [] d all (k, below, is) = absurd (none k below)
+  where
+    none : (k : ℕ) → k < 0 → ⊥
+    none k h = omega arith
+right_record I gone start least done (s ∷ ss) d all there =
+    elim (Contains-append_cases s.done (flat_map (λ s. s.done) ss) d there) [
+      | inl h ↦ (s.seen, All-contains (IsRightRecord I gone start done s.seen) s.done d (All-head (IsRightSegment I gone start least done) s ss all).records h)
+      | inr h ↦ right_record I gone start least done ss d (All-tail (IsRightSegment I gone start least done) s ss all) h
+    ]
+
+-- a tree that is read off under an id, and proves the least weight of its closes for a branch
+record Read (G : Gathered) (I : Network) (id : ℕ) (B : Branch) (p : ProofTree) : Type 0 where
+  pub read : IsReadOff G id p
+  pub proves : Proves I B (least_weight I B p) p
+
+read_close : (G : Gathered) (I : Network) (id a : ℕ) (B C : Branch) (P : Packing) → Contains (records G) (Close a P) → a ≡ id → C ≡ B → Fits I C P → (p : ProofTree) × Read G I id B p
+read_close G I id a B C P there is same fits = (close P, record {
+  read = subst (λ (n : ℕ). IsReadOff G n (close P)) is (closed there);
+  proves = record { fits = subst (λ (D : Branch). Fits I D P) same fits; weighs = omega arith };
+})
+
+read_node : (G : Gathered) (I : Network) (id : ℕ) (B : Branch) (N : Node) → Contains (waiting G) N → N.id ≡ id → N.branch ≡ B → Fits I N.branch N.packing → (p : ProofTree) × Read G I id B p
+read_node G I id B N there is same fits = (close N.packing, record {
+  read = subst (λ (n : ℕ). IsReadOff G n (close N.packing)) is (waits there);
+  proves = record { fits = subst (λ (D : Branch). Fits I D N.packing) same fits; weighs = omega arith };
+})
+
+read_split : (G : Gathered) (I : Network) (id a v i o : ℕ) (B : Branch) (P : Packing) → Contains (records G) (Split a v i o P) → a ≡ id → IsSplit I B v → (p : ProofTree) × Read G I i (with_inside B v) p → (p : ProofTree) × Read G I o (with_outside B v) p → (p : ProofTree) × Read G I id B p
+read_split G I id a v i o B P there is may (p, inside) (q, outside) = (split v p q, record {
+  read = subst (λ (n : ℕ). IsReadOff G n (split v p q)) is (was_split there inside.read outside.read);
+  proves = (may, proves-lower I (with_inside B v) _ _ p (left_min _ _) inside.proves, proves-lower I (with_outside B v) _ _ q (right_min _ _) outside.proves);
+})
+  where
+    left_min : (a b : ℕ) → min a b ≤ a
+    left_min a b = omega arith
+
+    right_min : (a b : ℕ) → min a b ≤ b
+    right_min a b = omega arith
+
+-- the node of a record that was made, where what decides more has a tree
+read_record : (G : Gathered) (I : Network) (gone : List ℕ) (start budget : ℕ) → IsComplete G I gone start budget → (fuel id : ℕ) (B : Branch) → IsMade gone (records G) id B → free I B < suc fuel → ((j : ℕ) (C : Branch) → IsMade gone (records G) j C → free I C < fuel → (p : ProofTree) × Read G I j C p) → (d : Done) → Contains (records G) d → done_id d ≡ id → (seen : ℕ) × IsRightRecord I gone start (records G) seen d → (p : ProofTree) × Read G I id B p
+read_record G I gone start budget complete fuel id B made low go (Split a v i o P) there is (seen, (C, right)) =
+    let same = one_branch gone (records G) complete.apart a id C B right.made made is in
+    let may : IsSplit I B v = subst (λ (D : Branch). IsSplit I D v) same right.vertex in
+    let mine : IsMade gone (records G) a B = subst (λ (D : Branch). IsMade gone (records G) a D) same right.made in
+    read_split G I id a v i o B P there is may (go i (with_inside B v) (inside_of there mine) (less _ _ fuel (free-inside I B v may) low)) (go o (with_outside B v) (outside_of there mine) (less _ _ fuel (free-outside I B v may) low))
+  where
+    less : (a b c : ℕ) → a + 1 ≤ b → b < suc c → a < c
+    less a b c h k = omega arith
+read_record G I gone start budget complete fuel id B made low go (Close a P) there is (seen, (C, right)) =
+    read_close G I id a B C P there is (one_branch gone (records G) complete.apart a id C B right.made made is) right.packing.fits
+
+-- a node that waits and was made
+read_waiting : (G : Gathered) (I : Network) (gone : List ℕ) (start budget : ℕ) → IsComplete G I gone start budget → (id : ℕ) (B : Branch) → IsMade gone (records G) id B → (N : Node) × Contains (waiting G) N × (N.id ≡ id) → (p : ProofTree) × Read G I id B p
+read_waiting G I gone start budget complete id B made (N, there, is) =
+    let right = All-contains (IsRightNode I gone (records G)) (waiting G) N complete.waiting there in
+    read_node G I id B N there is (one_branch gone (records G) complete.apart N.id id N.branch B right.made made is) right.fits
+
+-- where an id that was made stands
+stands_where : (G : Gathered) (I : Network) (gone : List ℕ) (start budget : ℕ) → IsComplete G I gone start budget → (id : ℕ) (B : Branch) → IsMade gone (records G) id B → ((d : Done) × Contains (records G) d × (done_id d ≡ id)) ⊎ ((N : Node) × Contains (waiting G) N × (N.id ≡ id))
+stands_where G I gone start budget complete id B made =
+    elim (one_of_both _ _ (subst (λ (n : ℕ). 1 ≤ n) (sym (complete.once id) ∙ times-append id (map done_id (records G)) (map (λ (N : Node). N.id) (waiting G))) (made_times gone (records G) id B made))) [
+      | inl h ↦ inl (id_there done_id (records G) id h)
+      | inr h ↦ inr (id_there (λ (N : Node). N.id) (waiting G) id h)
+    ]
+  where
+    one_of_both : (a b : ℕ) → 1 ≤ a + b → (1 ≤ a) ⊎ (1 ≤ b)
+    one_of_both zero b h = inr (omega arith)
+    one_of_both (suc a) b h = inl (omega arith)
+
+-- each node that was made has a tree
+read_off : (G : Gathered) (I : Network) (gone : List ℕ) (start budget : ℕ) → IsComplete G I gone start budget → (fuel id : ℕ) (B : Branch) → IsMade gone (records G) id B → free I B < fuel → (p : ProofTree) × Read G I id B p
+read_off G I gone start budget complete zero id B made low = absurd (none (free I B) low)
+  where
+    none : (k : ℕ) → k < 0 → ⊥
+    none k h = omega arith
+read_off G I gone start budget complete (suc fuel) id B made low =
+    elim (stands_where G I gone start budget complete id B made) [
+      | inl d ↦ read_record G I gone start budget complete fuel id B made low (λ j C m l. read_off G I gone start budget complete fuel j C m l) d.0 d.1 d.2 (right_record I gone start G.least (records G) G.segments d.0 complete.segments d.1)
+      | inr N ↦ read_waiting G I gone start budget complete id B made N
+    ]
+
+pub complete_lem : CompleteIsProof
+complete_lem G I gone start budget complete =
+    let read = read_off G I gone start budget complete (free I (without_gone gone) + 1) 0 (without_gone gone) root (omega arith) in
+    (read.0, record { read = read.1.read; proves = read.1.proves })

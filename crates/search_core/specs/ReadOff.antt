@@ -1,0 +1,33 @@
+-- The proof tree that is read off what was gathered.
+use Rattle.std.specs.Prelude.{ℕ, ◌≤◌, min, List, Contains}
+use Rattle.st_model.specs.declared.branch.Branch.{Branch}
+use Rattle.st_model.specs.Branch.{with_inside, with_outside}
+use Rattle.st_model.specs.Network.{Network}
+use Rattle.cut_packing.specs.declared.packing.Packing.{Packing}
+use Rattle.cut_packing.specs.Packing.{weight}
+use Rattle.cut_packing.specs.ProofTree.{ProofTree, close, split, Proves}
+use Rattle.branching.specs.declared.node.Node.{Node}
+use Rattle.search_core.specs.declared.done.Done.{Done}
+use Rattle.search_core.specs.declared.done.Done.TheVariants.{Split, Close}
+use Rattle.search_core.specs.declared.gathered.Gathered.{Gathered}
+use Rattle.search_core.specs.Complete.{IsComplete, records, waiting, without_gone}
+
+-- the tree of the node under an id: where it was split, the trees of both halves, and else a close by its packing
+pub data IsReadOff (G : Gathered) : ℕ → ProofTree → Type 0 where
+  closed : {id : ℕ} {P : Packing} → Contains (records G) (Close id P) → IsReadOff G id (close P)
+  waits : {N : Node} → Contains (waiting G) N → IsReadOff G N.id (close N.packing)
+  was_split : {id v i o : ℕ} {P : Packing} {inside outside : ProofTree} → Contains (records G) (Split id v i o P) → IsReadOff G i inside → IsReadOff G o outside → IsReadOff G id (split v inside outside)
+
+-- the least weight of the closes of a tree for a branch
+abbrev pub least_weight : Network → Branch → ProofTree → ℕ
+least_weight I B (close P) = weight I B P
+least_weight I B (split v inside outside) = min (least_weight I (with_inside B v) inside) (least_weight I (with_outside B v) outside)
+
+-- a tree is read off the whole, and proves the least weight of its closes for all trees that reach nobody gone
+pub record ProvesItsLeast (G : Gathered) (I : Network) (gone : List ℕ) (p : ProofTree) : Type 0 where
+  pub read : IsReadOff G 0 p
+  pub proves : Proves I (without_gone gone) (least_weight I (without_gone gone) p) p
+
+-- what is complete is a proof tree
+abbrev pub CompleteIsProof : Type 0
+CompleteIsProof = (G : Gathered) (I : Network) (gone : List ℕ) (start budget : ℕ) → IsComplete G I gone start budget → (p : ProofTree) × ProvesItsLeast G I gone p
