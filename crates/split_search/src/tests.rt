@@ -135,6 +135,41 @@ fn leaves_the_least(rt: HostRuntime) -> Result<(), Fail> {
     Ok(())
 }
 
+// Ten vertices, six of them required, and a least cost of 11, found by trying all sets of vertices. Cuts
+// for all vertices weigh less; raised where those too far from the root are left out, they close the
+// first node.
+#[test]
+fn closes_by_a_guess(rt: HostRuntime) -> Result<(), Fail> {
+    let links = [
+        link(1, 2, 2),
+        link(2, 3, 2),
+        link(2, 4, 3),
+        link(4, 5, 2),
+        link(2, 6, 2),
+        link(2, 7, 2),
+        link(6, 8, 2),
+        link(2, 9, 1),
+        link(7, 10, 1),
+        link(4, 6, 1),
+        link(8, 10, 2),
+        link(7, 9, 3),
+        link(1, 10, 1),
+        link(1, 8, 2),
+    ];
+    let needs = [
+        (4, Need::Required),
+        (5, Need::Required),
+        (7, Need::Required),
+        (8, Need::Required),
+        (9, Need::Required),
+        (10, Need::Required),
+    ];
+    let instance = Instance::build(rt.alloc(), 10, &links, &needs)?;
+    let whole = Whole::of(rt.alloc(), instance)?;
+    assert_eq!(rt; bounds(rt.alloc(), &whole, 1, &OpenGate)?, Some((11, 11)));
+    Ok(())
+}
+
 // A gate that does nothing, of another type than the crate's own.
 struct Still;
 
