@@ -18,7 +18,8 @@ use Rattle.search_core.specs.declared.done.Done.TheVariants.{Split, Close}
 use Rattle.search_core.specs.declared.gathered.Gathered.{Gathered}
 use Rattle.search_core.specs.declared.gathered.Segment.{Segment}
 use Rattle.search_core.specs.Complete.{IsComplete, IsMade, root, inside_of, outside_of, IsRightRecord, IsRightNode, IsRightSegment, records, waiting, done_id, standing_ids, made_ids, times, without_gone}
-use Rattle.search_core.specs.ReadOff.{CompleteIsProof, IsReadOff, closed, waits, was_split, least_weight, ProvesItsLeast}
+use Rattle.search_core.specs.ReadOff.{CompleteBounds, CompleteIsProof, IsReadOff, closed, waits, was_split, least_weight, ProvesItsLeast}
+use Rattle.cut_packing.proofs.Duality.{proof_tree_bounds_lem}
 use Rattle.search_core.proofs.Ids.{one_branch, made_times, times-append}
 use Rattle.search_core.proofs.Look.{same_number}
 
@@ -117,14 +118,14 @@ id_there {X} f (x ∷ xs) id h = by_case (f x == id) refl h (id_there f xs id)
     by_case false is h rest = later (rest (rest_of _ h))
 
 -- a record of all workers is right
-right_record : (I : Network) (gone : List ℕ) (start least : ℕ) (done : List Done) (ss : List Segment) (d : Done) → All (IsRightSegment I gone start least done) ss → Contains (flat_map (λ s. s.done) ss) d → (seen : ℕ) × IsRightRecord I gone start done seen d
+right_record : (I : Network) (gone : List ℕ) (start least : ℕ) (done : List Done) (ss : List Segment) (d : Done) → All (IsRightSegment I gone start least done) ss → Contains (flat_map (λ s. s.done) ss) d → (seen : ℕ) × (least ≤ seen) × IsRightRecord I gone start done seen d
 right_record I gone start least done [] d all (k, below, is) = absurd (none k below)
   where
     none : (k : ℕ) → k < 0 → ⊥
     none k h = omega arith
 right_record I gone start least done (s ∷ ss) d all there =
     elim (Contains-append_cases s.done (flat_map (λ s. s.done) ss) d there) [
-      | inl h ↦ (s.seen, All-contains (IsRightRecord I gone start done s.seen) s.done d (All-head (IsRightSegment I gone start least done) s ss all).records h)
+      | inl h ↦ (s.seen, (All-head (IsRightSegment I gone start least done) s ss all).seen, All-contains (IsRightRecord I gone start done s.seen) s.done d (All-head (IsRightSegment I gone start least done) s ss all).records h)
       | inr h ↦ right_record I gone start least done ss d (All-tail (IsRightSegment I gone start least done) s ss all) h
     ]
 
@@ -132,25 +133,47 @@ right_record I gone start least done (s ∷ ss) d all there =
 record Read (G : Gathered) (I : Network) (id : ℕ) (B : Branch) (p : ProofTree) : Type 0 where
   pub read : IsReadOff G id p
   pub proves : Proves I B (least_weight I B p) p
+  pub least : waiting G ≡ [] → G.least ≤ least_weight I B p
 
-read_close : (G : Gathered) (I : Network) (id a : ℕ) (B C : Branch) (P : Packing) → Contains (records G) (Close a P) → a ≡ id → C ≡ B → Fits I C P → (p : ProofTree) × Read G I id B p
-read_close G I id a B C P there is same fits = (close P, record {
-  read = subst (λ (n : ℕ). IsReadOff G n (close P)) is (closed there);
-  proves = record { fits = subst (λ (D : Branch). Fits I D P) same fits; weighs = omega arith };
-})
+read_close : (G : Gathered) (I : Network) (id a : ℕ) (B C : Branch) (P : Packing) → Contains (records G) (Close a P) → a ≡ id → C ≡ B → Fits I C P → G.least ≤ weight I C P → (p : ProofTree) × Read G I id B p
+read_close G I id a B C P there is same fits heavy = (
+  close P,
+  record {
+    least = λ none. subst (λ (D : Branch). G.least ≤ weight I D P) same heavy;
+    read = subst (λ (n : ℕ). IsReadOff G n (close P)) is (closed there);
+    proves = record { fits = subst (λ (D : Branch). Fits I D P) same fits; weighs = omega arith };
+  },
+)
 
 read_node : (G : Gathered) (I : Network) (id : ℕ) (B : Branch) (N : Node) → Contains (waiting G) N → N.id ≡ id → N.branch ≡ B → Fits I N.branch N.packing → (p : ProofTree) × Read G I id B p
-read_node G I id B N there is same fits = (close N.packing, record {
-  read = subst (λ (n : ℕ). IsReadOff G n (close N.packing)) is (waits there);
-  proves = record { fits = subst (λ (D : Branch). Fits I D N.packing) same fits; weighs = omega arith };
-})
+read_node G I id B N there is same fits = (
+  close N.packing,
+  record {
+    least = λ none. absurd (nobody (subst (λ (ns : List Node). Contains ns N) none there));
+    read = subst (λ (n : ℕ). IsReadOff G n (close N.packing)) is (waits there);
+    proves = record { fits = subst (λ (D : Branch). Fits I D N.packing) same fits; weighs = omega arith };
+  },
+)
+  where
+    nobody : Contains [] N → ⊥
+    nobody (k, below, is) = no_place k below
+      where
+        no_place : (k : ℕ) → k < 0 → ⊥
+        no_place k h = omega arith
 
 read_split : (G : Gathered) (I : Network) (id a v i o : ℕ) (B : Branch) (P : Packing) → Contains (records G) (Split a v i o P) → a ≡ id → IsSplit I B v → (p : ProofTree) × Read G I i (with_inside B v) p → (p : ProofTree) × Read G I o (with_outside B v) p → (p : ProofTree) × Read G I id B p
-read_split G I id a v i o B P there is may (p, inside) (q, outside) = (split v p q, record {
-  read = subst (λ (n : ℕ). IsReadOff G n (split v p q)) is (was_split there inside.read outside.read);
-  proves = (may, proves-lower I (with_inside B v) _ _ p (left_min _ _) inside.proves, proves-lower I (with_outside B v) _ _ q (right_min _ _) outside.proves);
-})
+read_split G I id a v i o B P there is may (p, inside) (q, outside) = (
+  split v p q,
+  record {
+    least = λ none. both_least _ _ _ (inside.least none) (outside.least none);
+    read = subst (λ (n : ℕ). IsReadOff G n (split v p q)) is (was_split there inside.read outside.read);
+    proves = (may, proves-lower I (with_inside B v) _ _ p (left_min _ _) inside.proves, proves-lower I (with_outside B v) _ _ q (right_min _ _) outside.proves);
+  },
+)
   where
+    both_least : (a b c : ℕ) → a ≤ b → a ≤ c → a ≤ min b c
+    both_least a b c h k = omega arith
+
     left_min : (a b : ℕ) → min a b ≤ a
     left_min a b = omega arith
 
@@ -158,8 +181,8 @@ read_split G I id a v i o B P there is may (p, inside) (q, outside) = (split v p
     right_min a b = omega arith
 
 -- the node of a record that was made, where what decides more has a tree
-read_record : (G : Gathered) (I : Network) (gone : List ℕ) (start budget : ℕ) → IsComplete G I gone start budget → (fuel id : ℕ) (B : Branch) → IsMade gone (records G) id B → free I B < suc fuel → ((j : ℕ) (C : Branch) → IsMade gone (records G) j C → free I C < fuel → (p : ProofTree) × Read G I j C p) → (d : Done) → Contains (records G) d → done_id d ≡ id → (seen : ℕ) × IsRightRecord I gone start (records G) seen d → (p : ProofTree) × Read G I id B p
-read_record G I gone start budget complete fuel id B made low go (Split a v i o P) there is (seen, (C, right)) =
+read_record : (G : Gathered) (I : Network) (gone : List ℕ) (start budget : ℕ) → IsComplete G I gone start budget → (fuel id : ℕ) (B : Branch) → IsMade gone (records G) id B → free I B < suc fuel → ((j : ℕ) (C : Branch) → IsMade gone (records G) j C → free I C < fuel → (p : ProofTree) × Read G I j C p) → (d : Done) → Contains (records G) d → done_id d ≡ id → (seen : ℕ) × (G.least ≤ seen) × IsRightRecord I gone start (records G) seen d → (p : ProofTree) × Read G I id B p
+read_record G I gone start budget complete fuel id B made low go (Split a v i o P) there is (seen, low_seen, (C, right)) =
     let same = one_branch gone (records G) complete.apart a id C B right.made made is in
     let may : IsSplit I B v = subst (λ (D : Branch). IsSplit I D v) same right.vertex in
     let mine : IsMade gone (records G) a B = subst (λ (D : Branch). IsMade gone (records G) a D) same right.made in
@@ -167,8 +190,11 @@ read_record G I gone start budget complete fuel id B made low go (Split a v i o 
   where
     less : (a b c : ℕ) → a + 1 ≤ b → b < suc c → a < c
     less a b c h k = omega arith
-read_record G I gone start budget complete fuel id B made low go (Close a P) there is (seen, (C, right)) =
-    read_close G I id a B C P there is (one_branch gone (records G) complete.apart a id C B right.made made is) right.packing.fits
+read_record G I gone start budget complete fuel id B made low go (Close a P) there is (seen, low_seen, (C, right)) =
+    read_close G I id a B C P there is (one_branch gone (records G) complete.apart a id C B right.made made is) right.packing.fits (at_least _ _ _ low_seen right.packing.weighs)
+  where
+    at_least : (a b c : ℕ) → a ≤ b → b ≤ c → a ≤ c
+    at_least a b c h k = omega arith
 
 -- a node that waits and was made
 read_waiting : (G : Gathered) (I : Network) (gone : List ℕ) (start budget : ℕ) → IsComplete G I gone start budget → (id : ℕ) (B : Branch) → IsMade gone (records G) id B → (N : Node) × Contains (waiting G) N × (N.id ≡ id) → (p : ProofTree) × Read G I id B p
@@ -204,3 +230,8 @@ pub complete_lem : CompleteIsProof
 complete_lem G I gone start budget complete =
     let read = read_off G I gone start budget complete (free I (without_gone gone) + 1) 0 (without_gone gone) root (omega arith) in
     (read.0, record { read = read.1.read; proves = read.1.proves })
+
+pub bounds_lem : CompleteBounds
+bounds_lem G I gone start budget t complete none tree belongs =
+    let read = read_off G I gone start budget complete (free I (without_gone gone) + 1) 0 (without_gone gone) root (omega arith) in
+    proof_tree_bounds_lem I (without_gone gone) G.least read.0 t (proves-lower I (without_gone gone) G.least (least_weight I (without_gone gone) read.0) read.0 (read.1.least none) read.1.proves) tree belongs

@@ -1,7 +1,9 @@
 -- The proof tree that is read off what was gathered.
-use Rattle.std.specs.Prelude.{ℕ, ◌≤◌, min, List, Contains}
+use Rattle.std.specs.Prelude.{◌≡◌, ℕ, ◌≤◌, min, List, [], Contains}
 use Rattle.st_model.specs.declared.branch.Branch.{Branch}
-use Rattle.st_model.specs.Branch.{with_inside, with_outside}
+use Rattle.st_model.specs.Branch.{Belongs, with_inside, with_outside}
+use Rattle.st_model.specs.declared.tree.Tree.{Tree}
+use Rattle.st_model.specs.Arborescence.{IsTree, cost}
 use Rattle.st_model.specs.Network.{Network}
 use Rattle.cut_packing.specs.declared.packing.Packing.{Packing}
 use Rattle.cut_packing.specs.Packing.{weight}
@@ -31,3 +33,7 @@ pub record ProvesItsLeast (G : Gathered) (I : Network) (gone : List ℕ) (p : Pr
 -- what is complete is a proof tree
 abbrev pub CompleteIsProof : Type 0
 CompleteIsProof = (G : Gathered) (I : Network) (gone : List ℕ) (start budget : ℕ) → IsComplete G I gone start budget → (p : ProofTree) × ProvesItsLeast G I gone p
+
+-- where nothing is left to do, every tree that reaches nobody gone costs at least the least value
+abbrev pub CompleteBounds : Type 0
+CompleteBounds = (G : Gathered) (I : Network) (gone : List ℕ) (start budget : ℕ) (t : Tree) → IsComplete G I gone start budget → waiting G ≡ [] → IsTree I t → Belongs (without_gone gone) t → G.least ≤ cost I t

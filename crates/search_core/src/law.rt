@@ -1,5 +1,5 @@
 ghost use Rattle.search_core.specs.Laws.{EventsKeep, AllowedHasNoFault, FaultIsOne};
-ghost use Rattle.search_core.specs.ReadOff.{CompleteIsProof};
+ghost use Rattle.search_core.specs.ReadOff.{CompleteBounds, CompleteIsProof};
 
 /// Whatever list of events follows a beginning, the state keeps what every state keeps.
 pub fn events_keep()
@@ -18,4 +18,10 @@ pub fn faults_are_exact()
 /// its closes for all trees that reach nobody gone.
 pub fn complete_is_proof()
     ensures { CompleteIsProof }
+{}
+
+/// What was gathered, where it is complete and no node waits, bounds every tree that reaches nobody
+/// gone from below, by the least value.
+pub fn complete_bounds()
+    ensures { CompleteBounds }
 {}
