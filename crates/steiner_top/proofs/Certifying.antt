@@ -17,17 +17,17 @@ use Rattle.split_search.specs.declared.searched.Searched.{Searched}
 use Rattle.split_search.specs.Node.{free_count}
 use Rattle.split_search.specs.Searched.{IsSearched, IsSpent}
 use Rattle.split_search.proofs.Writing.{cost_fits, writable_tree}
-use Rattle.steiner_top.specs.Left.{CanBeCounted, IsFoundIn}
+use Rattle.steiner_top.specs.Left.{CanBeCounted, IsFoundAmong}
 use Rattle.steiner_top.specs.Outcome.{AreSteps, IsCertificate, IsFound, IsGreatestBound, IsWithoutTree, free_vertices}
 use Rattle.steiner_top.proofs.Remaining.{few_to_split, proved_of_both}
 use Rattle.steiner_top.proofs.WritableSteps.{steps_are_writable}
 
 -- the tree that was found is one of what is left
-pub found_is_left : (s : State) (nodes : ℕ) (found : Searched) → IsFoundIn s nodes found → IsTreeOf s found.tree
+pub found_is_left : (s : State) (nodes : ℕ) (found : Searched) → IsFoundAmong s nodes found → IsTreeOf s found.tree
 found_is_left s nodes found (start, h) = record { tree = h.found.is_tree; avoids = h.found.belongs.outside }
 
 -- what it costs, and what is paid besides, is small
-pub small_sums : (s : State) (nodes : ℕ) (found : Searched) → IsState s → IsFoundIn s nodes found → (found.primal + s.offset < 2 ^ 64) × (found.dual + s.offset < 2 ^ 64)
+pub small_sums : (s : State) (nodes : ℕ) (found : Searched) → IsState s → IsFoundAmong s nodes found → (found.primal + s.offset < 2 ^ 64) × (found.dual + s.offset < 2 ^ 64)
 small_sums s nodes found is (start, h) =
     let low = cost_fits s.instance found.tree is.instance h.found.is_tree.arborescence in
     (omega (arith, low, h.found.is_cost, is.amount), omega (arith, low, h.found.is_cost, h.found.is_below, is.amount))
@@ -121,7 +121,7 @@ module _ (nodes : ℕ) (plain : Bool) (I : Network) (steps : List Step) (s : Sta
 
 -- the tree may be a copy
 pub found_copy : (nodes : ℕ) (plain : Bool) (I : Network) (steps : List Step) (s : State) (found : Searched) (tree copy : Tree)
-    → AcceptedHolds → IsInstance I → Applies steps (whole I) s → AreSteps plain steps s → IsState s → IsFoundIn s nodes found → IsTree I tree → cost I tree ≡ worth s found.tree
+    → AcceptedHolds → IsInstance I → Applies steps (whole I) s → AreSteps plain steps s → IsState s → IsFoundAmong s nodes found → IsTree I tree → cost I tree ≡ worth s found.tree
     → length steps < 2 ^ 64 → All CanBeCounted steps → copy ≡ tree
     → IsFound nodes plain I copy (found.primal + s.offset) (found.dual + s.offset) (record { claim = Found (found.primal + s.offset) (found.dual + s.offset) tree steps found.proof })
 found_copy nodes plain I steps s found tree copy holds instance applies taken is_state (start, searched) is_tree is_cost few counted same =

@@ -23,8 +23,8 @@ abbrev pub HasSomeTree : State → Type 0
 HasSomeTree s = (t : Tree) × IsTreeOf s t
 
 -- a search found it among the trees of what is left
-abbrev pub IsFoundIn : State → ℕ → Searched → Type 0
-IsFoundIn s nodes found = (start : Tree) × IsSearched s.instance (left_over s) start nodes found
+abbrev pub IsFoundAmong : State → ℕ → Searched → Type 0
+IsFoundAmong s nodes found = (start : Tree) × IsSearched s.instance (left_over s) start nodes found
 
 -- a detour's inner vertices can be counted
 abbrev pub CanBeCounted : Step → Type 0

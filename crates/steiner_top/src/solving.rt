@@ -7,7 +7,7 @@ ghost use Rattle.stp_reader.specs.Reads.{Refused};
 ghost use Rattle.lift_back.specs.State.{IsState};
 ghost use Rattle.log_format.specs.Text.{IsWritableSet};
 ghost use Rattle.steiner_top.specs.declared.outcome.SolveFault.TheVariants.{Stp, NoMemory};
-ghost use Rattle.steiner_top.specs.Left.{HasSomeTree, IsFoundIn, IsLeftOf};
+ghost use Rattle.steiner_top.specs.Left.{HasSomeTree, IsFoundAmong, IsLeftOf};
 ghost use Rattle.steiner_top.specs.Outcome.{IsOutcome, Solves};
 
 use crate::left::Left;
@@ -100,7 +100,7 @@ fn search_left<G: Gate>(
 ) -> Result<Searched, AllocError>
     requires state { IsState reduced.now.state }
     requires some { HasSomeTree reduced.now.state }
-    ensures { IfOk result (IsFoundIn reduced.now.state nodes) }
+    ensures { IfOk result (IsFoundAmong reduced.now.state nodes) }
 {
     let rest = reduced.instance(alloc)?;
     let whole = Whole::of(alloc, rest)?;
@@ -120,12 +120,13 @@ fn found(
     searched: Searched,
 ) -> Result<Outcome, AllocError>
     requires left { IsLeftOf instance.now plain left }
-    requires searched { IsFoundIn left.reduced.state nodes searched }
+    requires searched { IsFoundAmong left.reduced.state nodes searched }
     ensures { IfOk result (IsOutcome nodes plain instance.now) }
 {
     log_format::accepted_holds();
     prove!(1 <= instance.vertices());
     let Left { steps, reduced } = left;
+    // So that each step can be written.
     count_steps(&steps);
     let offset = reduced.offset();
     let (primal, dual) = (searched.primal + offset, searched.dual + offset);
