@@ -5,6 +5,7 @@ use Rattle.std.specs.Option.{option_map_or}
 use Rattle.std.proofs.lemmas.Bool.{false≢true}
 use Rattle.std.proofs.lemmas.Bool.Decides.{nat_tests}
 use Rattle.std.proofs.lemmas.List.Elements.{All-append, All-from_recursion}
+use Rattle.std.proofs.lemmas.List.{length-append}
 use Rattle.std.proofs.lemmas.List.Folds.{find-append}
 use Rattle.st_model.specs.Lists.{total}
 use Rattle.st_model.specs.Network.{Network}
@@ -26,7 +27,7 @@ use Rattle.search_core.specs.Kept.{IsCounted, InHand, one_if, claim_fits, undone
 use Rattle.search_core.proofs.Early.{TakeEarly, PickEarly, GiveEarly, ClaimEarly, UpEarly, SplitEarly, KeepEarly, take_early, pick_early, give_early, claim_early, up_early, split_early, down_early, keep_early}
 use Rattle.search_core.proofs.Soundness.{HeldNode, held_node}
 use Rattle.search_core.proofs.Happened.{split_state, inside_made, outside_made, after_split}
-use Rattle.search_core.proofs.NodeLists.{all-found, total-with_made, total-with_made_same}
+use Rattle.search_core.proofs.NodeLists.{all-found, length-with_made, total-with_made, total-with_made_same}
 use Rattle.search_core.proofs.WorkerLists.{total-changed, total-unchanged}
 use Rattle.search_core.proofs.Look.{same_number, read-unchanged, read-same, read-other, stands, find-same, find-other, all-with_made_at, asked}
 
@@ -68,6 +69,7 @@ counted_idle S w f hand_same up_same closes_same h = record {
   places = h.places;
   claims = h.claims;
   opened = rw (total-unchanged (λ (x : Worker). one_if x.up) S.workers w f (λ x. ap one_if (up_same x)), total-unchanged (λ (x : Worker). x.closes) S.workers w f closes_same) h.opened;
+  bounded = rw (total-unchanged (λ (x : Worker). x.closes) S.workers w f closes_same) h.bounded;
 }
   where
     hands : (v : ℕ) → hand (record S { workers = changed_at S.workers w f }) v ≡ hand S v
@@ -81,6 +83,7 @@ counted_up S w there claimed_is waits h = record {
   places = h.places;
   claims = h.claims;
   opened = counts S.opened (undone S.nodes) (ups_waiting S.workers) (closes_waiting S.workers) (total (λ (x : Worker). one_if x.up) (changed_at S.workers w (λ x. record x { up = true }))) (total (λ (x : Worker). x.closes) (changed_at S.workers w (λ x. record x { up = true }))) h.opened more (total-unchanged (λ (x : Worker). x.closes) S.workers w (λ x. record x { up = true }) (λ x. refl));
+  bounded = rw (total-unchanged (λ (x : Worker). x.closes) S.workers w (λ x. record x { up = true }) (λ x. refl)) h.bounded;
 }
   where
     hands : (v : ℕ) → hand (after S (Up w)) v ≡ hand S v
@@ -110,8 +113,12 @@ counted_down S w there waits h = record {
   places = h.places;
   claims = h.claims;
   opened = counts S.opened (undone S.nodes) (ups_waiting S.workers) (closes_waiting S.workers) (ups_waiting (changed_at S.workers w (λ x. record x { closes = x.closes - 1 }))) (closes_waiting (changed_at S.workers w (λ x. record x { closes = x.closes - 1 }))) h.opened (total-unchanged (λ (x : Worker). one_if x.up) S.workers w (λ x. record x { closes = x.closes - 1 }) (λ x. refl)) less;
+  bounded = still_less _ _ _ _ less h.bounded;
 }
   where
+    still_less : (a b c d : ℕ) → c + 1 ≡ d → a + d ≤ b → a + c ≤ b
+    still_less a b c d h k = omega arith
+
     positive : (n : ℕ) → nat_lt 0 n ≡ true → 0 < n
     positive n h = grind (arith, nat_tests)
 
@@ -138,6 +145,7 @@ counted_node S id m f claims found same hand_stays claim_stays done_same fits co
   places = all-with_made_at (λ m. claim_fits m.place m.claimed ≡ true) S.nodes id f m found fits h.places;
   claims = equal claims S.claims (claimed S.nodes) (claimed (with_made S.nodes id f)) (one_if m.claimed) (one_if (f m).claimed) h.claims count (total-with_made (λ (a : Made). one_if a.claimed) S.nodes id f m found);
   opened = rw (as_done (undone S.nodes) (undone (with_made S.nodes id f)) (one_if (not (is_done m.place))) (one_if (not (is_done (f m).place))) (ap (λ (b : Bool). one_if (not b)) done_same) (total-with_made (λ (a : Made). one_if (not (is_done a.place))) S.nodes id f m found)) h.opened;
+  bounded = rw (as_done (undone S.nodes) (undone (with_made S.nodes id f)) (one_if (not (is_done m.place))) (one_if (not (is_done (f m).place))) (ap (λ (b : Bool). one_if (not b)) done_same) (total-with_made (λ (a : Made). one_if (not (is_done a.place))) S.nodes id f m found), length-with_made S.nodes id f) h.bounded;
 }
   where
     equal : (a b c d p q : ℕ) → b ≡ c → a + p ≡ b + q → d + p ≡ c + q → a ≡ d
@@ -168,6 +176,7 @@ counted_taken S w id m there empty found waits nowhere h = record {
   places = moved_node.places;
   claims = moved_node.claims;
   opened = rw (total-unchanged (λ (x : Worker). one_if x.up) S.workers w (λ x. record x { hand = Some id }) (λ x. refl), total-unchanged (λ (x : Worker). x.closes) S.workers w (λ x. record x { hand = Some id }) (λ x. refl)) moved_node.opened;
+  bounded = rw (total-unchanged (λ (x : Worker). x.closes) S.workers w (λ x. record x { hand = Some id }) (λ x. refl)) moved_node.bounded;
 }
   where
     moved_node : IsCounted (moved S id (place.Hand w))
@@ -265,8 +274,12 @@ counted_closed S w id m d there found at claim idle h = record {
   places = all-with_made_at (λ m. claim_fits m.place m.claimed ≡ true) S.nodes id shut m found claim h.places;
   claims = h.claims ∙ sym (total-with_made_same (λ (a : Made). one_if a.claimed) S.nodes id shut (λ m. refl));
   opened = counts S.opened (undone S.nodes) (ups_waiting S.workers) (closes_waiting S.workers) (undone (with_made S.nodes id shut)) (ups_waiting (changed_at S.workers w (closing d))) (closes_waiting (changed_at S.workers w (closing d))) h.opened less (total-unchanged (λ (x : Worker). one_if x.up) S.workers w (closing d) (λ x. refl)) more;
+  bounded = passed _ _ _ _ _ _ less more (length-with_made S.nodes id shut) h.bounded;
 }
   where
+    passed : (b b' d d' n n' : ℕ) → b' + 1 ≡ b → d' ≡ d + 1 → n' ≡ n → b + d ≤ n → b' + d' ≤ n'
+    passed b b' d d' n n' h k l m = omega arith
+
     up_same : (v : ℕ) → option_map_or (λ x. x.up) (slice_get (changed_at S.workers w (closing d)) v) false ≡ up_waits S v
     up_same v = read-unchanged (λ (o : Option Worker). option_map_or (λ x. x.up) o false) S.workers w v (closing d) (λ x. refl)
 
@@ -337,8 +350,12 @@ counted_halves S w i id m Y N d there found new at claim up_is Y_id Y_at Y_free 
   places = all-with_made_at (λ m. claim_fits m.place m.claimed ≡ true) (S.nodes ++ Y ∷ N ∷ []) id done_split m found2 claim (All-append (λ m. claim_fits m.place m.claimed ≡ true) S.nodes (Y ∷ N ∷ []) h.places (All-from_recursion (λ m. claim_fits m.place m.claimed ≡ true) (Y ∷ N ∷ []) (rw (Y_at) refl, (rw (N_at, N_free) refl, tt))));
   claims = h.claims ∙ sym (total-with_made_same (λ (a : Made). one_if a.claimed) (S.nodes ++ Y ∷ N ∷ []) id done_split (λ m. refl) ∙ (total-append (λ (a : Made). one_if a.claimed) S.nodes (Y ∷ N ∷ []) ∙ none _ (one_if Y.claimed) (one_if N.claimed) (ap one_if Y_free) (ap one_if N_free)));
   opened = counts S.opened (undone S.nodes) (ups_waiting S.workers) (closes_waiting S.workers) (undone (with_made (S.nodes ++ Y ∷ N ∷ []) id done_split)) (ups_waiting (changed_at S.workers w (splitting i d))) (closes_waiting (changed_at S.workers w (splitting i d))) h.opened one_more one_less (total-unchanged (λ (x : Worker). x.closes) S.workers w (splitting i d) (λ x. refl));
+  bounded = grown _ _ _ _ _ _ one_more (total-unchanged (λ (x : Worker). x.closes) S.workers w (splitting i d) (λ x. refl)) (length-with_made (S.nodes ++ Y ∷ N ∷ []) id done_split ∙ length-append S.nodes (Y ∷ N ∷ [])) h.bounded;
 }
   where
+    grown : (b b' d d' n n' : ℕ) → b' ≡ b + 1 → d' ≡ d → n' ≡ n + 2 → b + d ≤ n → b' + d' ≤ n'
+    grown b b' d d' n n' h k l m = omega arith
+
     found2 : find (has_id id) (S.nodes ++ Y ∷ N ∷ []) ≡ Some m
     found2 = found-first S.nodes (Y ∷ N ∷ []) id m found
 
@@ -421,6 +438,7 @@ counted_left S w id m there found waits free only h = record {
   places = all-with_made_at (λ m. claim_fits m.place m.claimed ≡ true) S.nodes id (left_by w) m found (ap not free) h.places;
   claims = h.claims ∙ sym (total-with_made_same (λ (a : Made). one_if a.claimed) S.nodes id (left_by w) (λ m. refl));
   opened = rw (as_done _ _ (one_if (not (is_done m.place))) 1 (ap (λ (b : Bool). one_if (not b)) waits) (total-with_made (λ (a : Made). one_if (not (is_done a.place))) S.nodes id (left_by w) m found), total-unchanged (λ (x : Worker). one_if x.up) S.workers w (putting id) (λ x. refl), total-unchanged (λ (x : Worker). x.closes) S.workers w (putting id) (λ x. refl)) h.opened;
+  bounded = rw (as_done _ _ (one_if (not (is_done m.place))) 1 (ap (λ (b : Bool). one_if (not b)) waits) (total-with_made (λ (a : Made). one_if (not (is_done a.place))) S.nodes id (left_by w) m found), total-unchanged (λ (x : Worker). x.closes) S.workers w (putting id) (λ x. refl), length-with_made S.nodes id (left_by w)) h.bounded;
 }
   where
     as_done : (a b p q : ℕ) → p ≡ q → a + p ≡ b + q → a ≡ b
@@ -482,6 +500,7 @@ counted_beginning I gone workers budget start = record {
   places = All-from_recursion (λ m. claim_fits m.place m.claimed ≡ true) (beginning I gone workers budget start).nodes (refl, tt);
   claims = refl;
   opened = rw (all_zero (λ (x : Worker). one_if x.up) workers refl, all_zero (λ (x : Worker). x.closes) workers refl) refl;
+  bounded = rw (all_zero (λ (x : Worker). x.closes) workers refl) (omega arith);
 }
   where
     nothing : (id : ℕ) → None ≡ Some id → ⊥
@@ -509,7 +528,7 @@ counted_after S (Claim w) h allowed = by_test (nat_lt S.claims S.budget)
 counted_after S (See w) h allowed = counted_idle S w (λ x. record x { seen = S.least }) (λ x. refl) (λ x. refl) (λ x. refl) h
 counted_after S (Offer w value) h allowed =
     let k = counted_idle S w (λ x. record x { seen = min S.least value; offered = min x.offered value }) (λ x. refl) (λ x. refl) (λ x. refl) h in
-    record { hands = k.hands; ups = k.ups; places = k.places; claims = k.claims; opened = k.opened }
+    record { hands = k.hands; ups = k.ups; places = k.places; claims = k.claims; opened = k.opened; bounded = k.bounded }
 counted_after S (Up w) h allowed = let early = up_early S w allowed.early in counted_up S w early.worker early.claimed early.up h
 counted_after S (Split w v i o P) h allowed = counted_split S w v i o P (split_early S w v i o P allowed.early) h
 counted_after S (Close w P) h allowed = counted_close S w P (up_early S w allowed.early) h
@@ -524,4 +543,4 @@ counted_after S (SeeHalt w) h allowed = by_test S.halted
     by_test : (b : Bool) → IsCounted (cond b (ended S w HaltSeen) S)
     by_test true = counted_idle S w (λ x. record x { end = HaltSeen }) (λ x. refl) (λ x. refl) (λ x. refl) h
     by_test false = h
-counted_after S (Halt w) h allowed = record { hands = h.hands; ups = h.ups; places = h.places; claims = h.claims; opened = h.opened }
+counted_after S (Halt w) h allowed = record { hands = h.hands; ups = h.ups; places = h.places; claims = h.claims; opened = h.opened; bounded = h.bounded }

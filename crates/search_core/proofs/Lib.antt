@@ -13,3 +13,4 @@ pub mod Running
 pub mod Look
 pub mod Ids
 pub mod Reading
+pub mod Room

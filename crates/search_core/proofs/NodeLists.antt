@@ -1,5 +1,5 @@
 -- Lists of nodes in which one is changed.
-use Rattle.std.proofs.Common.{◌≡◌, ℕ, suc, ◌+◌, ◌<◌, map, arith, Bool, true, false, cond, List, [], ◌∷◌, ◌++◌, Option, Some, None, refl, sym, ap, ◌∙◌, subst}
+use Rattle.std.proofs.Common.{◌≡◌, ℕ, suc, ◌+◌, ◌<◌, length, map, arith, Bool, true, false, cond, List, [], ◌∷◌, ◌++◌, Option, Some, None, refl, sym, ap, ◌∙◌, subst}
 use Rattle.std.specs.Prelude.{◌==◌, find, All, Contains, IfSome}
 use Rattle.std.proofs.lemmas.Bool.Decides.{nat_tests}
 use Rattle.st_model.specs.Lists.{total}
@@ -110,3 +110,12 @@ found-among (x ∷ xs) id m e = by_case (has_id id x) e (found-among xs id m)
     by_case : (b : Bool) → cond b (Some x) (find (has_id id) xs) ≡ Some m → (find (has_id id) xs ≡ Some m → Contains (map (λ m. m.node) xs) m.node) → Contains (map (λ m. m.node) (x ∷ xs)) m.node
     by_case true e rest = let same : x ≡ m = cc in (0, omega arith, ap (λ (a : Made). a.node) same)
     by_case false e rest = later (rest e)
+
+-- no node joins or goes
+pub length-with_made : (nodes : List Made) (id : ℕ) (f : Made → Made) → length (with_made nodes id f) ≡ length nodes
+length-with_made [] id f = refl
+length-with_made (x ∷ xs) id f = by_case (has_id id x) (length-with_made xs id f)
+  where
+    by_case : (b : Bool) → length (with_made xs id f) ≡ length xs → length (cond b (f x ∷ xs) (x ∷ with_made xs id f)) ≡ length (x ∷ xs)
+    by_case true rest = refl
+    by_case false rest = ap (λ n. suc n) rest

@@ -1,5 +1,5 @@
 -- Lists of workers in which one is changed.
-use Rattle.std.proofs.Common.{◌≡◌, ℕ, zero, suc, ◌+◌, ◌<◌, ◌≤◌, min, List, [], ◌∷◌, length, Option, Some, None, refl, sym, ap, ◌∙◌, arith}
+use Rattle.std.proofs.Common.{◌≡◌, ℕ, zero, suc, ◌+◌, ◌<◌, ◌≤◌, min, Bool, true, false, cond, get_or, List, [], ◌∷◌, length, Option, Some, None, refl, sym, ap, ◌∙◌, arith}
 use Rattle.std.specs.Prelude.{All, slice_get}
 use Rattle.std.specs.List.{AllByRecursion}
 use Rattle.std.proofs.lemmas.List.Elements.{All-from_recursion, recursion_from_All}
@@ -68,3 +68,27 @@ least-start start (y ∷ ys) = below y.offered (least_offered start ys) start (l
   where
     below : (a b c : ℕ) → b ≤ c → min a b ≤ c
     below a b c h = omega arith
+
+-- a term is at most the sum
+pub total-term : {X : Type 0} (h : X → ℕ) (xs : List X) (k : ℕ) (d : X) → k < length xs → h (get_or xs k d) ≤ total h xs
+total-term h [] k d below = absurd (no_place k below)
+  where
+    no_place : (k : ℕ) → k < 0 → ⊥
+    no_place k h = omega arith
+total-term h (x ∷ xs) zero d below = first (h x) (total h xs)
+  where
+    first : (a b : ℕ) → a ≤ a + b
+    first a b = omega arith
+total-term h (x ∷ xs) (suc k) d below = later _ _ (h x) (total-term h xs k d (omega arith))
+  where
+    later : (a b c : ℕ) → a ≤ b → a ≤ c + b
+    later a b c h = omega arith
+
+-- a count is at most the length
+pub count-length : {X : Type 0} (t : X → Bool) (xs : List X) → total (λ x. cond (t x) 1 0) xs ≤ length xs
+count-length t [] = omega arith
+count-length t (x ∷ xs) = by_case (t x) (count-length t xs)
+  where
+    by_case : (b : Bool) → total (λ x. cond (t x) 1 0) xs ≤ length xs → cond b 1 0 + total (λ x. cond (t x) 1 0) xs ≤ suc (length xs)
+    by_case true h = omega arith
+    by_case false h = omega arith

@@ -1,5 +1,5 @@
 -- What every state keeps that a search reaches from its beginning.
-use Rattle.std.specs.Prelude.{◌≡◌, ℕ, ◌+◌, ◌≤◌, min, Bool, true, not, if◌then◌else◌, Option, Some, List, [], ◌∷◌, map, find, All, Contains}
+use Rattle.std.specs.Prelude.{◌≡◌, ℕ, ◌+◌, ◌≤◌, min, Bool, true, not, if◌then◌else◌, Option, Some, List, [], ◌∷◌, length, map, find, All, Contains}
 use Rattle.st_model.specs.Lists.{total}
 use Rattle.st_model.specs.Network.{Network}
 use Rattle.cut_packing.specs.declared.packing.Packing.{Packing}
@@ -108,6 +108,8 @@ pub record IsCounted (S : State) : Type 0 where
   pub claims : S.claims ≡ claimed S.nodes
   -- open are the nodes that are neither split nor closed, the ups that wait and the closes that wait
   pub opened : S.opened ≡ undone S.nodes + ups_waiting S.workers + closes_waiting S.workers
+  -- each close that waits is of a node that is closed
+  pub bounded : undone S.nodes + closes_waiting S.workers ≤ length S.nodes
 
 pub record IsKept (S : State) : Type 0 where
   pub sound : IsSound S

@@ -106,17 +106,13 @@ impl Search {
         self.halted = true;
     }
 
-    pub(crate) fn up(&mut self, w: u32) -> Result<(), AllocError>
+    pub(crate) fn up(&mut self, w: u32)
         requires { IsAllowed self.old (Event.Up w) }
-        ensures ok { OnOk result (self.new ≡ after self.old (Event.Up w)) }
-        ensures err { OnErr result (self.new ≡ self.old) }
+        ensures { self.new ≡ after self.old (Event.Up w) }
     {
-        if self.opened == u64::MAX {
-            return Err(AllocError);
-        }
+        prove!(self.nodes.len() < usize::MAX);
         self.opened += 1;
         await_split(&mut self.workers, w);
-        Ok(())
     }
 
     pub(crate) fn split(
@@ -157,6 +153,7 @@ impl Search {
         ensures err { OnErr result (self.new ≡ self.old) }
     {
         let id = self.hand(w).unwrap_or(0);
+        prove!(self.nodes.len() < usize::MAX);
         close(&mut self.workers, w, Done::Close { id, packing })?;
         self.nodes.set_place(id, Place::Closed);
         Ok(())

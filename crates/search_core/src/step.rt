@@ -94,7 +94,6 @@ impl Search {
         ensures err { OnErr result (self.new ≡ self.old) }
     {
         match event {
-            Event::Up { w } => return self.up(w),
             Event::Split {
                 w,
                 v,
@@ -109,6 +108,7 @@ impl Search {
             Event::Claim { w } => self.claim(w),
             Event::See { w } => self.see(w),
             Event::Offer { w, value } => self.offer(w, value),
+            Event::Up { w } => self.up(w),
             Event::Down { w } => self.down(w),
             Event::SeeOpen { w } => self.see_open(w),
             Event::SeeHalt { w } => self.see_halt(w),

@@ -89,15 +89,13 @@ pub fn end(workers: &mut Vec<Worker>, w: u32, why: End)
 
 /// A worker closes the node in its hand: that is recorded, and the close waits for its down.
 pub fn close(workers: &mut Vec<Worker>, w: u32, done: Done) -> Result<(), AllocError>
-    requires { w < length workers.old.items }
+    requires worker { w < length workers.old.items }
+    requires room { (d : Worker) → (slice_index_or workers.old.items w d).closes + 1 < 2 ^ 64 }
     ensures ok { OnOk result (workers.new.items ≡ changed_at workers.old.items w
         (λ x. record x { hand = None; closes = x.closes + 1; done = x.done ++ done ∷ [] })) }
     ensures err { OnErr result (workers.new.items ≡ workers.old.items) }
 {
     let worker = &mut workers[w as usize];
-    if worker.closes == u64::MAX {
-        return Err(AllocError);
-    }
     worker.done.push(done)?;
     worker.closes += 1;
     worker.hand = None;
