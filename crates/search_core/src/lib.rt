@@ -2,7 +2,12 @@
 //! gathered of them when they are done.
 //!
 //! A `Search` is seen as its state. `step` answers a fault exactly where the event's need fails,
-//! the first one in order, and else takes the event's effect.
+//! the first one in order (`faults_are_exact`), and else takes the event's effect. A caller may
+//! rely on what every state keeps (`events_keep`): each value seen lies between the least and the
+//! start cost, each record is sound, claims and open nodes are counted exactly. Of what is
+//! gathered, complete or not, nothing more is promised; where it is *complete*, a proof tree can be
+//! read off it (`complete_is_proof`), and where no node waits as well, it bounds every tree
+//! (`complete_bounds`).
 #![tactic(auto)]
 
 mod copies;

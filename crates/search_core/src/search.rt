@@ -1,4 +1,4 @@
-ghost use Rattle.std.specs.Prelude.{◌≡◌, ◌≤◌, ◌<◌, ℕ, IsTrue, IsFalse, IfOk, IfSome, false, replicate};
+ghost use Rattle.std.specs.Prelude.{◌≡◌, ℕ, IsTrue, IsFalse, IfOk, IfSome, false, replicate};
 ghost use Rattle.std.specs.Option.{option_copied};
 ghost use Rattle.st_model.specs.Branch.{IsVertexSet};
 ghost use Rattle.st_model.specs.Lists.{has};
@@ -153,7 +153,8 @@ fn copied(alloc: Global, instance: &Instance) -> Result<Instance, AllocError>
 
 // The node that a search starts from.
 fn root(alloc: Global, gone: &[u32]) -> Result<Made, AllocError>
-    ensures { IfOk result (λ made. made ≡ record { node = root_of gone.now; place = Place.Queue 0; claimed = false }) }
+    ensures { IfOk result
+        (λ made. made ≡ record { node = root_of gone.now; place = Place.Queue 0; claimed = false }) }
 {
     let branch = Branch {
         inside: Listed::of(Vec::new(alloc)),

@@ -54,7 +54,8 @@ impl Search {
         w: u32,
         packing: &Packing,
     ) -> Result<Option<EventFault>, AllocError>
-        ensures { IfOk result (λ fault. IfSome (held self.now w) (λ m. IsSplitFault self.now.instance m.node.branch packing.now (seen self.now w) fault)) }
+        ensures { IfOk result (λ fault. IfSome (held self.now w)
+            (λ m. IsSplitFault self.now.instance m.node.branch packing.now (seen self.now w) fault)) }
     {
         match self.held(w) {
             Some(made) => split_fault(
@@ -73,7 +74,8 @@ impl Search {
         w: u32,
         packing: &Packing,
     ) -> Result<Option<EventFault>, AllocError>
-        ensures { IfOk result (λ fault. IfSome (held self.now w) (λ m. IsCloseFault self.now.instance m.node.branch packing.now (seen self.now w) fault)) }
+        ensures { IfOk result (λ fault. IfSome (held self.now w)
+            (λ m. IsCloseFault self.now.instance m.node.branch packing.now (seen self.now w) fault)) }
     {
         match self.held(w) {
             Some(made) => close_fault(

@@ -36,7 +36,8 @@ fn without(hand: Option<u64>, id: u64) -> Option<u64>
 /// The claim of a worker is refused.
 pub fn refuse(workers: &mut Vec<Worker>, w: u32)
     requires { w < length workers.old.items }
-    ensures { workers.new.items ≡ changed_at workers.old.items w (λ x. record x { refused = true; end = End.ClaimRefused }) }
+    ensures { workers.new.items
+        ≡ changed_at workers.old.items w (λ x. record x { refused = true; end = End.ClaimRefused }) }
 {
     let worker = &mut workers[w as usize];
     worker.refused = true;
