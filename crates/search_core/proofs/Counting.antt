@@ -1,6 +1,6 @@
 -- Each event keeps the counts of a state.
-use Rattle.std.proofs.Common.{◌≡◌, ℕ, zero, suc, ◌+◌, ◌-◌, ◌<◌, ◌≤◌, min, Bool, true, false, cond, not, replicate, List, [], ◌∷◌, ◌++◌, length, map, Option, Some, None, refl, sym, ap, ◌∙◌, subst, arith, inl, inr}
-use Rattle.std.specs.Prelude.{◌==◌, ◌||◌, find, slice_get, All, nat_lt, option_and_then, unwrap_or}
+use Rattle.std.proofs.Common.{◌≡◌, ℕ, zero, suc, ◌+◌, ◌-◌, ◌<◌, ◌≤◌, min, Bool, true, false, cond, not, replicate, List, [], ◌∷◌, ◌++◌, length, Option, Some, None, refl, sym, ap, ◌∙◌, subst, arith}
+use Rattle.std.specs.Prelude.{◌==◌, ◌||◌, find, slice_get, nat_lt, option_and_then, unwrap_or}
 use Rattle.std.specs.Option.{option_map_or}
 use Rattle.std.proofs.lemmas.Bool.{false≢true}
 use Rattle.std.proofs.lemmas.Bool.Decides.{nat_tests}
@@ -26,7 +26,7 @@ use Rattle.search_core.specs.Effects.{after, ended, granted, refused, handed, mo
 use Rattle.search_core.specs.Kept.{IsCounted, InHand, one_if, claim_fits, undone, claimed, ups_waiting, closes_waiting}
 use Rattle.search_core.proofs.Early.{TakeEarly, PickEarly, GiveEarly, ClaimEarly, UpEarly, SplitEarly, KeepEarly, take_early, pick_early, give_early, claim_early, up_early, split_early, down_early, keep_early}
 use Rattle.search_core.proofs.Soundness.{HeldNode, held_node}
-use Rattle.search_core.proofs.Happened.{split_state, inside_made, outside_made, after_split}
+use Rattle.search_core.proofs.Happened.{inside_made, outside_made, after_split}
 use Rattle.search_core.proofs.NodeLists.{all-found, length-with_made, total-with_made, total-with_made_same}
 use Rattle.search_core.proofs.WorkerLists.{total-changed, total-unchanged}
 use Rattle.search_core.proofs.Look.{same_number, read-unchanged, read-same, read-other, stands, find-same, find-other, all-with_made_at, asked}

@@ -1,16 +1,13 @@
 -- What is known where an event has no early fault.
-use Rattle.std.proofs.Common.{◌≡◌, ℕ, ◌<◌, ◌≤◌, Bool, true, false, cond, not, ◌&&◌, ◌||◌, ◌==◌, List, [], ◌∷◌, length, Option, Some, None, refl, arith}
-use Rattle.std.specs.Prelude.{nat_le, is_none, is_some, slice_get}
+use Rattle.std.proofs.Common.{◌≡◌, ℕ, ◌<◌, Bool, true, false, cond, not, ◌&&◌, ◌||◌, ◌==◌, length, Option, Some, None, refl, arith}
+use Rattle.std.specs.Prelude.{nat_le, is_none, is_some}
 use Rattle.std.proofs.lemmas.Bool.Decides.{nat_tests}
 use Rattle.cut_packing.specs.declared.packing.Packing.{Packing}
-use Rattle.search_core.specs.declared.event.Event.{Event}
-use Rattle.search_core.specs.declared.event.Event.TheVariants.{Take, Pick, Give, Claim, See, Offer, Up, Split, Close, Down, SeeOpen, SeeHalt, Halt, Keep}
+use Rattle.search_core.specs.declared.event.Event.TheVariants.{Take, Pick, Give, Claim, See, Up, Split, Down, Keep}
 use Rattle.search_core.specs.declared.event.EventFault.{EventFault}
-use Rattle.search_core.specs.declared.event.EventFault.TheVariants.{NoWorker}
 use Rattle.search_core.specs.declared.made.Made.{Made}
-use Rattle.search_core.specs.declared.worker.Worker.{Worker}
 use Rattle.search_core.specs.State.{State, made_as, hand, held}
-use Rattle.search_core.specs.Needs.{early_fault, first, no_worker, is_queued, is_fresh, holds, is_claimed, was_refused, up_waits, close_waits, can_split, is_used}
+use Rattle.search_core.specs.Needs.{early_fault, no_worker, is_queued, is_fresh, holds, is_claimed, up_waits, close_waits, can_split, is_used}
 
 -- no test of two holds
 pub both_pass : (b : Bool) (f : EventFault) (o : Option EventFault) → cond b (Some f) o ≡ None → (b ≡ false) × (o ≡ None)

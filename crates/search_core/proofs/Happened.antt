@@ -1,6 +1,6 @@
 -- What a claim and a split make of the state, in one piece.
-use Rattle.std.proofs.Common.{◌≡◌, ℕ, false, List, [], ◌∷◌, ◌++◌, Option, Some, None, Bool, true, cond, ◌<◌, refl, arith}
-use Rattle.std.specs.Prelude.{find, unwrap_or, option_and_then, nat_lt}
+use Rattle.std.proofs.Common.{◌≡◌, ℕ, false, [], ◌∷◌, ◌++◌, Option, Some, true, ◌<◌, refl, arith}
+use Rattle.std.specs.Prelude.{unwrap_or, option_and_then, nat_lt}
 use Rattle.std.proofs.lemmas.Bool.Decides.{nat_tests}
 use Rattle.cut_packing.specs.declared.packing.Packing.{Packing}
 use Rattle.branching.specs.Node.{inside_half, outside_half}
@@ -8,8 +8,8 @@ use Rattle.search_core.specs.declared.done.Done.TheVariants as done
 use Rattle.search_core.specs.declared.event.Event.TheVariants.{Split, Claim}
 use Rattle.search_core.specs.declared.made.Made.{Made}
 use Rattle.search_core.specs.declared.made.Place.TheVariants as place
-use Rattle.search_core.specs.State.{State, hand, held, has_id, made_as, with_made, changed_at}
-use Rattle.search_core.specs.Effects.{after, granted, halves_made, id_in_hand, moved, split_into}
+use Rattle.search_core.specs.State.{State, hand, held, made_as, with_made, changed_at}
+use Rattle.search_core.specs.Effects.{after, granted, halves_made, moved, split_into}
 
 abbrev pub inside_made : Made → ℕ → ℕ → ℕ → Packing → Made
 inside_made m w v id P = record { node = inside_half (record m.node { packing = P }) v id; place = place.Hand w; claimed = false }

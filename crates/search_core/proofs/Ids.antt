@@ -1,16 +1,13 @@
 -- Ids of nodes that were made: each once, with one branch.
-use Rattle.std.proofs.Common.{◌≡◌, ℕ, zero, suc, ◌+◌, ◌<◌, ◌≤◌, Bool, true, false, cond, List, [], ◌∷◌, ◌++◌, length, map, get_or, refl, sym, ap, ◌∙◌, subst, arith, inl, inr}
+use Rattle.std.proofs.Common.{◌≡◌, ℕ, zero, suc, ◌+◌, ◌<◌, ◌≤◌, Bool, true, cond, List, [], ◌∷◌, ◌++◌, refl, sym, ◌∙◌, subst, arith, inl, inr}
 use Rattle.std.specs.Prelude.{◌==◌, Contains, ◌⊎◌}
 use Rattle.std.specs.List.{flat_map}
 use Rattle.std.proofs.lemmas.Bool.Decides.{nat_tests}
 use Rattle.st_model.specs.declared.branch.Branch.{Branch}
-use Rattle.st_model.specs.Branch.{with_inside, with_outside}
-use Rattle.st_model.specs.Lists.{total}
 use Rattle.cut_packing.specs.declared.packing.Packing.{Packing}
 use Rattle.search_core.specs.declared.done.Done.{Done}
-use Rattle.search_core.specs.declared.done.Done.TheVariants.{Split, Close}
-use Rattle.search_core.specs.Complete.{IsMade, root, inside_of, outside_of, half_ids, made_ids, times, without_gone}
-use Rattle.search_core.proofs.Look.{same_number}
+use Rattle.search_core.specs.declared.done.Done.TheVariants.{Split}
+use Rattle.search_core.specs.Complete.{IsMade, root, inside_of, outside_of, half_ids, made_ids, times}
 
 -- membership by recursion
 abbrev pub Among : {X : Type 0} → List X → X → Type 0

@@ -1,13 +1,13 @@
 -- A proof tree is read off what is complete.
-use Rattle.std.proofs.Common.{◌≡◌, ℕ, zero, suc, ◌+◌, ◌<◌, ◌≤◌, min, Bool, true, false, cond, not, ◌&&◌, ◌||◌, List, [], ◌∷◌, ◌++◌, map, refl, sym, ap, ◌∙◌, subst, arith, inl, inr}
-use Rattle.std.specs.Prelude.{◌==◌, Contains, All, IsTrue, IsFalse, ◌⊎◌}
+use Rattle.std.proofs.Common.{◌≡◌, ℕ, zero, suc, ◌+◌, ◌<◌, ◌≤◌, min, Bool, true, false, cond, not, ◌&&◌, ◌||◌, List, [], ◌∷◌, map, refl, sym, ◌∙◌, subst, arith, inl, inr}
+use Rattle.std.specs.Prelude.{◌==◌, Contains, All, ◌⊎◌}
 use Rattle.std.specs.List.{flat_map}
 use Rattle.std.proofs.lemmas.Bool.Decides.{nat_tests}
 use Rattle.std.proofs.lemmas.List.Elements.{All-contains, All-head, All-tail, Contains-append_cases}
 use Rattle.st_model.specs.declared.branch.Branch.{Branch}
 use Rattle.st_model.specs.Branch.{is_undecided, with_inside, with_outside}
-use Rattle.st_model.specs.Lists.{has, sum_to, total}
-use Rattle.st_model.specs.Network.{Network, IsVertex}
+use Rattle.st_model.specs.Lists.{has, sum_to}
+use Rattle.st_model.specs.Network.{Network}
 use Rattle.st_model.proofs.Halves.{has-with_vertex}
 use Rattle.cut_packing.specs.declared.packing.Packing.{Packing}
 use Rattle.cut_packing.specs.Packing.{Fits, weight}
@@ -17,8 +17,8 @@ use Rattle.search_core.specs.declared.done.Done.{Done}
 use Rattle.search_core.specs.declared.done.Done.TheVariants.{Split, Close}
 use Rattle.search_core.specs.declared.gathered.Gathered.{Gathered}
 use Rattle.search_core.specs.declared.gathered.Segment.{Segment}
-use Rattle.search_core.specs.Complete.{IsComplete, IsMade, root, inside_of, outside_of, IsRightRecord, IsRightNode, IsRightSegment, records, waiting, done_id, standing_ids, made_ids, times, without_gone}
-use Rattle.search_core.specs.ReadOff.{CompleteBounds, CompleteIsProof, IsReadOff, closed, waits, was_split, least_weight, ProvesItsLeast}
+use Rattle.search_core.specs.Complete.{IsComplete, IsMade, root, inside_of, outside_of, IsRightRecord, IsRightNode, IsRightSegment, records, waiting, done_id, times, without_gone}
+use Rattle.search_core.specs.ReadOff.{CompleteBounds, CompleteIsProof, IsReadOff, closed, waits, was_split, least_weight}
 use Rattle.cut_packing.proofs.Duality.{proof_tree_bounds_lem}
 use Rattle.search_core.proofs.Ids.{one_branch, made_times, times-append}
 use Rattle.search_core.proofs.Look.{same_number}

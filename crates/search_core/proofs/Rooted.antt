@@ -1,12 +1,11 @@
 -- The node that a search starts from is one.
-use Rattle.std.proofs.Common.{◌≡◌, ℕ, ◌+◌, ◌≤◌, ◌<◌, List, [], length, Option, Some, None, refl, arith}
-use Rattle.std.specs.Prelude.{All, IsTrue, IsFalse, IfSome}
+use Rattle.std.proofs.Common.{ℕ, ◌+◌, ◌≤◌, ◌<◌, List, [], length, Option, Some, None, refl, arith}
+use Rattle.std.specs.Prelude.{IsTrue, IsFalse, IfSome}
 use Rattle.std.proofs.lemmas.Bool.{false≢true}
 use Rattle.std.proofs.lemmas.List.Elements.{All-nil}
 use Rattle.st_model.specs.Branch.{IsVertexSet}
 use Rattle.st_model.specs.Lists.{has}
 use Rattle.st_model.specs.Network.{Network, IsVertex, is_required, link}
-use Rattle.cut_packing.specs.declared.cut.Cut.{Cut}
 use Rattle.cut_packing.specs.Packing.{CutFits}
 use Rattle.branching.specs.Node.{IsNode}
 use Rattle.search_core.specs.State.{root_of}

@@ -7,12 +7,11 @@ use Rattle.cut_packing.specs.declared.packing.Packing.{Packing}
 use Rattle.cut_packing.specs.Packing.{weight}
 use Rattle.search_core.specs.declared.made.Made.{Made}
 use Rattle.search_core.specs.declared.event.Event.{Event}
-use Rattle.search_core.specs.declared.event.Event.TheVariants.{Take, Pick, Give, Claim, See, Offer, Up, Split, Close, Down, SeeOpen, SeeHalt, Halt, Keep}
+use Rattle.search_core.specs.declared.event.Event.TheVariants.{Split, Close}
 use Rattle.search_core.specs.declared.event.EventFault.{EventFault}
-use Rattle.search_core.specs.declared.event.EventFault.TheVariants.{NoWorker, HandFull, HandEmpty, NotThere, NotClaimed, IsClaimed, WasRefused, NotRefused, OutOfTurn, BadVertex, UsedId, BadPacking, TooLight}
+use Rattle.search_core.specs.declared.event.EventFault.TheVariants.{BadPacking, TooLight}
 use Rattle.search_core.specs.State.{State, beginning, held, seen}
-use Rattle.search_core.specs.Needs.{IsAllowed, IsFault, IsPackingFault, IsSplitFault, IsCloseFault, early_fault}
-use Rattle.search_core.specs.Effects.{after}
+use Rattle.search_core.specs.Needs.{IsPackingFault, IsSplitFault, IsCloseFault, early_fault}
 use Rattle.search_core.specs.Steps.{Step, Run}
 use Rattle.search_core.specs.Kept.{IsKept}
 use Rattle.search_core.specs.Laws.{EventsKeep, AllowedHasNoFault, FaultIsOne}

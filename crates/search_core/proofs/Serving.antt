@@ -1,5 +1,5 @@
 -- A packing on which a branch may be split.
-use Rattle.std.proofs.Common.{◌≡◌, ℕ, Bool, Result, Ok, Err, inl, inr}
+use Rattle.std.proofs.Common.{ℕ, Bool, Result, Ok, Err, inl, inr}
 use Rattle.std.specs.declared.alloc.AllocError.{AllocError}
 use Rattle.std.specs.Prelude.{IsTrue, IfOk, ◌↔◌}
 use Rattle.st_model.specs.declared.branch.Branch.{Branch}

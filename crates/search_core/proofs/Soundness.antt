@@ -1,28 +1,28 @@
 -- Each event keeps a state sound.
 use Rattle.std.proofs.Common.{◌≡◌, ℕ, zero, suc, replicate, Bool, true, false, cond, not, ◌&&◌, ◌+◌, ◌-◌, ◌<◌, ◌≤◌, length, arith, List, [], ◌∷◌, ◌++◌, Option, Some, None, refl, sym, ap, ◌∙◌, subst, inl, inr}
-use Rattle.std.specs.Prelude.{All, Contains, map, min, slice_get, IsTrue, IsFalse, nat_lt, nat_le, find, IfSome, ◌==◌, option_and_then, unwrap_or}
+use Rattle.std.specs.Prelude.{All, Contains, map, min, slice_get, IsFalse, nat_lt, nat_le, IfSome, ◌==◌, option_and_then, unwrap_or}
 use Rattle.std.specs.Option.{option_map_or}
 use Rattle.std.proofs.lemmas.Bool.Decides.{nat_tests}
 use Rattle.std.proofs.lemmas.List.Elements.{All-append, All-from_recursion, All-nil, All-push, All-replicate, All-weaker, Contains-append_left, Contains-append_right}
 use Rattle.std.proofs.lemmas.List.{map-append}
 use Rattle.st_model.specs.Branch.{is_free, is_undecided}
-use Rattle.st_model.specs.Network.{Network, IsVertex, is_required}
+use Rattle.st_model.specs.Network.{Network, is_required}
 use Rattle.cut_packing.specs.declared.packing.Packing.{Packing}
 use Rattle.cut_packing.specs.Packing.{Fits, weight}
 use Rattle.cut_packing.specs.ProofTree.{IsSplit, Closes}
 use Rattle.st_model.specs.declared.branch.Branch.{Branch}
 use Rattle.branching.specs.declared.node.Node.{Node}
-use Rattle.branching.specs.Node.{IsNode, inside_half, outside_half}
+use Rattle.branching.specs.Node.{IsNode}
 use Rattle.branching.proofs.NoLighter.{inside_node, outside_node}
 use Rattle.search_core.specs.declared.event.Event.{Event}
 use Rattle.search_core.specs.declared.event.Event.TheVariants.{Take, Pick, Give, Claim, See, Offer, Up, Split, Close, Down, SeeOpen, SeeHalt, Halt, Keep}
 use Rattle.search_core.specs.declared.done.Done.{Done}
 use Rattle.search_core.specs.declared.done.Done.TheVariants as done
 use Rattle.search_core.specs.declared.made.Made.{Made}
-use Rattle.search_core.specs.State.{State, made_as, hand, held, with_made, changed_at, has_id, seen, beginning, new_worker, root_of}
+use Rattle.search_core.specs.State.{State, made_as, hand, held, with_made, changed_at, seen, beginning, new_worker, root_of}
 use Rattle.search_core.specs.declared.made.Place.TheVariants.{Queue}
 use Rattle.search_core.specs.declared.made.Place.TheVariants as place
-use Rattle.search_core.specs.Needs.{IsAllowed, AllowsSplit, early_fault, can_split, splits_at}
+use Rattle.search_core.specs.Needs.{IsAllowed, AllowsSplit, splits_at}
 use Rattle.search_core.specs.Effects.{after, granted, refused, ended, halves_made, id_in_hand}
 use Rattle.search_core.specs.declared.done.End.TheVariants.{OpenZero, HaltSeen}
 use Rattle.search_core.specs.declared.worker.Worker.{Worker}
@@ -30,7 +30,7 @@ use Rattle.search_core.specs.Kept.{IsSound, IsSoundRecord, IsSoundWork, made_nod
 use Rattle.search_core.proofs.Early.{see_early, split_early, up_early}
 use Rattle.search_core.proofs.Happened.{after_split, split_state, inside_made, outside_made}
 use Rattle.search_core.proofs.NodeLists.{all-with_made, all-found, nodes-with_made, found-id, found-among}
-use Rattle.search_core.proofs.WorkerLists.{all-changed, least-unchanged, least-offer, least-start}
+use Rattle.search_core.proofs.WorkerLists.{all-changed, least-unchanged, least-offer}
 
 -- a change of a node's place and claim keeps it a node
 abbrev AreNodes : Network → List Made → Type 0

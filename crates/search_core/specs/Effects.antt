@@ -1,5 +1,5 @@
 -- What each event does to the state.
-use Rattle.std.specs.Prelude.{◌≡◌, ℕ, ◌+◌, ◌-◌, ◌==◌, min, Bool, true, false, nat_lt, if◌then◌else◌, List, [], ◌∷◌, ◌++◌, Option, Some, None, unwrap_or}
+use Rattle.std.specs.Prelude.{ℕ, ◌+◌, ◌-◌, ◌==◌, min, true, false, nat_lt, if◌then◌else◌, List, [], ◌∷◌, ◌++◌, Option, Some, None, unwrap_or}
 use Rattle.cut_packing.specs.declared.packing.Packing.{Packing}
 use Rattle.branching.specs.declared.node.Node.{Node}
 use Rattle.branching.specs.Node.{inside_half, outside_half}
@@ -12,7 +12,6 @@ use Rattle.search_core.specs.declared.event.Event.TheVariants.{Take, Pick, Give,
 use Rattle.search_core.specs.declared.made.Made.{Made}
 use Rattle.search_core.specs.declared.made.Place.{Place}
 use Rattle.search_core.specs.declared.made.Place.TheVariants as place
-use Rattle.search_core.specs.declared.worker.Worker.{Worker}
 use Rattle.search_core.specs.State.{State, hand, held, with_node, with_worker}
 
 -- the node under an id is in this place

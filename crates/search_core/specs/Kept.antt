@@ -1,5 +1,5 @@
 -- What every state keeps that a search reaches from its beginning.
-use Rattle.std.specs.Prelude.{◌≡◌, ℕ, ◌+◌, ◌≤◌, min, Bool, true, not, if◌then◌else◌, Option, Some, List, [], ◌∷◌, length, map, find, All, Contains}
+use Rattle.std.specs.Prelude.{◌≡◌, ℕ, ◌+◌, ◌≤◌, min, Bool, true, not, if◌then◌else◌, Some, List, [], ◌∷◌, length, map, find, All, Contains}
 use Rattle.st_model.specs.Lists.{total}
 use Rattle.st_model.specs.Network.{Network}
 use Rattle.cut_packing.specs.declared.packing.Packing.{Packing}

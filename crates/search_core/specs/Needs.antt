@@ -1,5 +1,5 @@
 -- What each event needs, and the fault where a need fails: of several the first.
-use Rattle.std.specs.Prelude.{◌≡◌, ℕ, ◌<◌, ◌==◌, Bool, true, false, not, ◌&&◌, ◌||◌, nat_lt, nat_le, if◌then◌else◌, List, [], ◌∷◌, length, Option, Some, None, is_none, is_some, option_and_then, slice_get, IfSome, ◌⊎◌}
+use Rattle.std.specs.Prelude.{◌≡◌, ℕ, ◌<◌, ◌==◌, Bool, true, false, not, ◌&&◌, ◌||◌, nat_lt, nat_le, if◌then◌else◌, List, [], ◌∷◌, length, Option, Some, None, is_none, is_some, slice_get, IfSome, ◌⊎◌}
 use Rattle.std.specs.Option.{option_map_or}
 use Rattle.st_model.specs.declared.branch.Branch.{Branch}
 use Rattle.st_model.specs.Branch.{is_free, NoneIsCertain}
@@ -12,10 +12,8 @@ use Rattle.search_core.specs.declared.event.Event.{Event}
 use Rattle.search_core.specs.declared.event.Event.TheVariants.{Take, Pick, Give, Claim, See, Offer, Up, Split, Close, Down, SeeOpen, SeeHalt, Halt, Keep}
 use Rattle.search_core.specs.declared.event.EventFault.{EventFault}
 use Rattle.search_core.specs.declared.event.EventFault.TheVariants.{NoWorker, HandFull, HandEmpty, NotThere, NotClaimed, IsClaimed, WasRefused, NotRefused, OutOfTurn, BadVertex, UsedId, BadPacking, TooLight}
-use Rattle.search_core.specs.declared.made.Made.{Made}
 use Rattle.search_core.specs.declared.made.Place.{Place}
 use Rattle.search_core.specs.declared.made.Place.TheVariants.{Queue, Fresh}
-use Rattle.search_core.specs.declared.worker.Worker.{Worker}
 use Rattle.search_core.specs.State.{State, made_as, hand, held, seen}
 
 abbrev pub no_worker : State → ℕ → Bool

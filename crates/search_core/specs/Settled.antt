@@ -1,12 +1,11 @@
 -- What is left to do in a state, when it is settled, and what is gathered of it.
-use Rattle.std.specs.Prelude.{◌≡◌, ℕ, ◌+◌, ◌==◌, Bool, true, false, not, IsTrue, List, [], ◌∷◌, Option, None, All, map, filter, ◌⊎◌}
-use Rattle.st_model.specs.declared.tree.Tree.{Tree}
+use Rattle.std.specs.Prelude.{◌≡◌, ℕ, ◌+◌, ◌==◌, Bool, true, false, List, [], ◌∷◌, None, All, map, filter, ◌⊎◌}
 use Rattle.branching.specs.declared.node.Node.{Node}
 use Rattle.search_core.specs.declared.gathered.Gathered.{Gathered}
 use Rattle.search_core.specs.declared.gathered.Segment.{Segment}
 use Rattle.search_core.specs.declared.made.Made.{Made}
 use Rattle.search_core.specs.declared.made.Place.{Place}
-use Rattle.search_core.specs.declared.made.Place.TheVariants.{Queue, Hand, Fresh, Left, Split, Closed}
+use Rattle.search_core.specs.declared.made.Place.TheVariants.{Queue, Left, Split, Closed}
 use Rattle.search_core.specs.declared.worker.Worker.{Worker}
 use Rattle.search_core.specs.Needs.{is_queue}
 use Rattle.search_core.specs.State.{State}

@@ -1,12 +1,10 @@
 -- The state of a search by several workers: the nodes that were made, and what each worker holds and saw.
-use Rattle.std.specs.Prelude.{◌≡◌, ℕ, zero, suc, ◌==◌, Bool, true, false, List, [], ◌∷◌, Option, Some, None, find, unwrap_or, option_and_then, slice_get, map, replicate, if◌then◌else◌}
+use Rattle.std.specs.Prelude.{ℕ, zero, suc, ◌==◌, Bool, false, List, [], ◌∷◌, Option, None, find, option_and_then, slice_get, replicate, if◌then◌else◌}
 use Rattle.std.specs.Option.{option_map_or}
 use Rattle.st_model.specs.Network.{Network}
-use Rattle.cut_packing.specs.declared.packing.Packing.{Packing}
 use Rattle.branching.specs.declared.node.Node.{Node}
 use Rattle.search_core.specs.declared.done.End.TheVariants.{OpenZero}
 use Rattle.search_core.specs.declared.made.Made.{Made}
-use Rattle.search_core.specs.declared.made.Place.{Place}
 use Rattle.search_core.specs.declared.made.Place.TheVariants.{Queue}
 use Rattle.search_core.specs.declared.worker.Worker.{Worker}
 

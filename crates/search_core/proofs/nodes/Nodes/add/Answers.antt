@@ -1,4 +1,3 @@
-use Rattle.std.proofs.Common.{sym, ap, ◌∙◌}
 use Rattle.search_core.proofs.Found.{ids-push}
 use Rattle.search_core.proofs.nodes.Nodes.add.Goals as goal
 

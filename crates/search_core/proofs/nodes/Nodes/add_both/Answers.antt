@@ -1,5 +1,4 @@
-use Rattle.std.proofs.Common.{◌≡◌, ◌∷◌, [], ◌++◌, sym, ap, ◌∙◌}
-use Rattle.std.proofs.lemmas.List.{append_assoc}
+use Rattle.std.proofs.Common.{◌≡◌, ◌∷◌, [], ◌++◌, ◌∙◌}
 use Rattle.search_core.proofs.Found.{ids-push, none_found-push, ids_of}
 use Rattle.search_core.proofs.nodes.Nodes.add_both.Goals as goal
 

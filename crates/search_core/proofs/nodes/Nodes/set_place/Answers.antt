@@ -1,4 +1,4 @@
-use Rattle.std.proofs.Common.{true, refl, sym, ◌∙◌}
+use Rattle.std.proofs.Common.{refl, sym, ◌∙◌}
 use Rattle.search_core.proofs.Found.{changed_node, unchanged_nodes, ids-set}
 use Rattle.search_core.proofs.nodes.Nodes.set_place.Goals as goal
 
