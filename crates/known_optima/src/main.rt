@@ -1,6 +1,7 @@
 //! The program `known_optima`: solves each file that its words name, with a log, and checks the
-//! log. It writes the file's name, how the solving ended, and what the check says. Its own data are
-//! files whose optimum programs apart from this project found.
+//! log; and once more plainly, without reduction steps. It writes the file's name, how each solving
+//! ended, and what each check says. Its own data are files whose optimum programs apart from this
+//! project found.
 #![tactic(auto)]
 
 use st_edge::{DiskShelf, MemorySink, Shelf, Sink, StdSink, send_all};
@@ -12,29 +13,39 @@ use steiner_top::{OpenGate, Status, run};
 /// More bytes than any of the solutions has.
 const ROOM: u64 = 1_000_000;
 
+/// The words that stand after a file's name where it is solved.
+const REDUCED: &[&str] = &["--log", "log"];
+
+const PLAIN: &[&str] = &["--log", "log", "--plain"];
+
 fn main(rt: HostRuntime) -> ExitCode {
-    let Ok(words) = env::args(&rt) else {
+    let Ok(names) = env::args(&rt) else {
         return ExitCode::from(Status::NoMemory.code());
     };
     let mut shelf = DiskShelf::new(&rt);
     let mut out = StdSink::new(&rt);
-    for name in words.skip(1) {
-        if tell(rt.alloc(), &name, &mut shelf, &mut out).is_err() {
-            return ExitCode::from(Status::NoMemory.code());
+    for name in names.skip(1) {
+        for words in [REDUCED, PLAIN] {
+            if tell(rt.alloc(), &name, words, &mut shelf, &mut out).is_err() {
+                return ExitCode::from(Status::NoMemory.code());
+            }
         }
     }
     ExitCode::SUCCESS
 }
 
-// Writes a line on a file: its name, the status of solving it, and the verdict on the log.
+// Writes a line on a file: its name, the status of solving it by these words, and the verdict on the
+// log.
 fn tell<F: Shelf, K: Sink>(
     alloc: Global,
     name: &str,
+    words: &[&str],
     shelf: &mut F,
     out: &mut K,
 ) -> Result<(), AllocError> {
     let mut solution = MemorySink::of(alloc, ROOM, ROOM, Vec::new(alloc))?;
-    let solve = words_of(alloc, &["solve", name, "--log", "log"])?;
+    let mut solve = words_of(alloc, &["solve", name])?;
+    solve.append(&mut words_of(alloc, words)?)?;
     let solved = run(alloc, &solve, shelf, &mut solution, &OpenGate).status;
     let head = format!(in alloc; "{name} {} ", solved.code())?;
     let _ = send_all(out, head.as_bytes());
