@@ -1,14 +1,19 @@
 ghost use Rattle.std.specs.Prelude.{All, IfOk, OnOk};
 ghost use Rattle.std.specs.BinaryHeap.{heap_items};
+ghost use Rattle.st_model.specs.Network.{IsVertex};
 ghost use Rattle.dual_ascent.specs.Turns.{IsGrowth, IsLooked, IsSameVertex, IsWaiting, TakesTurn};
 
 use crate::border::border_of;
 use crate::growing::Growth;
-use crate::waiting::{Queue, Waiting, next};
+use crate::waiting::{Queue, Waiting, is_certain, next};
 use bidirected_form::Arcs;
 use cut_packing::Cut;
+use st_model::VertexSet;
 use std::alloc::AllocError;
 use std::cmp::Reverse;
+
+// More arcs than enter any set.
+const MANY_ARCS: usize = 1_000_000_000;
 
 // A vertex whose turn it is, and whether the root reaches it.
 #[derive(Clone, Copy)]
@@ -75,7 +80,7 @@ fn take_turn(
 }
 
 // Looks whether the root reaches a waiting vertex; if it doesn't, counts the arcs that enter the
-// set of all that reaches the vertex.
+// set of all that reaches the vertex, and many more where that holds another vertex that waits.
 fn look(
     arcs: &Arcs,
     cuts: &[Cut],
@@ -95,11 +100,29 @@ fn look(
         });
     }
     let entering = border_of(arcs, &growth.set, 0).arcs;
+    let others = if holds_another(arcs, &growth.set, waiting.vertex) {
+        MANY_ARCS
+    } else {
+        0
+    };
     Ok(Turn {
         waiting: Waiting {
-            entering,
+            entering: entering.saturating_add(others),
             ..waiting
         },
         is_reached: false,
     })
+}
+
+// Whether a set holds another vertex that has to be reached. The root doesn't reach that one either,
+// so its own set, which lies in this one, is to be raised first.
+fn holds_another(arcs: &Arcs, set: &VertexSet, vertex: u32) -> bool
+    requires { All (IsVertex arcs.now.n) set.now.members }
+{
+    for other in set.members() {
+        if *other != vertex && is_certain(arcs, *other) {
+            return true;
+        }
+    }
+    false
 }
