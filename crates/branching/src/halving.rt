@@ -70,20 +70,8 @@ fn cuts_without(alloc: Global, cuts: &[Cut], vertex: u32) -> Result<Vec<Cut>, Al
     let mut kept = Vec::new(alloc);
     for cut in cuts {
         if cut.q != vertex {
-            kept.push(copied(alloc, cut)?)?;
+            kept.push(cut.shared()?)?;
         }
     }
     Ok(kept)
-}
-
-// The same cut again.
-fn copied(alloc: Global, cut: &Cut) -> Result<Cut, AllocError>
-    ensures { IfOk result (λ copy. copy ≡ cut.now) }
-{
-    let set = Vec::from_slice(alloc, cut.set.as_slice())?;
-    Ok(Cut {
-        set: Listed::of(set),
-        q: cut.q,
-        y: cut.y,
-    })
 }

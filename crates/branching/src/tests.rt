@@ -2,7 +2,7 @@ ghost use Rattle.std.specs.Prelude.{◌≡◌, IfOk, IfSome};
 ghost use Rattle.branching.specs.Node.{IsNode};
 
 use crate::{Node, choose, halves, halves_are_no_lighter};
-use cut_packing::{Cut, Packing};
+use cut_packing::{Cut, Packing, SharedSet};
 use st_model::{Branch, Instance, Listed, Need};
 use std::alloc::{AllocError, Global};
 use std::test::Fail;
@@ -140,7 +140,7 @@ const CUTS: [(&[u32], u32, u64); 4] = [
 fn cuts(alloc: Global) -> Result<Vec<Cut>, AllocError> {
     let mut cuts = Vec::new(alloc);
     for (set, q, y) in CUTS {
-        let set = Listed::of(Vec::from_slice(alloc, set)?);
+        let set = SharedSet::of(Vec::from_slice(alloc, set)?)?;
         cuts.push(Cut { set, q, y })?;
     }
     Ok(cuts)

@@ -15,6 +15,7 @@ mod loads;
 mod named;
 mod packing;
 mod set_table;
+mod shared_set;
 #[cfg(test)]
 mod tests;
 mod used_up;
@@ -26,4 +27,5 @@ pub use fullness::is_full;
 pub use law::{proof_tree_bounds, weak_duality};
 pub use packing::Packing;
 pub use set_table::SetTable;
+pub use shared_set::SharedSet;
 pub use weighing::weight;

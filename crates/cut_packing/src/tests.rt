@@ -3,7 +3,7 @@ ghost use Rattle.st_model.specs.Branch.{all_trees, with_outside};
 
 mod judge;
 
-use crate::{Cut, Packing, SetTable, fits, is_full, proof_tree_bounds, weak_duality, weight};
+use crate::{Cut, Packing, SetTable, SharedSet, fits, is_full, proof_tree_bounds, weak_duality, weight};
 use judge::{plain_fits, plain_full};
 use st_model::{Branch, Instance, Listed, Need, Sides};
 use std::alloc::{AllocError, Global};
@@ -25,7 +25,7 @@ fn triangle(alloc: Global, centre: u64) -> Result<Instance, AllocError>
 
 fn cut(alloc: Global, set: &[u32], q: u32, y: u64) -> Result<Cut, AllocError> {
     Ok(Cut {
-        set: Listed::of(Vec::from_slice(alloc, set)?),
+        set: SharedSet::of(Vec::from_slice(alloc, set)?)?,
         q,
         y,
     })
@@ -189,7 +189,7 @@ fn random_packing(alloc: Global, draws: &mut Draws) -> Result<Packing, AllocErro
             set.push(stray)?;
         }
         cuts.push(Cut {
-            set: Listed::of(set),
+            set: SharedSet::of(set)?,
             q: 2 + draws.below(3) as u32,
             y: draws.below(3),
         })?;
@@ -249,5 +249,16 @@ fn random_packings_are_judged_alike(rt: HostRuntime) -> Result<(), Fail> {
     }
     assert!(rt; 100 < fitting && fitting < 1900);
     assert!(rt; 2 < full && full < 1900);
+    Ok(())
+}
+
+#[test]
+fn a_shared_packing_is_the_same(rt: HostRuntime) -> Result<(), Fail> {
+    let alloc = rt.alloc();
+    let shared = packing(alloc, 2)?.shared(alloc)?;
+    let instance = triangle(alloc, 1)?;
+    assert_eq!(rt; shared.cuts.as_slice().len(), 3);
+    assert_eq!(rt; shared.cuts.as_slice()[2].set.as_slice(), &[2, 3, 4]);
+    assert!(rt; fits(alloc, &instance, &everything(alloc)?, &shared)?);
     Ok(())
 }

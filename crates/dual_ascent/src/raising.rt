@@ -9,9 +9,9 @@ use crate::border::border_of;
 use crate::turning::Turn;
 use crate::waiting::{is_certain, is_raisable};
 use bidirected_form::Arcs;
-use cut_packing::Cut;
+use cut_packing::{Cut, SharedSet};
 use prize_transform::Twins;
-use st_model::{Listed, VertexSet};
+use st_model::VertexSet;
 use std::alloc::{AllocError, Global};
 
 // A cut that can be added.
@@ -75,7 +75,7 @@ pub fn cut_round(alloc: Global, set: &VertexSet, q: u32, y: u64) -> Result<Cut, 
     let mut members = Vec::from_slice(alloc, set.members())?;
     members.sort()?;
     Ok(Cut {
-        set: Listed::of(members),
+        set: SharedSet::of(members)?,
         q,
         y,
     })

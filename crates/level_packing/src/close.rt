@@ -10,7 +10,7 @@ use crate::ascending::ascending;
 use crate::forest::{Forest, alone};
 use crate::present::present_links;
 use crate::search::{first_apart, first_present};
-use cut_packing::{Cut, Packing};
+use cut_packing::{Cut, Packing, SharedSet};
 use st_model::{Instance, Link, Listed, Sides, thin};
 use std::alloc::{AllocError, Global};
 
@@ -118,7 +118,7 @@ fn wall(
     let set = ascending(alloc, &forest.members[name as usize])?;
     let cuts = vec![in alloc;
         Cut {
-            set: Listed::of(set),
+            set: SharedSet::of(set)?,
             q: name,
             y: target
         },

@@ -5,8 +5,8 @@ ghost use Rattle.level_packing.specs.Forest.{IsGrown, IsPresentLink, groups, lis
 ghost use Rattle.level_packing.specs.Growing.{IsAlone, IsRaised, IsJoinedBy, IsMerged, IsMergedInto};
 
 use crate::ascending::ascending;
-use cut_packing::Cut;
-use st_model::{Instance, Link, Listed, Sides};
+use cut_packing::{Cut, SharedSet};
+use st_model::{Instance, Link, Sides};
 use std::alloc::{AllocError, Global};
 use std::mem;
 
@@ -102,7 +102,7 @@ impl Forest {
         if name != of_root && formed < cost {
             let set = ascending(alloc, &self.members[name as usize])?;
             self.cuts.push(Cut {
-                set: Listed::of(set),
+                set: SharedSet::of(set)?,
                 q: name,
                 y: cost - formed,
             })?;

@@ -2,7 +2,7 @@ ghost use Rattle.std.specs.Prelude.{◌≡◌, ◌+◌, ◌^◌, ◌≤◌, ◌<
 ghost use Rattle.log_format.specs.Reading.{Gives, after, word_at, number_at, only, number_of, pair_of, vertices_at, counted_at, ascends, set_at, cut_head_of, cut_of, wall_of};
 
 use crate::fault::LineError;
-use cut_packing::Cut;
+use cut_packing::{Cut, SharedSet};
 use plain_text::number;
 use st_model::Listed;
 use std::alloc::Global;
@@ -158,7 +158,7 @@ pub fn cut_of(alloc: Global, line: &[u8]) -> Result<Cut, LineError>
     let (q, y, rest) = cut_head_of(line).ok_or(LineError::BadLine)?;
     let set = set_at(alloc, rest)?;
     Ok(Cut {
-        set: Listed::of(set),
+        set: SharedSet::of(set)?,
         q,
         y,
     })

@@ -3,7 +3,7 @@ ghost use Rattle.node_pool.specs.Pool.{AreAllPasses, SamePass};
 
 use crate::{Pass, Sound, begin, close, passes_stay_a_pool};
 use branching::Node;
-use cut_packing::{Cut, Packing};
+use cut_packing::{Cut, Packing, SharedSet};
 use st_model::{Branch, Listed};
 use std::alloc::{AllocError, Global};
 use std::sync::Wait;
@@ -26,7 +26,7 @@ type Passes = Vec<Pass<Anything>>;
 // A node with a number that its packing tells too.
 fn node(alloc: Global, id: u64) -> Result<Node, AllocError> {
     let cut = Cut {
-        set: Listed::of(vec![in alloc; 1]?),
+        set: SharedSet::of(vec![in alloc; 1]?)?,
         q: 1,
         y: id,
     };

@@ -4,7 +4,6 @@ ghost use Rattle.search_core.specs.declared.event.Event.{Event};
 ghost use Rattle.search_core.specs.Needs.{IsAllowed};
 ghost use Rattle.search_core.specs.Effects.{after};
 
-use crate::copies::copied_packing;
 use crate::workers::{
     await_split, close, come_down, end, hold, offer, put_down, refuse, see, split,
 };
@@ -183,7 +182,7 @@ fn halves_on(
     let parent = Node {
         id: node.id,
         branch: node.branch.copied(alloc)?,
-        packing: copied_packing(alloc, packing)?,
+        packing: packing.shared(alloc)?,
     };
     match halves(alloc, parent, v, ids.0, ids.1) {
         Ok((inside, outside)) => Ok((

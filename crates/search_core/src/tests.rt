@@ -1,5 +1,5 @@
 use crate::{Done, Event, EventFault, Gathered, Search, StepError};
-use cut_packing::{Cut, Packing};
+use cut_packing::{Cut, Packing, SharedSet};
 use st_model::Listed;
 use std::alloc::{AllocError, Global};
 use std::test::Fail;
@@ -29,7 +29,7 @@ fn takes(search: &mut Search, event: Event) -> Result<bool, AllocError> {
 
 fn cut(alloc: Global, set: &[u32], q: u32, y: u64) -> Result<Cut, AllocError> {
     Ok(Cut {
-        set: Listed::of(Vec::from_slice(alloc, set)?),
+        set: SharedSet::of(Vec::from_slice(alloc, set)?)?,
         q,
         y,
     })

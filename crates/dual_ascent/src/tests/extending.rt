@@ -7,7 +7,7 @@ ghost use Rattle.dual_ascent.specs.Extension.{IsStart, IsRootFor};
 
 use crate::{charge_cuts, extend, joined_fits, joined_inside_fits, joined_is_full};
 use bidirected_form::Arcs;
-use cut_packing::{Cut, Packing, fits, weight};
+use cut_packing::{Cut, Packing, SharedSet, fits, weight};
 use graph_store::Store;
 use prize_transform::Twins;
 use st_model::{Branch, Instance, Listed, Need, Sides};
@@ -24,7 +24,7 @@ fn path(alloc: Global) -> Result<Instance, AllocError> {
 
 fn cut(alloc: Global, set: &[u32], q: u32, y: u64) -> Result<Cut, AllocError> {
     Ok(Cut {
-        set: Listed::of(Vec::from_slice(alloc, set)?),
+        set: SharedSet::of(Vec::from_slice(alloc, set)?)?,
         q,
         y,
     })
