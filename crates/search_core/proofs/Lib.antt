@@ -14,3 +14,7 @@ pub mod Look
 pub mod Ids
 pub mod Reading
 pub mod Room
+pub mod Times
+pub mod TreeIds
+pub mod Apart
+pub mod Counts

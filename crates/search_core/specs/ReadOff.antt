@@ -1,5 +1,6 @@
 -- The proof tree that is read off what was gathered.
 use Rattle.std.specs.Prelude.{◌≡◌, ℕ, ◌≤◌, min, List, [], Contains}
+use Rattle.std.specs.Prelude.{◌+◌, length, nat_lt, if◌then◌else◌}
 use Rattle.st_model.specs.declared.branch.Branch.{Branch}
 use Rattle.st_model.specs.Branch.{Belongs, with_inside, with_outside}
 use Rattle.st_model.specs.declared.tree.Tree.{Tree}
@@ -36,3 +37,19 @@ CompleteIsProof = (G : Gathered) (I : Network) (gone : List ℕ) (start budget :
 -- where nothing is left to do, every tree that reaches nobody gone costs at least the least value
 abbrev pub CompleteBounds : Type 0
 CompleteBounds = (G : Gathered) (I : Network) (gone : List ℕ) (start budget : ℕ) (t : Tree) → IsComplete G I gone start budget → waiting G ≡ [] → IsTree I t → Belongs (without_gone gone) t → G.least ≤ cost I t
+
+-- how many splits and closes a tree has
+abbrev pub size : ProofTree → ℕ
+size (close P) = 1
+size (split v inside outside) = 1 + size inside + size outside
+
+-- how many of the closes of a tree for a branch weigh less than x
+abbrev pub light_closes : Network → Branch → ℕ → ProofTree → ℕ
+light_closes I B x (close P) = if nat_lt (weight I B P) x then 1 else 0
+light_closes I B x (split v inside outside) = light_closes I (with_inside B v) x inside + light_closes I (with_outside B v) x outside
+
+-- a tree that is read off what is complete has a split or a close for each record and each node that waits, and of its
+-- closes no more weigh less than the least value than nodes wait
+abbrev pub CompleteCounts : Type 0
+CompleteCounts = (G : Gathered) (I : Network) (gone : List ℕ) (start budget : ℕ) (p : ProofTree) → IsComplete G I gone start budget → IsReadOff G 0 p
+    → (size p ≡ length (records G) + length (waiting G)) × (light_closes I (without_gone gone) G.least p ≤ length (waiting G))

@@ -1,5 +1,6 @@
 ghost use Rattle.search_core.specs.Laws.{EventsKeep, AllowedHasNoFault, FaultIsOne};
 ghost use Rattle.search_core.specs.ReadOff.{CompleteBounds, CompleteIsProof};
+ghost use Rattle.search_core.specs.ReadOff.{CompleteCounts};
 
 /// Whatever list of events follows a beginning, the state keeps what every state keeps.
 pub fn events_keep()
@@ -24,4 +25,11 @@ pub fn complete_is_proof()
 /// gone from below, by the least value.
 pub fn complete_bounds()
     ensures { CompleteBounds }
+{}
+
+/// Each proof tree that is read off what was gathered, where that is complete, has one split or
+/// close for each record and for each node that waits. At most as many of its closes as there are
+/// nodes that wait weigh less than the least value.
+pub fn complete_counts()
+    ensures { CompleteCounts }
 {}
