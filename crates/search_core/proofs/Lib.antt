@@ -18,3 +18,4 @@ pub mod Times
 pub mod TreeIds
 pub mod Apart
 pub mod Counts
+pub mod Few

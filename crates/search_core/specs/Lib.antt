@@ -8,3 +8,4 @@ pub mod Settled
 pub mod Laws
 pub mod Complete
 pub mod ReadOff
+pub mod FreeVertices

@@ -1,6 +1,6 @@
 -- The proof tree that is read off what was gathered.
 use Rattle.std.specs.Prelude.{◌≡◌, ℕ, ◌≤◌, min, List, [], Contains}
-use Rattle.std.specs.Prelude.{◌+◌, length, nat_lt, if◌then◌else◌}
+use Rattle.std.specs.Prelude.{◌+◌, ◌^◌, ◌<◌, length, nat_lt, if◌then◌else◌}
 use Rattle.st_model.specs.declared.branch.Branch.{Branch}
 use Rattle.st_model.specs.Branch.{Belongs, with_inside, with_outside}
 use Rattle.st_model.specs.declared.tree.Tree.{Tree}
@@ -13,6 +13,7 @@ use Rattle.branching.specs.declared.node.Node.{Node}
 use Rattle.search_core.specs.declared.done.Done.TheVariants.{Split, Close}
 use Rattle.search_core.specs.declared.gathered.Gathered.{Gathered}
 use Rattle.search_core.specs.Complete.{IsComplete, records, waiting, without_gone}
+use Rattle.search_core.specs.FreeVertices.{free_count}
 
 -- the tree of the node under an id: where it was split, the trees of both halves, and else a close by its packing
 pub data IsReadOff (G : Gathered) : ℕ → ProofTree → Type 0 where
@@ -53,3 +54,8 @@ light_closes I B x (split v inside outside) = light_closes I (with_inside B v) x
 abbrev pub CompleteCounts : Type 0
 CompleteCounts = (G : Gathered) (I : Network) (gone : List ℕ) (start budget : ℕ) (p : ProofTree) → IsComplete G I gone start budget → IsReadOff G 0 p
     → (size p ≡ length (records G) + length (waiting G)) × (light_closes I (without_gone gone) G.least p ≤ length (waiting G))
+
+-- a tree that is read off what is complete has fewer splits and closes than two to the power of one more than the
+-- vertices that are neither required nor gone
+abbrev pub CompleteIsFew : Type 0
+CompleteIsFew = (G : Gathered) (I : Network) (gone : List ℕ) (start budget : ℕ) (p : ProofTree) → IsComplete G I gone start budget → IsReadOff G 0 p → size p < 2 ^ (free_count I (without_gone gone) + 1)

@@ -1,6 +1,6 @@
 ghost use Rattle.search_core.specs.Laws.{EventsKeep, AllowedHasNoFault, FaultIsOne};
 ghost use Rattle.search_core.specs.ReadOff.{CompleteBounds, CompleteIsProof};
-ghost use Rattle.search_core.specs.ReadOff.{CompleteCounts};
+ghost use Rattle.search_core.specs.ReadOff.{CompleteCounts, CompleteIsFew};
 
 /// Whatever list of events follows a beginning, the state keeps what every state keeps.
 pub fn events_keep()
@@ -32,4 +32,10 @@ pub fn complete_bounds()
 /// nodes that wait weigh less than the least value.
 pub fn complete_counts()
     ensures { CompleteCounts }
+{}
+
+/// Each such tree has fewer splits and closes than two to the power of one more than the vertices
+/// that are neither required nor gone.
+pub fn complete_is_few()
+    ensures { CompleteIsFew }
 {}

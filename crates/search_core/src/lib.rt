@@ -32,7 +32,7 @@ mod workers;
 pub use done::{Done, End};
 pub use event::{Event, EventFault, StepError};
 pub use gathered::{Gathered, Searched, Segment};
-pub use law::{complete_bounds, complete_counts, complete_is_proof, events_keep, faults_are_exact};
+pub use law::{complete_bounds, complete_counts, complete_is_few, complete_is_proof, events_keep, faults_are_exact};
 pub use made::{Made, Place};
 pub use records::Records;
 pub use search::Search;
