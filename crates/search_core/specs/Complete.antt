@@ -34,6 +34,11 @@ abbrev pub done_id : Done → ℕ
 done_id (Split id v inside outside P) = id
 done_id (Close id P) = id
 
+-- the packing on which the node was split, or by which it was closed
+abbrev pub done_packing : Done → Packing
+done_packing (Split id v inside outside P) = P
+done_packing (Close id P) = P
+
 -- the ids of the halves that were made
 abbrev pub half_ids : Done → List ℕ
 half_ids (Split id v inside outside P) = inside ∷ outside ∷ []
