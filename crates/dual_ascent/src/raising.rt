@@ -74,9 +74,6 @@ pub fn cut_round(alloc: Global, set: &VertexSet, q: u32, y: u64) -> Result<Cut, 
 {
     let mut members = Vec::from_slice(alloc, set.members())?;
     members.sort()?;
-    Ok(Cut {
-        set: SharedSet::of(members)?,
-        q,
-        y,
-    })
+    let set = SharedSet::of(members)?;
+    Ok(Cut { set, q, y })
 }

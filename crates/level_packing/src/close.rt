@@ -115,10 +115,11 @@ fn wall(
     ensures few { IfOk result (HasFewCuts instance.now.n target) }
 {
     let name = forest.cluster[vertex as usize];
-    let set = ascending(alloc, &forest.members[name as usize])?;
+    let members = ascending(alloc, &forest.members[name as usize])?;
+    let set = SharedSet::of(members)?;
     let cuts = vec![in alloc;
         Cut {
-            set: SharedSet::of(set)?,
+            set,
             q: name,
             y: target
         },

@@ -26,11 +26,11 @@ eqb_flips x y = grind (arith, nat_tests)
 pub returns-clause-members : goal.returns-clause-members
 returns-clause-members c v =
     let copied = c.in_ok-members.ensures.items ∙ c.members.ensures.all in
-    rw (c.of.ensures, ← copied) (sym (list_any-IsPermutation (λ x. x == v) c.in_ok-members.members.items c.sort.new.self.items c.in_ok-sort.ensures.permutation))
+    rw (c.in_ok-set.ensures, ← copied) (sym (list_any-IsPermutation (λ x. x == v) c.in_ok-members.members.items c.sort.new.self.items c.in_ok-sort.ensures.permutation))
 
 pub returns-clause-ascending : goal.returns-clause-ascending
 returns-clause-ascending c =
     let copied = c.in_ok-members.ensures.items ∙ c.members.ensures.all in
     let apart = distinct_from_apart c.in_ok-members.members.items (subst AllApart (sym copied) c.members.ensures.apart) in
     let sorted = c.sort.new.self.items in
-    subst IsStrictlyIncreasing (sym c.of.ensures) (IsStrictlyIncreasing-from_distinct sorted (IsNonDecreasingBy-from_sort (λ x. x) sorted c.in_ok-sort.ensures.sorted) (IsDistinct-IsPermutation eqb eqb_flips c.in_ok-members.members.items sorted c.in_ok-sort.ensures.permutation apart))
+    subst IsStrictlyIncreasing (sym c.in_ok-set.ensures) (IsStrictlyIncreasing-from_distinct sorted (IsNonDecreasingBy-from_sort (λ x. x) sorted c.in_ok-sort.ensures.sorted) (IsDistinct-IsPermutation eqb eqb_flips c.in_ok-members.members.items sorted c.in_ok-sort.ensures.permutation apart))
