@@ -160,11 +160,11 @@ queue_apart w p is e = false≢true (ap is_queue (sym e) ∙ is)
 fresh_apart : (u w : ℕ) (p : Place) → is_fresh_of u p ≡ true → p ≡ place.Hand w → ⊥
 fresh_apart u w p is e = false≢true (ap (is_fresh_of u) (sym e) ∙ is)
 
-queue_waits : (p : Place) → is_queue p ≡ true → is_done p ≡ false
+pub queue_waits : (p : Place) → is_queue p ≡ true → is_done p ≡ false
 queue_waits (place.Queue w) h = refl
 queue_waits _ h = absurd (false≢true h)
 
-fresh_waits : (w : ℕ) (p : Place) → is_fresh_of w p ≡ true → is_done p ≡ false
+pub fresh_waits : (w : ℕ) (p : Place) → is_fresh_of w p ≡ true → is_done p ≡ false
 fresh_waits w (place.Fresh v) h = refl
 fresh_waits w _ h = absurd (false≢true h)
 
@@ -237,7 +237,7 @@ held_place S w m at h =
 held_claim : (S : State) (w : ℕ) (m : Made) → held S w ≡ Some m → is_claimed S w ≡ m.claimed
 held_claim S w m e = ap (λ (o : Option Made). option_map_or (λ m. m.claimed) o false) e
 
-held_found : (S : State) (w : ℕ) (m : Made) → HeldNode S w m → made_as S (id_in_hand S w) ≡ Some m
+pub held_found : (S : State) (w : ℕ) (m : Made) → HeldNode S w m → made_as S (id_in_hand S w) ≡ Some m
 held_found S w m at = ap (λ (k : Option ℕ). made_as S (unwrap_or k 0)) at.in_hand ∙ at.found
 
 pub counted_granted : (S : State) (w : ℕ) → ClaimEarly S w → IsCounted S → IsCounted (granted S w)
@@ -333,7 +333,7 @@ total-append h (x ∷ xs) ys = by_parts (h x) _ _ _ (total-append h xs ys)
     by_parts a b c d e = omega arith
 
 -- what is found among the first nodes is found
-found-first : (xs ys : List Made) (id : ℕ) (m : Made) → find (has_id id) xs ≡ Some m → find (has_id id) (xs ++ ys) ≡ Some m
+pub found-first : (xs ys : List Made) (id : ℕ) (m : Made) → find (has_id id) xs ≡ Some m → find (has_id id) (xs ++ ys) ≡ Some m
 found-first xs ys id m e = rw (find-append (has_id id) xs ys, e) refl
 
 claimed-first : (xs ys : List Made) (h : Option ℕ) → claimed_at xs h ≡ true → claimed_at (xs ++ ys) h ≡ true

@@ -13,12 +13,13 @@ use Rattle.search_core.specs.Effects.{after, ended, refused}
 use Rattle.search_core.specs.Kept.{IsKept}
 use Rattle.search_core.proofs.Soundness.{sound_after, sound_beginning, sound_idle}
 use Rattle.search_core.proofs.Counting.{counted_after, counted_beginning, counted_idle}
+use Rattle.search_core.proofs.Recording.{recorded_after, recorded_beginning, recorded_idle}
 
 pub kept_after : (S : State) (e : Event) → IsKept S → IsAllowed S e → IsKept (after S e)
-kept_after S e kept allowed = record { sound = sound_after S e kept.sound allowed; counted = counted_after S e kept.counted allowed }
+kept_after S e kept allowed = record { sound = sound_after S e kept.sound allowed; counted = counted_after S e kept.counted allowed; recorded = recorded_after S e kept.sound kept.counted kept.recorded allowed }
 
 pub kept_beginning : (I : Network) (gone : List ℕ) (workers budget start : ℕ) → IsNode I (root_of gone) → IsKept (beginning I gone workers budget start)
-kept_beginning I gone workers budget start root = record { sound = sound_beginning I gone workers budget start root; counted = counted_beginning I gone workers budget start }
+kept_beginning I gone workers budget start root = record { sound = sound_beginning I gone workers budget start root; counted = counted_beginning I gone workers budget start; recorded = recorded_beginning I gone workers budget start }
 
 -- the same where the parts are known by equations
 pub kept_begun : (I : Network) (gone : List ℕ) (count budget start : ℕ) (I' : Network) (gone' : List ℕ) (nodes : List Made) (workers : List Worker) → IsNode I (root_of gone) → I' ≡ I → gone' ≡ gone → nodes ≡ (beginning I gone count budget start).nodes → workers ≡ (beginning I gone count budget start).workers → IsKept (record { instance = I'; gone = gone'; start = start; budget = budget; nodes = nodes; workers = workers; least = start; claims = 0; opened = 1; halted = false })
@@ -29,6 +30,7 @@ pub kept_ended : (S : State) (w : ℕ) (why : End) → IsKept S → IsKept (ende
 kept_ended S w why kept = record {
   sound = sound_idle S w (λ x. record x { end = why }) S.opened (λ x. refl) (λ x. refl) (λ x. refl) kept.sound;
   counted = counted_idle S w (λ x. record x { end = why }) (λ x. refl) (λ x. refl) (λ x. refl) kept.counted;
+  recorded = recorded_idle S w (λ x. record x { end = why }) S.nodes (λ x. refl) kept.recorded;
 }
 
 -- a claim that is refused
@@ -36,4 +38,5 @@ pub kept_refused : (S : State) (w : ℕ) → IsKept S → IsKept (refused S w)
 kept_refused S w kept = record {
   sound = sound_idle S w (λ x. record x { refused = true; end = ClaimRefused }) S.opened (λ x. refl) (λ x. refl) (λ x. refl) kept.sound;
   counted = counted_idle S w (λ x. record x { refused = true; end = ClaimRefused }) (λ x. refl) (λ x. refl) (λ x. refl) kept.counted;
+  recorded = recorded_idle S w (λ x. record x { refused = true; end = ClaimRefused }) S.nodes (λ x. refl) kept.recorded;
 }

@@ -19,3 +19,7 @@ pub mod TreeIds
 pub mod Apart
 pub mod Counts
 pub mod Few
+pub mod Totals
+pub mod MoreRecords
+pub mod Recording
+pub mod Accounting

@@ -1,20 +1,29 @@
--- Lists of events keep what each event keeps, and faults are exact.
-use Rattle.std.proofs.Common.{◌≡◌, ℕ, List, [], ◌∷◌, Option, Some, None, refl, sym, ◌∙◌, ◌<◌, ◌≤◌, arith, subst, inl, inr}
-use Rattle.std.specs.Prelude.{IfSome}
+-- Lists of events keep what each event keeps, faults are exact, and a search that is done bounds every tree.
+use Rattle.std.proofs.Common.{◌≡◌, ℕ, ◌+◌, ◌-◌, Bool, true, false, cond, List, [], ◌∷◌, Option, Some, None, refl, sym, ◌∙◌, ◌<◌, ◌≤◌, arith, subst, inl, inr}
+use Rattle.std.specs.Prelude.{◌==◌, IfSome, nat_lt}
+use Rattle.st_model.specs.declared.tree.Tree.{Tree}
+use Rattle.st_model.specs.Arborescence.{IsTree, cost}
+use Rattle.st_model.specs.Branch.{Belongs}
 use Rattle.st_model.specs.declared.branch.Branch.{Branch}
 use Rattle.st_model.specs.Network.{Network}
 use Rattle.cut_packing.specs.declared.packing.Packing.{Packing}
 use Rattle.cut_packing.specs.Packing.{weight}
 use Rattle.search_core.specs.declared.made.Made.{Made}
 use Rattle.search_core.specs.declared.event.Event.{Event}
-use Rattle.search_core.specs.declared.event.Event.TheVariants.{Split, Close}
+use Rattle.search_core.specs.declared.done.End.TheVariants.{OpenZero, HaltSeen}
+use Rattle.search_core.specs.declared.event.Event.TheVariants.{Take, Pick, Give, Claim, See, Offer, Up, Split, Close, Down, SeeOpen, SeeHalt, Halt, Keep}
 use Rattle.search_core.specs.declared.event.EventFault.{EventFault}
 use Rattle.search_core.specs.declared.event.EventFault.TheVariants.{BadPacking, TooLight}
 use Rattle.search_core.specs.State.{State, beginning, held, seen}
 use Rattle.search_core.specs.Needs.{IsPackingFault, IsSplitFault, IsCloseFault, early_fault}
 use Rattle.search_core.specs.Steps.{Step, Run}
+use Rattle.search_core.specs.Complete.{without_gone}
+use Rattle.search_core.specs.Effects.{after, ended, granted, refused}
 use Rattle.search_core.specs.Kept.{IsKept}
-use Rattle.search_core.specs.Laws.{EventsKeep, AllowedHasNoFault, FaultIsOne}
+use Rattle.search_core.specs.Laws.{EventsKeep, AllowedHasNoFault, FaultIsOne, SettledBounds}
+use Rattle.search_core.specs.Settled.{gathered}
+use Rattle.search_core.proofs.Accounting.{nothing-waits, settled_complete}
+use Rattle.search_core.proofs.Reading.{bounds_lem}
 use Rattle.search_core.proofs.Keeping.{kept_after, kept_beginning}
 use Rattle.search_core.proofs.Early.{split_early, up_early}
 use Rattle.search_core.proofs.Rooted.{root_node}
@@ -30,6 +39,48 @@ run_kept S (e ∷ es) T kept (M, step, run) = run_kept M es T (step_kept step) r
 pub events_keep_lem : EventsKeep
 events_keep_lem I gone workers budget start es S may run =
     run_kept (beginning I gone workers budget start) es S (kept_beginning I gone workers budget start (root_node I gone may.set may.required)) run
+
+-- of one instance, and of the same vertices that are gone
+record AreAlike (S T : State) : Type 0 where
+  pub instance : T.instance ≡ S.instance
+  pub gone : T.gone ≡ S.gone
+
+after_alike : (S : State) (e : Event) → AreAlike S (after S e)
+after_alike S (Claim w) = by_test (nat_lt S.claims S.budget)
+  where
+    by_test : (b : Bool) → AreAlike S (cond b (granted S w) (refused S w))
+    by_test true = record { instance = refl; gone = refl }
+    by_test false = record { instance = refl; gone = refl }
+after_alike S (SeeOpen w) = by_test (S.opened == 0)
+  where
+    by_test : (b : Bool) → AreAlike S (cond b (ended S w OpenZero) S)
+    by_test true = record { instance = refl; gone = refl }
+    by_test false = record { instance = refl; gone = refl }
+after_alike S (SeeHalt w) = by_test S.halted
+  where
+    by_test : (b : Bool) → AreAlike S (cond b (ended S w HaltSeen) S)
+    by_test true = record { instance = refl; gone = refl }
+    by_test false = record { instance = refl; gone = refl }
+after_alike S _ = record { instance = refl; gone = refl }
+
+run_alike : (S : State) (es : List Event) (T : State) → Run S es T → AreAlike S T
+run_alike S [] T run = subst (λ (U : State). AreAlike S U) (sym run) (record { instance = refl; gone = refl })
+run_alike S (e ∷ es) T (M, step, run) =
+    let first = step_alike step in
+    let rest = run_alike M es T run in
+    record { instance = rest.instance ∙ first.instance; gone = rest.gone ∙ first.gone }
+  where
+    step_alike : Step S e M → AreAlike S M
+    step_alike (inl (allowed, is)) = subst (λ (U : State). AreAlike S U) (sym is) (after_alike S e)
+    step_alike (inr (f, fault, is)) = subst (λ (U : State). AreAlike S U) (sym is) (record { instance = refl; gone = refl })
+
+pub settled_bounds_lem : SettledBounds
+settled_bounds_lem I gone workers budget start es S t may run done tree belongs =
+    let kept = events_keep_lem I gone workers budget start es S may run in
+    let alike = run_alike (beginning I gone workers budget start) es S run in
+    let mine : IsTree S.instance t = subst (λ (J : Network). IsTree J t) (sym alike.instance) tree in
+    let reaches : Belongs (without_gone S.gone) t = subst (λ (vs : List ℕ). Belongs (without_gone vs) t) (sym alike.gone) belongs in
+    subst (λ (J : Network). S.least ≤ cost J t) alike.instance (bounds_lem (gathered S) S.instance S.gone S.start S.budget t (settled_complete S kept done.settled) (nothing-waits S done.none_waits) mine reaches)
 
 -- a packing that allows a split has no fault, and another has one
 split_serves : (I : Network) (B : Branch) (P : Packing) (x : ℕ) (f : EventFault) → IsSplitFault I B P x None → IsSplitFault I B P x (Some f) → ⊥

@@ -40,7 +40,7 @@ kept_nodes : (S : State) (id : ℕ) (f : Made → Made) → ((m : Made) → IsNo
 kept_nodes S id f same kept = all-with_made (λ m. IsNode S.instance m.node) S.nodes id f same kept.nodes
 
 -- the test of a vertex says that the branch can be split there
-splits : (I : Network) (N : Node) (v : ℕ) → splits_at I N.branch v ≡ true → IsSplit I N.branch v
+pub splits : (I : Network) (N : Node) (v : ℕ) → splits_at I N.branch v ≡ true → IsSplit I N.branch v
 splits I N v h =
     let p = both (nat_le 1 v && nat_le v I.n) (is_free I N.branch v) h in
     let q = both (nat_le 1 v) (nat_le v I.n) p.0 in

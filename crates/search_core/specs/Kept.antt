@@ -1,5 +1,6 @@
 -- What every state keeps that a search reaches from its beginning.
-use Rattle.std.specs.Prelude.{◌≡◌, ℕ, ◌+◌, ◌≤◌, min, Bool, true, not, if◌then◌else◌, Some, List, [], ◌∷◌, length, map, find, All, Contains}
+use Rattle.std.specs.Prelude.{◌≡◌, ℕ, ◌+◌, ◌<◌, ◌≤◌, min, Bool, true, not, if◌then◌else◌, Some, List, [], ◌∷◌, length, map, filter, find, All, Contains}
+use Rattle.std.specs.List.{flat_map}
 use Rattle.st_model.specs.Lists.{total}
 use Rattle.st_model.specs.Network.{Network}
 use Rattle.cut_packing.specs.declared.packing.Packing.{Packing}
@@ -12,6 +13,7 @@ use Rattle.search_core.specs.declared.worker.Worker.{Worker}
 use Rattle.search_core.specs.declared.made.Made.{Made}
 use Rattle.search_core.specs.declared.made.Place.{Place}
 use Rattle.search_core.specs.declared.made.Place.TheVariants.{Queue, Hand, Fresh, Left}
+use Rattle.search_core.specs.Complete.{IsMade, KeepsWeight, done_id, made_ids, times}
 use Rattle.search_core.specs.Needs.{AllowsSplit, is_claimed, up_waits}
 use Rattle.search_core.specs.Settled.{is_done}
 use Rattle.search_core.specs.State.{State, has_id, hand}
@@ -111,6 +113,53 @@ pub record IsCounted (S : State) : Type 0 where
   -- each close that waits is of a node that is closed
   pub bounded : undone S.nodes + closes_waiting S.workers ≤ length S.nodes
 
+-- the records of all workers
+abbrev pub all_done : List Worker → List Done
+all_done workers = flat_map (λ x. x.done) workers
+
+-- the ids of nodes
+abbrev pub node_ids : List Made → List ℕ
+node_ids nodes = map (λ m. m.node.id) nodes
+
+-- the ids of the nodes that were split or closed
+abbrev pub ended_ids : List Made → List ℕ
+ended_ids nodes = map (λ m. m.node.id) (filter (λ m. is_done m.place) nodes)
+
+-- how many nodes were split or closed
+abbrev pub ended_count : List Made → ℕ
+ended_count nodes = total (λ m. one_if (is_done m.place)) nodes
+
+-- a node in a hand, fresh or left is that of one of so many workers
+abbrev pub IsOfWorker : ℕ → Place → Type 0
+IsOfWorker count (Hand w) = w < count
+IsOfWorker count (Fresh w) = w < count
+IsOfWorker count (Left w) = w < count
+IsOfWorker count _ = Unit {0}
+
+-- a node was made with its branch, and weighs at least what the split weighs that made it
+pub record IsRecordedNode (I : Network) (gone : List ℕ) (done : List Done) (N : Node) : Type 0 where
+  pub made : IsMade gone done N.id N.branch
+  pub keeps : KeepsWeight I gone done N
+
+-- what is said of the nodes of so many workers, and of the records of all
+pub record AreRecorded (I : Network) (gone : List ℕ) (count : ℕ) (nodes : List Made) (done : List Done) : Type 0 where
+  -- each node was made by a split that is recorded, or at first
+  pub made : All (λ m. IsRecordedNode I gone done m.node) nodes
+  -- no two nodes have one id
+  pub apart : (id : ℕ) → times id (node_ids nodes) ≤ 1
+  -- the nodes are those that were made at first and by the splits that are recorded
+  pub ids : (id : ℕ) → times id (node_ids nodes) ≡ times id (made_ids done)
+  -- the records are of the nodes that were split or closed
+  pub ended : (id : ℕ) → times id (map done_id done) ≡ times id (ended_ids nodes)
+  pub ended_once : length done ≡ ended_count nodes
+  -- no node is with a worker that there isn't, but for the first in its queue
+  pub places : All (λ m. IsOfWorker count m.place) nodes
+
+-- what is said of nodes and records
+abbrev pub IsRecorded : State → Type 0
+IsRecorded S = AreRecorded S.instance S.gone (length S.workers) S.nodes (all_done S.workers)
+
 pub record IsKept (S : State) : Type 0 where
   pub sound : IsSound S
   pub counted : IsCounted S
+  pub recorded : IsRecorded S

@@ -1,11 +1,15 @@
--- The laws of searches: what every list of events keeps, and that faults are exact.
-use Rattle.std.specs.Prelude.{◌≡◌, ℕ, IsTrue, IsFalse, List}
-use Rattle.st_model.specs.Branch.{IsVertexSet}
+-- The laws of searches: what every list of events keeps, that faults are exact, and what a search that is done bounds.
+use Rattle.std.specs.Prelude.{◌≡◌, ℕ, ◌≤◌, false, IsTrue, IsFalse, List, All}
+use Rattle.st_model.specs.declared.tree.Tree.{Tree}
+use Rattle.st_model.specs.Arborescence.{IsTree, cost}
+use Rattle.st_model.specs.Branch.{Belongs, IsVertexSet}
 use Rattle.st_model.specs.Lists.{has}
 use Rattle.st_model.specs.Network.{Network, is_required}
 use Rattle.search_core.specs.declared.event.Event.{Event}
 use Rattle.search_core.specs.declared.event.EventFault.{EventFault}
 use Rattle.search_core.specs.State.{State, beginning}
+use Rattle.search_core.specs.Complete.{without_gone}
+use Rattle.search_core.specs.Settled.{IsSettled, is_waiting}
 use Rattle.search_core.specs.Needs.{IsAllowed, IsFault}
 use Rattle.search_core.specs.Steps.{Run}
 use Rattle.search_core.specs.Kept.{IsKept}
@@ -26,3 +30,12 @@ AllowedHasNoFault = (S : State) (e : Event) (f : EventFault) → IsAllowed S e �
 -- and none has two
 abbrev pub FaultIsOne : Type 0
 FaultIsOne = (S : State) (e : Event) (f g : EventFault) → IsFault S e f → IsFault S e g → f ≡ g
+
+-- a state is settled, and no node is left or queued
+pub record IsExhausted (S : State) : Type 0 where
+  pub settled : IsSettled S
+  pub none_waits : All (λ m. is_waiting m.place ≡ false) S.nodes
+
+-- where events lead from a beginning to a state that is done, each tree that reaches nobody gone costs at least the least value
+abbrev pub SettledBounds : Type 0
+SettledBounds = (I : Network) (gone : List ℕ) (workers budget start : ℕ) (events : List Event) (S : State) (t : Tree) → MayBegin I gone → Run (beginning I gone workers budget start) events S → IsExhausted S → IsTree I t → Belongs (without_gone gone) t → S.least ≤ cost I t

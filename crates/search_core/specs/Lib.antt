@@ -9,3 +9,4 @@ pub mod Laws
 pub mod Complete
 pub mod ReadOff
 pub mod FreeVertices
+pub mod Accounted

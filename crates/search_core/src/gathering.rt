@@ -1,5 +1,7 @@
 ghost use Rattle.std.specs.Prelude.{◌≡◌, ℕ, IfOk, map, filter, take};
-ghost use Rattle.search_core.specs.Settled.{gathered, segment_of, segments_from, left_of, queued, is_left_of};
+ghost use Rattle.search_core.specs.Accounted.{IsGatheredOf};
+ghost use Rattle.search_core.specs.Complete.{IsComplete};
+ghost use Rattle.search_core.specs.Settled.{IsSettled, gathered, segment_of, segments_from, left_of, queued, is_left_of};
 ghost use Rattle.search_core.specs.Needs.{is_queue};
 
 use crate::copies::{copied_done, copied_node};
@@ -10,9 +12,13 @@ use st_model::Listed;
 use std::alloc::{AllocError, Global};
 
 impl Search {
-    /// What is gathered of all workers and queues, as it is now. No tree is known of.
+    /// What is gathered of all workers and queues, as it is now. No tree is known of. Where the state
+    /// is settled it is complete, and else but for the nodes in hands and the fresh ones.
     pub fn segments(&self) -> Result<Gathered, AllocError>
-        ensures { IfOk result (λ all. all ≡ gathered self.now) }
+        ensures gathered { IfOk result (λ all. all ≡ gathered self.now) }
+        ensures accounts { IfOk result (IsGatheredOf self.now) }
+        ensures complete { IsSettled self.now
+            → IfOk result (λ all. IsComplete all self.now.instance self.now.gone self.now.start self.now.budget) }
     {
         let alloc = self.alloc();
         let nodes = self.nodes.as_slice();

@@ -1,4 +1,4 @@
-ghost use Rattle.search_core.specs.Laws.{EventsKeep, AllowedHasNoFault, FaultIsOne};
+ghost use Rattle.search_core.specs.Laws.{EventsKeep, AllowedHasNoFault, FaultIsOne, SettledBounds};
 ghost use Rattle.search_core.specs.ReadOff.{CompleteBounds, CompleteIsProof};
 ghost use Rattle.search_core.specs.ReadOff.{CompleteCounts, CompleteIsFew};
 
@@ -38,4 +38,10 @@ pub fn complete_counts()
 /// that are neither required nor gone.
 pub fn complete_is_few()
     ensures { CompleteIsFew }
+{}
+
+/// Whatever list of events leads from a beginning to a settled state in which no node is left or
+/// queued, every tree that reaches nobody gone costs at least the least value.
+pub fn settled_bounds()
+    ensures { SettledBounds }
 {}
