@@ -15,4 +15,6 @@ pub mod Alike
 pub mod Nexts
 pub mod Accepting
 pub mod Refusing
+pub mod PlaceLaws
+pub mod ItemLaws
 pub mod Rejecting

@@ -102,7 +102,7 @@ cuts_again p root front (c ∷ cuts) rest fits =
     ∙ (cuts_again p root (front ++ c ∷ []) cuts rest fits.1 ∙ ap (λ (r : List Cut). run (closed p.answer (p.lines ++ Close (record { root = root; cuts = r }) ∷ []) p.waiting) rest) (append_assoc front (c ∷ []) cuts))
 
 -- a root is read again from its number
-root_again : (root : Option ℕ) → IfSome root IsAnyVertex → root_of (root_number root) ≡ root
+pub root_again : (root : Option ℕ) → IfSome root IsAnyVertex → root_of (root_number root) ≡ root
 root_again None h = refl
 root_again (Some zero) h = absurd (let low : 1 ≤ 0 = h.0 in omega arith)
 root_again (Some (suc n)) h = refl

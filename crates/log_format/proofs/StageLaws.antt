@@ -206,11 +206,11 @@ closed_takes p P fits close_fits = by_waiting p.waiting fits.halves.still fits.h
         )
 
 -- the number that stands for a root, or for none
-root_number-of : (n : ℕ) → root_number (root_of n) ≡ n
+pub root_number-of : (n : ℕ) → root_number (root_of n) ≡ n
 root_number-of zero = refl
 root_number-of (suc n) = refl
 
-root_fits : (n : ℕ) → n ≤ 1000000 → IfSome (root_of n) IsAnyVertex
+pub root_fits : (n : ℕ) → n ≤ 1000000 → IfSome (root_of n) IsAnyVertex
 root_fits zero h = tt
 root_fits (suc n) h = (omega arith, h)
 

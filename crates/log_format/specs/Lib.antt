@@ -2,6 +2,8 @@ pub mod Preorder
 pub mod Text
 pub mod Reading
 pub mod Reached
+pub mod Items
+pub mod Places
 pub mod Kind
 pub mod Refused
 pub mod Accepts

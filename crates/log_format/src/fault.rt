@@ -9,7 +9,7 @@ use std::alloc::{AllocError, AllocFailed};
 pub enum LineError {
     /// The line may not stand at its place.
     BadLine,
-    /// Memory ran out.
+    /// Memory ran out, or 64 bits to count the halves of a proof that wait.
     NoMemory,
 }
 

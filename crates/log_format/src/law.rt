@@ -2,6 +2,7 @@ ghost use Rattle.std.specs.Prelude.{ℕ, List};
 ghost use Rattle.st_model.specs.Network.{Network};
 ghost use Rattle.log_format.specs.declared.log.Log.{Log};
 ghost use Rattle.log_format.specs.Accepts.{AcceptedHolds};
+ghost use Rattle.log_format.specs.Items.{ItemsAreLines, OneItem, LineItems};
 ghost use Rattle.log_format.specs.Laws.{OneSpelling, RefusedExactly, RejectedExactly};
 
 /// No two logs have one text.
@@ -23,4 +24,19 @@ pub fn accepted_holds()
 /// and as one kind.
 pub fn rejected_exactly()
     ensures { (I : Network) (log : Log) → RejectedExactly I log }
+{}
+
+/// The lines of a log are those of its items.
+pub fn items_are_lines()
+    ensures { ItemsAreLines }
+{}
+
+/// No two items have one line.
+pub fn one_item()
+    ensures { OneItem }
+{}
+
+/// What the lines of a log say are its items.
+pub fn line_items()
+    ensures { LineItems }
 {}

@@ -3,20 +3,27 @@
 //! A `Log` claims a tree and a bound with reduction steps and a proof
 //! tree of splits and packings, or that there is no
 //! tree. `read_log` and `write_log` compute the definition *log text*: a caller may rely on both
-//! directions, and on the line and kind of each fault. What a log must meet to be right of an
-//! instance are the definitions *accepts* and *rejects*, with the laws that a caller rests on.
+//! directions, and on the line and kind of each fault. `LogReader` reads the same line by line,
+//! and answers each line as an `Item`; it keeps counts alone, so a log of any length can be read.
+//! What a log must meet to be right of an instance are the definitions *accepts* and *rejects*,
+//! with the laws that a caller rests on.
 #![tactic(auto)]
 
 mod fault;
+mod gathering;
+mod item;
 mod kind;
 mod law;
 mod line;
 mod log;
+mod past;
+mod place;
 mod proof;
 mod proof_line;
 mod proving;
 mod read;
 mod reader;
+mod said;
 mod stage;
 mod step_line;
 #[cfg(test)]
@@ -24,8 +31,12 @@ mod tests;
 mod write;
 
 pub use fault::{LineError, LogFault, ReadError};
+pub use item::Item;
 pub use kind::Kind;
-pub use law::{accepted_holds, one_spelling, refused_exactly, rejected_exactly};
+pub use law::{
+    accepted_holds, items_are_lines, line_items, one_item, one_spelling, refused_exactly,
+    rejected_exactly,
+};
 pub use log::{Claim, Log};
 pub use proof::Proof;
 pub use proof_line::ProofLine;

@@ -92,8 +92,8 @@ fn cuts_left(
     })
 }
 
-// The root that is written so: 0 stands for none.
-fn root_of(number: u32) -> Option<u32>
+/// The root that is written so: 0 stands for none.
+pub fn root_of(number: u32) -> Option<u32>
     ensures { result ≡ root_of number }
 {
     if number == 0 { None } else { Some(number) }

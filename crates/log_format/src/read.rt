@@ -2,7 +2,8 @@ ghost use Rattle.std.specs.Prelude.{◌≡◌, [], ◌+◌, ◌≤◌, length, I
 ghost use Rattle.log_format.specs.Text.{IsLog, Begins, log_text, whole_lines, unfinished};
 ghost use Rattle.log_format.specs.Refused.{IsRefusedBy};
 
-use crate::{Kind, LineError, Log, LogFault, LogReader, ReadError};
+use crate::gathering::Gathering;
+use crate::{Kind, LineError, Log, LogFault, ReadError};
 use plain_text::cut_at;
 use std::alloc::Global;
 
@@ -14,7 +15,7 @@ fn fault(line: u64, kind: Kind) -> ReadError
 }
 
 // Reads all the whole lines. Answers how many there are, and what stands after them.
-fn read_lines<'a>(reader: &mut LogReader, bytes: &'a [u8]) -> Result<(u64, &'a [u8]), ReadError>
+fn read_lines<'a>(reader: &mut Gathering, bytes: &'a [u8]) -> Result<(u64, &'a [u8]), ReadError>
     requires { reader.old ≡ [] }
     ensures lines { IfOk result (λ x. reader.new ≡ whole_lines bytes.now) }
     ensures count { IfOk result (λ x. x.0 ≡ length (whole_lines bytes.now)) }
@@ -42,7 +43,7 @@ fn read(alloc: Global, bytes: &[u8]) -> Result<Log, ReadError>
     ensures found { IfOk result (λ log. IsLog log × (bytes.now ≡ log_text log)) }
     ensures fault { IfErr result (IsRefusedBy bytes.now) }
 {
-    let mut reader = LogReader::new(alloc);
+    let mut reader = Gathering::new(alloc);
     let (lines, after) = read_lines(&mut reader, bytes)?;
     let Some(log) = reader.finish() else {
         return Err(fault(lines + 1, Kind::EndsEarly));

@@ -1,19 +1,22 @@
-ghost use Rattle.std.specs.Prelude.{◌≡◌, ◌∷◌, [], ◌++◌, ◌↔◌, OnOk, OnErr, IsTrue, MatchOption, Err};
-ghost use Rattle.log_format.specs.Text.{IsLog, AreWhole, Begins, log_lines};
+ghost use Rattle.std.specs.Prelude.{◌≡◌, ◌∷◌, [], ◌++◌, ◌↔◌, OnOk, OnErr, IfOk, IsTrue, Err};
+ghost use Rattle.log_format.specs.Text.{AreWhole, Begins};
+ghost use Rattle.log_format.specs.Items.{IsItem, item_line};
 
+use crate::Item;
 use crate::fault::LineError;
-use crate::stage::{Stage, step};
-use crate::{Claim, Log};
+use crate::past::Past;
+use crate::place::Place;
+use crate::said::said;
 use std::alloc::Global;
 use std::marker::Model;
-use std::mem;
 
-/// The lines of a log that were read so far. It keeps what they said, and of what may follow only
-/// what is still expected.
+/// The lines of a log that were read so far. It keeps nothing of what they said but the counts of
+/// what is still expected, so its memory doesn't grow.
 #[derive(Drop)]
 pub struct LogReader {
     alloc: Global,
-    stage: Stage,
+    place: Place,
+    past: Past,
 }
 
 impl Model for LogReader {
@@ -21,51 +24,44 @@ impl Model for LogReader {
 
     ghost Value = { List (List ℕ) };
 
-    ghost use Rattle.log_format.specs.Reached.{lines_read, IsRead};
+    ghost use Rattle.log_format.specs.Places.{IsAfter};
 
-    ghost view = { λ r. lines_read r.stage };
+    ghost view = { λ r. r.past.lines };
 
-    ghost invariant = { λ r. IsRead r.stage };
+    ghost invariant = { λ r. IsAfter r.past.lines r.place };
 }
 
 impl LogReader {
     /// A reader that has read no line.
-    pub fn new(alloc: Global) -> LogReader
+    pub fn begin(alloc: Global) -> LogReader
         ensures none { result ≡ [] }
         ensures begins { Begins result }
     {
         LogReader {
             alloc,
-            stage: Stage::AtHeader,
+            place: Place::BeforeHeader,
+            past: Past::new(),
         }
     }
 
-    /// Reads one more line, without its end. After an error the reader is as new.
-    pub fn line(&mut self, line: &[u8]) -> Result<(), LineError>
+    /// Reads one more line, without its end, and answers what it says.
+    pub fn line(&mut self, line: &[u8]) -> Result<Item, LineError>
         ensures ok { OnOk result (self.new ≡ self.old ++ line.now ∷ []) }
         ensures begins { OnOk result (Begins self.new) }
+        ensures item { IfOk result (λ item. IsItem item × (line.now ≡ item_line item)) }
         ensures refused { result ≡ Err LineError.BadLine → ¬ (Begins (self.old ++ line.now ∷ [])) }
-        ensures err { OnErr result (self.new ≡ []) }
+        ensures same { OnErr result (self.new ≡ self.old) }
     {
-        let stage = mem::replace(&mut self.stage, Stage::AtHeader);
-        self.stage = step(self.alloc, stage, line)?;
-        Ok(())
+        let (item, place) = said(self.alloc, self.place, line)?;
+        self.place = place;
+        self.past.note(line);
+        Ok(item)
     }
 
     /// Whether the lines are all of a log.
     pub fn is_done(&self) -> bool
         ensures { IsTrue result ↔ AreWhole self.now }
     {
-        matches!(self.stage, Stage::AtNothing(_))
-    }
-
-    /// The log whose lines these are, exactly where they are all of one.
-    pub fn finish(self) -> Option<Log>
-        ensures { MatchOption result (¬ (AreWhole self)) (λ log. IsLog log × (log_lines log ≡ self)) }
-    {
-        match self.stage {
-            Stage::AtNothing(claim) => Some(Log { claim }),
-            _ => None,
-        }
+        matches!(self.place, Place::AfterEnd)
     }
 }

@@ -61,7 +61,8 @@ pub enum Stage {
     AtNothing(Claim),
 }
 
-const HEADER: &[u8] = b"STEINERLOG 1";
+/// The first line.
+pub const HEADER: &[u8] = b"STEINERLOG 1";
 
 // This stage, if the line is this one.
 fn stage_if(wanted: &[u8], line: &[u8], stage: Stage) -> Result<Stage, LineError>
@@ -104,8 +105,8 @@ fn at_tree(alloc: Global, primal: u64, dual: u64, line: &[u8]) -> Result<Stage, 
     })
 }
 
-// The arc that a line says.
-fn arc_of(line: &[u8]) -> Result<(u32, u32), LineError>
+/// The arc that a line says.
+pub fn arc_of(line: &[u8]) -> Result<(u32, u32), LineError>
     ensures { Gives (λ arc. arc) result (pair_of (codes "A") 1 1000000 1 1000000 line.now) }
 {
     let (tail, head) = pair_of(line, b"A", 1, MAX_VERTEX, 1, MAX_VERTEX).ok_or(LineError::BadLine)?;

@@ -187,7 +187,7 @@ const STEP_CHANGES: [(&str, &str, u64); 49] = [
     ("D 1 2 1 4", "D 1 0 1 4", 8),
     ("D 1 2 1 4", "D 1000001 2 1 4", 8),
     ("D 1 2 1 4", "D 1 1000001 1 4", 8),
-    ("D 1 2 1 4", "D1 2 1 4", 8),
+    ("D 1 2 1 4", "D  1 2 1 4", 8),
     ("D 1 2 1 4", "d 1 2 1 4", 8),
     ("F 1", "F 0", 11),
     ("F 1", "F 1000001", 11),
@@ -356,15 +356,66 @@ fn takes_one_proof_tree(rt: HostRuntime) -> Result<(), Fail> {
     Ok(())
 }
 
+/// What the lines of a text say, one by one. After the last, and nowhere before, the log is whole.
+fn items_of(rt: &impl AllocGlobal, text: &str) -> Result<Vec<Item>, Fail> {
+    let mut reader = LogReader::begin(rt.alloc());
+    let mut items = Vec::new(rt.alloc());
+    for line in text.lines() {
+        if reader.is_done() {
+            return Err("the log is whole too early".into());
+        }
+        let item = reader.line(line.as_bytes())?;
+        items.push(item)?;
+    }
+    if !reader.is_done() {
+        return Err("the log isn't whole".into());
+    }
+    Ok(items)
+}
+
 #[test]
-fn reads_line_by_line(rt: HostRuntime) -> Result<(), Fail> {
-    let mut reader = LogReader::new(rt.alloc());
+fn reads_the_items_of_the_star(rt: HostRuntime) -> Result<(), Fail> {
+    let items = items_of(&rt, STAR)?;
+    let [
+        Item::Header,
+        Item::ClaimTree { primal: 6, dual: 6 },
+        Item::TreeHead { start: 1, count: 3 },
+        Item::Arc(1, 4),
+        Item::Arc(4, 2),
+        Item::Arc(4, 3),
+        Item::StepsHead(0),
+        Item::ProofHead,
+        Item::CloseHead {
+            root: Some(1),
+            count: 3,
+        },
+        Item::OneCut(_),
+        Item::OneCut(_),
+        Item::OneCut(cut),
+        Item::Last,
+    ] = items.as_slice()
+    else {
+        return Err("the items are others".into());
+    };
+    assert_eq!(rt; (cut.q, cut.y), (2, 2));
+    assert_eq!(rt; cut.set.as_slice(), [2, 3, 4].as_slice());
+    Ok(())
+}
+
+#[test]
+fn goes_on_after_bad_lines(rt: HostRuntime) -> Result<(), Fail> {
+    let mut reader = LogReader::begin(rt.alloc());
     for line in ["STEINERLOG 1", "CLAIM NONE", "WALL 2 1 2", "END"] {
+        for bad in ["", "WALL 2 2 1", "END "] {
+            assert!(rt;
+                matches!(reader.line(bad.as_bytes()), Err(LineError::BadLine)),
+                "{bad}"
+            );
+        }
         assert!(rt; !reader.is_done());
         reader.line(line.as_bytes())?;
     }
     assert!(rt; reader.is_done());
-    assert!(rt; reader.finish().is_some());
     Ok(())
 }
 
@@ -374,4 +425,7 @@ fn states_its_laws() {
     refused_exactly();
     accepted_holds();
     rejected_exactly();
+    items_are_lines();
+    one_item();
+    line_items();
 }

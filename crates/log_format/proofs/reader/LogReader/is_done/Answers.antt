@@ -1,9 +1,9 @@
-use Rattle.std.proofs.Common.{sym, ◌∙◌, refl}
-use Rattle.log_format.proofs.Finishing.{is_whole, whole_is_read}
+use Rattle.std.proofs.Common.{refl}
+use Rattle.log_format.proofs.PlaceLaws.{after_end, end_after}
 use Rattle.log_format.proofs.reader.LogReader.is_done.Goals as goal
 
-pub returns-in-AtNothing : goal.returns-in-AtNothing
-returns-in-AtNothing c = (λ _. rw (← c.self.view_is) (is_whole c.self.inside.stage c.in-AtNothing.field-0 c.in-AtNothing.is c.self.invariant), λ _. refl)
+pub returns-in-AfterEnd : goal.returns-in-AfterEnd
+returns-in-AfterEnd c = (λ _. rw (← c.self.view_is) (after_end c.self.inside.past.lines c.self.inside.place c.in-AfterEnd.is c.self.invariant), λ _. refl)
 
 pub returns-in_default : goal.returns-in_default
-returns-in_default c = (λ e. absurd cc, λ (log, fits, lines). absurd (c.in_default.not-AtNothing log.claim (whole_is_read c.self.inside.stage log c.self.invariant fits (lines ∙ sym c.self.view_is))))
+returns-in_default c = (λ e. absurd cc, λ whole. absurd (c.in_default.not-AfterEnd (end_after c.self.inside.past.lines c.self.inside.place c.self.invariant (rw c.self.view_is whole))))

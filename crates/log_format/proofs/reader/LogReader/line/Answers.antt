@@ -1,34 +1,29 @@
-use Rattle.std.proofs.Common.{◌≡◌, None, Some, sym, ap, subst, ◌∙◌}
+use Rattle.std.proofs.Common.{◌≡◌, None, subst}
 use Rattle.std.proofs.lemmas.Result.{err_from_is_err_and}
 use Rattle.log_format.specs.declared.fault.LineError.{LineError}
 use Rattle.log_format.specs.declared.fault.LineError.TheVariants.{BadLine}
-use Rattle.log_format.specs.declared.stage.Stage.{Stage}
-use Rattle.log_format.specs.Reading.{Fails, step}
-use Rattle.log_format.proofs.Finishing.{read_none, read_more, read_begins, refused_stops}
+use Rattle.log_format.specs.Reading.{Fails}
+use Rattle.log_format.specs.Places.{said, IsAfter}
+use Rattle.log_format.proofs.PlaceLaws.{said_takes, after_is_place, after_more, after_begins, after_stops}
 use Rattle.log_format.proofs.reader.LogReader.line.Goals as goal
 
-pub invariant_of-self : goal.invariant_of-self
-invariant_of-self c = rw c.replace-stage.ensures.after read_none
+pub said-requires : goal.said-requires
+said-requires c = after_is_place c.self.inside.past.lines c.self.inside.place c.self.invariant
 
-pub returns-in_err-self-inside-clause-refused : goal.returns-in_err-self-inside-clause-refused
-returns-in_err-self-inside-clause-refused c = λ is begins.
+pub returns-in_err-item-clause-refused : goal.returns-in_err-item-clause-refused
+returns-in_err-item-clause-refused c = λ is begins.
     let p = err_from_is_err_and c.from_residual.result c.from_residual.ensures.1 in
-    let bad : c.in_err-self-inside.field-0.0 ≡ BadLine = cc in
-    let fails : Fails BadLine (step c.replace-stage.result c.args.line.now) = subst (λ (e : LineError). Fails e (step c.replace-stage.result c.args.line.now)) bad c.in_err-self-inside.ensures in
-    let none : step c.self.inside.stage c.args.line.now ≡ None = ap (λ (s : Stage). step s c.args.line.now) (sym c.replace-stage.ensures.value) ∙ fails in
-    refused_stops c.self.inside.stage c.args.line.now c.self.invariant none (rw c.self.view_is begins)
+    let bad : c.in_err-item.field-0.0 ≡ BadLine = cc in
+    let none : said c.self.inside.place c.args.line.now ≡ None = subst (λ (e : LineError). Fails e (said c.self.inside.place c.args.line.now)) bad c.in_err-item.ensures in
+    after_stops c.self.inside.past.lines c.self.inside.place c.args.line.now c.self.invariant none (rw c.self.view_is begins)
 
-pub invariant_of-self-2 : goal.invariant_of-self-2
-invariant_of-self-2 c =
-    let next : step c.self.inside.stage c.args.line.now ≡ Some c.in_ok-self-inside.field-0 = ap (λ (s : Stage). step s c.args.line.now) (sym c.replace-stage.ensures.value) ∙ c.in_ok-self-inside.ensures in
-    (read_more c.self.inside.stage c.in_ok-self-inside.field-0 c.args.line.now c.self.invariant next).0
-
-pub returns-clause-ok : goal.returns-clause-ok
-returns-clause-ok c =
-    let next : step c.self.inside.stage c.args.line.now ≡ Some c.in_ok-self-inside.field-0 = ap (λ (s : Stage). step s c.args.line.now) (sym c.replace-stage.ensures.value) ∙ c.in_ok-self-inside.ensures in
-    rw (← c.self.view_is) ((read_more c.self.inside.stage c.in_ok-self-inside.field-0 c.args.line.now c.self.invariant next).1)
+pub invariant_of-self : goal.invariant_of-self
+invariant_of-self c = rw c.note.ensures (after_more c.self.inside.past.lines c.self.inside.place c.args.line.now (c.in_ok-item.item, c.in_ok-item.place) c.self.invariant c.in_ok-item.ensures)
 
 pub returns-clause-begins : goal.returns-clause-begins
 returns-clause-begins c =
-    let next : step c.self.inside.stage c.args.line.now ≡ Some c.in_ok-self-inside.field-0 = ap (λ (s : Stage). step s c.args.line.now) (sym c.replace-stage.ensures.value) ∙ c.in_ok-self-inside.ensures in
-    read_begins c.in_ok-self-inside.field-0 ((read_more c.self.inside.stage c.in_ok-self-inside.field-0 c.args.line.now c.self.invariant next).0)
+    let after : IsAfter c.note.new.self.lines c.in_ok-item.place = rw c.note.ensures (after_more c.self.inside.past.lines c.self.inside.place c.args.line.now (c.in_ok-item.item, c.in_ok-item.place) c.self.invariant c.in_ok-item.ensures) in
+    after_begins c.note.new.self.lines c.in_ok-item.place after
+
+pub returns-clause-item : goal.returns-clause-item
+returns-clause-item c = said_takes c.self.inside.place c.args.line.now (c.in_ok-item.item, c.in_ok-item.place) c.in_ok-item.ensures

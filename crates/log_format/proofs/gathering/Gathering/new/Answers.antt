@@ -1,6 +1,6 @@
 use Rattle.log_format.specs.declared.stage.Stage.TheVariants.{AtHeader}
 use Rattle.log_format.proofs.Finishing.{read_none, read_begins}
-use Rattle.log_format.proofs.reader.LogReader.new.Goals as goal
+use Rattle.log_format.proofs.gathering.Gathering.new.Goals as goal
 
 pub invariant_of-result : goal.invariant_of-result
 invariant_of-result c = read_none
