@@ -1,6 +1,5 @@
 ghost use Rattle.search_core.specs.Laws.{EventsKeep, AllowedHasNoFault, FaultIsOne, SettledBounds};
-ghost use Rattle.search_core.specs.ReadOff.{CompleteBounds, CompleteIsProof};
-ghost use Rattle.search_core.specs.ReadOff.{CompleteCounts, CompleteIsFew};
+ghost use Rattle.search_core.specs.ReadOff.{CompleteBounds, CompleteCounts, CompleteIsFew, CompleteIsProof};
 
 /// Whatever list of events follows a beginning, the state keeps what every state keeps.
 pub fn events_keep()
