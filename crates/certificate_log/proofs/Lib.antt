@@ -1,0 +1,8 @@
+pub mod Once
+pub mod Walking
+pub mod Finding
+pub mod Lowest
+pub mod Sizes
+pub mod Proved
+pub mod Writing
+pub mod Certifying

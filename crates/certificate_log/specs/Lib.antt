@@ -1,0 +1,5 @@
+pub mod Writable
+pub mod Spent
+pub mod Standing
+pub mod Bound
+pub mod Assembled
