@@ -14,15 +14,14 @@ use Rattle.log_format.specs.declared.log.Claim.TheVariants.{Found}
 use Rattle.log_format.specs.declared.proof_line.ProofLine.{ProofLine}
 use Rattle.log_format.specs.Accepts.{AcceptsFound, left_of, left_over}
 use Rattle.log_format.specs.Preorder.{preorder}
-use Rattle.log_format.specs.Text.{IsWritableFound, IsWritableLine, IsWritableStep}
+use Rattle.log_format.specs.Text.{IsWritableFound, IsWritableLine, IsWritablePacking, IsWritableStep}
 use Rattle.search_core.specs.declared.gathered.Gathered.{Gathered}
-use Rattle.search_core.specs.Complete.{IsComplete, IsFinished, done_id, records, standing_ids, waiting}
+use Rattle.search_core.specs.Complete.{AllPackings, IsComplete, IsFinished, done_id, records, standing_ids, waiting}
 use Rattle.search_core.specs.FreeVertices.{free_count}
 use Rattle.search_core.specs.ReadOff.{CompleteCounts, CompleteIsFew, CompleteIsProof, IsReadOff, ProvesItsLeast, least_weight, size}
 use Rattle.certificate_log.specs.Assembled.{IsAssembled}
 use Rattle.certificate_log.specs.Bound.{lowest_weight}
 use Rattle.certificate_log.specs.Spent.{IsGreatestOf, IsSpent, light_weights}
-use Rattle.certificate_log.specs.Writable.{AreWritable}
 use Rattle.certificate_log.proofs.Proved.{lines_fit, one_proof, proved_below, proves_lower}
 use Rattle.certificate_log.proofs.Sizes.{length-light_weights, length-preorder}
 use Rattle.certificate_log.proofs.Writing.{cost_fits, writable_tree}
@@ -54,7 +53,7 @@ pub record IsReady (steps : List Step) (first : Network) (s : State) (G : Gather
   pub is_least : G.least ≡ cost s.instance t
   pub is_tree : IsTree first tree
   pub is_cost : cost first tree ≡ worth s t
-  pub writable : AreWritable G
+  pub writable : AllPackings IsWritablePacking G
   pub lines_are : lines ≡ preorder p
   pub proves : ProvesItsLeast G s.instance s.gone p
   -- the least of the least value and of what the nodes that wait weigh

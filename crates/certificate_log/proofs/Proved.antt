@@ -15,9 +15,8 @@ use Rattle.log_format.specs.Text.{IsWritableLine, IsWritablePacking}
 use Rattle.search_core.specs.declared.done.Done.{Done}
 use Rattle.search_core.specs.declared.done.Done.TheVariants.{Close}
 use Rattle.search_core.specs.declared.gathered.Gathered.{Gathered}
-use Rattle.search_core.specs.Complete.{done_packing, records, waiting}
+use Rattle.search_core.specs.Complete.{AllPackings, done_packing, records, waiting}
 use Rattle.search_core.specs.ReadOff.{IsReadOff, closed, waits, was_split, least_weight}
-use Rattle.certificate_log.specs.Writable.{AreWritable}
 use Rattle.certificate_log.proofs.Writing.{any_vertex}
 
 -- where lines begin with a proof tree, they begin with no other, and the same lines follow
@@ -49,7 +48,7 @@ proves_lower I B x y (close P) low proves = record { fits = proves.fits; weighs 
 proves_lower I B x y (split v inside outside) low proves = (proves.0, proves_lower I (with_inside B v) x y inside low proves.1, proves_lower I (with_outside B v) x y outside low proves.2)
 
 -- the lines of a tree that is read off what can be written can be written
-pub lines_fit : (G : Gathered) (I : Network) (id : ℕ) (B : Branch) (x : ℕ) (p : ProofTree) → AreWritable G → IsInstance I → IsReadOff G id p → Proves I B x p → All IsWritableLine (preorder p)
+pub lines_fit : (G : Gathered) (I : Network) (id : ℕ) (B : Branch) (x : ℕ) (p : ProofTree) → AllPackings IsWritablePacking G → IsInstance I → IsReadOff G id p → Proves I B x p → All IsWritableLine (preorder p)
 lines_fit G I id B x p writable instance (closed {id = a} {P} there) proves =
     let packing : IsWritablePacking P = All-contains (λ (d : Done). IsWritablePacking (done_packing d)) (records G) (Close a P) writable.0 there in
     All-cons IsWritableLine (line.Close P) [] packing (All-nil IsWritableLine)

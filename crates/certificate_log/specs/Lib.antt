@@ -1,4 +1,3 @@
-pub mod Writable
 pub mod Spent
 pub mod Standing
 pub mod Bound

@@ -3,10 +3,9 @@ ghost use Rattle.st_model.specs.Network.{IsInstance};
 ghost use Rattle.st_model.specs.Arborescence.{cost};
 ghost use Rattle.lift_back.specs.State.{IsTreeOf, whole};
 ghost use Rattle.lift_back.specs.Steps.{Applies};
-ghost use Rattle.log_format.specs.Text.{IsWritableStep};
-ghost use Rattle.search_core.specs.Complete.{IsComplete};
+ghost use Rattle.log_format.specs.Text.{IsWritablePacking, IsWritableStep};
+ghost use Rattle.search_core.specs.Complete.{AllPackings, IsComplete};
 ghost use Rattle.certificate_log.specs.Assembled.{IsAssembled};
-ghost use Rattle.certificate_log.specs.Writable.{AreWritable};
 
 use crate::bound::bound_of;
 use crate::lines::proof_lines;
@@ -34,7 +33,7 @@ pub fn assemble(
     requires cost { gathered.now.least ≡ cost reduced.now.state.instance tree.now }
     requires complete { (start : ℕ) × (budget : ℕ)
         × IsComplete gathered.now reduced.now.state.instance reduced.now.state.gone start budget }
-    requires writable { AreWritable gathered.now }
+    requires writable { AllPackings IsWritablePacking gathered.now }
     ensures { IfOk result (IsAssembled steps.items reduced.now.first reduced.now.state gathered.now) }
 {
     complete_is_proof();

@@ -39,6 +39,10 @@ abbrev pub done_packing : Done → Packing
 done_packing (Split id v inside outside P) = P
 done_packing (Close id P) = P
 
+-- each packing has a property: that of each record, and that of each node that waits
+abbrev pub AllPackings : (Packing → Type 0) → Gathered → Type 0
+AllPackings Q G = All (λ d. Q (done_packing d)) (records G) × All (λ N. Q N.packing) (waiting G)
+
 -- the ids of the halves that were made
 abbrev pub half_ids : Done → List ℕ
 half_ids (Split id v inside outside P) = inside ∷ outside ∷ []
