@@ -356,49 +356,81 @@ fn takes_one_proof_tree(rt: HostRuntime) -> Result<(), Fail> {
     Ok(())
 }
 
-/// What the lines of a text say, one by one. After the last, and nowhere before, the log is whole.
-fn items_of(rt: &impl AllocGlobal, text: &str) -> Result<Vec<Item>, Fail> {
-    let mut reader = LogReader::begin(rt.alloc());
-    let mut items = Vec::new(rt.alloc());
-    for line in text.lines() {
-        if reader.is_done() {
-            return Err("the log is whole too early".into());
-        }
-        let item = reader.line(line.as_bytes())?;
-        items.push(item)?;
+/// A word for an item's kind, and two of its numbers.
+fn seen(item: &Item) -> (&'static str, u64, u64) {
+    match item {
+        Item::Header => ("header", 0, 0),
+        Item::ClaimTree { primal, dual } => ("claim", *primal, *dual),
+        Item::ClaimNone => ("none", 0, 0),
+        Item::Wall(set) => ("wall", set.as_slice().len() as u64, 0),
+        Item::TreeHead { start, count } => ("tree", *start as u64, *count),
+        Item::Arc(tail, head) => ("arc", *tail as u64, *head as u64),
+        Item::StepsHead(count) => ("steps", *count, 0),
+        Item::OneStep(_) => ("step", 0, 0),
+        Item::ProofHead => ("proof", 0, 0),
+        Item::Split(vertex) => ("split", *vertex as u64, 0),
+        Item::CloseHead { root, count } => ("close", root.unwrap_or(0) as u64, *count),
+        Item::OneCut(cut) => ("cut", cut.q as u64, cut.y),
+        Item::Last => ("end", 0, 0),
     }
-    if !reader.is_done() {
-        return Err("the log isn't whole".into());
-    }
-    Ok(items)
 }
 
+/// Whether an item is of this kind, with these numbers.
+fn is_seen(item: &Item, wanted: &(&str, u64, u64)) -> bool {
+    let (word, first, second) = seen(item);
+    word == wanted.0 && first == wanted.1 && second == wanted.2
+}
+
+/// Whether the lines of a text say these items, and are all of a log.
+fn says(rt: &impl AllocGlobal, text: &str, wanted: &[(&str, u64, u64)]) -> Result<bool, Fail> {
+    let mut reader = LogReader::begin(rt.alloc());
+    for (line, wanted) in text.lines().zip(wanted.iter()) {
+        let item = reader.line(line.as_bytes())?;
+        if !is_seen(&item, wanted) {
+            return Ok(false);
+        }
+    }
+    Ok(reader.is_done())
+}
+
+/// The items of the star's log.
+const STAR_ITEMS: [(&str, u64, u64); 13] = [
+    ("header", 0, 0),
+    ("claim", 6, 6),
+    ("tree", 1, 3),
+    ("arc", 1, 4),
+    ("arc", 4, 2),
+    ("arc", 4, 3),
+    ("steps", 0, 0),
+    ("proof", 0, 0),
+    ("close", 1, 3),
+    ("cut", 2, 2),
+    ("cut", 3, 2),
+    ("cut", 2, 2),
+    ("end", 0, 0),
+];
+
+/// A log with a step and a split, and its items.
+const SPLIT: &str =
+    "STEINERLOG 1\nCLAIM TREE 3 2\nTREE 2 0\nSTEPS 1\nP 3\nPROOF\nS 2\nC 0 0\nC 0 0\nEND\n";
+
+const SPLIT_ITEMS: [(&str, u64, u64); 10] = [
+    ("header", 0, 0),
+    ("claim", 3, 2),
+    ("tree", 2, 0),
+    ("steps", 1, 0),
+    ("step", 0, 0),
+    ("proof", 0, 0),
+    ("split", 2, 0),
+    ("close", 0, 0),
+    ("close", 0, 0),
+    ("end", 0, 0),
+];
+
 #[test]
-fn reads_the_items_of_the_star(rt: HostRuntime) -> Result<(), Fail> {
-    let items = items_of(&rt, STAR)?;
-    let [
-        Item::Header,
-        Item::ClaimTree { primal: 6, dual: 6 },
-        Item::TreeHead { start: 1, count: 3 },
-        Item::Arc(1, 4),
-        Item::Arc(4, 2),
-        Item::Arc(4, 3),
-        Item::StepsHead(0),
-        Item::ProofHead,
-        Item::CloseHead {
-            root: Some(1),
-            count: 3,
-        },
-        Item::OneCut(_),
-        Item::OneCut(_),
-        Item::OneCut(cut),
-        Item::Last,
-    ] = items.as_slice()
-    else {
-        return Err("the items are others".into());
-    };
-    assert_eq!(rt; (cut.q, cut.y), (2, 2));
-    assert_eq!(rt; cut.set.as_slice(), [2, 3, 4].as_slice());
+fn reads_each_item(rt: HostRuntime) -> Result<(), Fail> {
+    assert!(rt; says(&rt, STAR, &STAR_ITEMS)?);
+    assert!(rt; says(&rt, SPLIT, &SPLIT_ITEMS)?);
     Ok(())
 }
 
