@@ -1,0 +1,49 @@
+-- What an ascent makes of a node's packing.
+use Rattle.std.proofs.Common.{ℕ, ◌-◌, ◌^◌, ◌<◌, ◌≤◌, None, arith}
+use Rattle.st_model.specs.Network.{Network, IsInstance}
+use Rattle.cut_packing.specs.declared.packing.Packing.{Packing}
+use Rattle.cut_packing.specs.Packing.{weight}
+use Rattle.dual_ascent.specs.declared.ascent.Ascent.TheVariants.{Full, Reached}
+use Rattle.dual_ascent.specs.Extension.{IsExtension}
+use Rattle.branching.specs.declared.node.Node.{Node}
+use Rattle.worker_loop.specs.declared.step.End.{End}
+use Rattle.worker_loop.specs.declared.step.End.TheVariants.{Close, Split}
+use Rattle.worker_loop.specs.declared.step.Step.{Step}
+use Rattle.worker_loop.specs.Node.{IsWritableNode}
+use Rattle.worker_loop.specs.Step.{IsEnd, IsStep, least_after}
+use Rattle.worker_loop.proofs.Writing.{writable_packing}
+
+-- a node whose extended packing weighs enough closes by it
+pub reached_step : (I : Network) (N : Node) (P : Packing) (root least : ℕ) → IsInstance I → weight I N.branch N.packing < least → least < 2 ^ 64
+    → IsExtension I N.branch N.packing root (least - weight I N.branch N.packing) (Reached P) → IsStep I N least (record { better = None; end = Close P })
+reached_step I N P root least instance light small e = record {
+  tree = tt;
+  ends = (
+    record { fits = e.0.fits; weighs = omega (arith, light, e.1) },
+    writable_packing I N.branch P instance e.0.fits e.0.sets e.0.few (omega (arith, light, small, e.1)),
+  );
+}
+
+-- the node with a full packing
+pub full_node : (I : Network) (N : Node) (P : Packing) (root least : ℕ) → IsInstance I → IsWritableNode I N → weight I N.branch N.packing < least → least < 2 ^ 64
+    → IsExtension I N.branch N.packing root (least - weight I N.branch N.packing) (Full P) → IsWritableNode I (record { id = N.id; branch = N.branch; packing = P })
+full_node I N P root least instance h light small e = record {
+  node = record { branch = h.node.branch; required = h.node.required; fits = e.0.fits };
+  writable = writable_packing I N.branch P instance e.0.fits e.0.sets e.0.few (omega (arith, light, small, e.1));
+}
+
+-- how a node ends with a heavier packing, so it ends
+pub ends_so : (I : Network) (N : Node) (P : Packing) (least : ℕ) (step : Step) → weight I N.branch N.packing ≤ weight I N.branch P
+    → IsStep I (record { id = N.id; branch = N.branch; packing = P }) least step → IsStep I N least step
+ends_so I N P least step heavier s = record { tree = s.tree; ends = by_case step.end s.ends }
+  where
+    by_case : (end : End) → IsEnd I (record { id = N.id; branch = N.branch; packing = P }) (least_after least step.better) end
+        → IsEnd I N (least_after least step.better) end
+    by_case (Close Q) h = h
+    by_case (Split M v) h = record {
+      same = h.same;
+      node = h.node;
+      no_lighter = omega (arith, heavier, h.no_lighter);
+      split = h.split;
+      bounded = h.bounded;
+    }

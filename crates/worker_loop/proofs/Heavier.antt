@@ -1,0 +1,74 @@
+-- That the heavier of two packings extends as the first does.
+use Rattle.std.proofs.Common.{◌≡◌, ℕ, ◌-◌, ◌≤◌, ◌⊎◌, Option, None, Some, inl, inr, refl, sym, subst, arith}
+use Rattle.std.specs.Prelude.{IfSome}
+use Rattle.std.proofs.lemmas.List.Elements.{All-nil}
+use Rattle.st_model.specs.declared.branch.Branch.{Branch}
+use Rattle.st_model.specs.Branch.{IsVertexSet}
+use Rattle.st_model.specs.Network.{Network, link}
+use Rattle.cut_packing.specs.declared.cut.Cut.{Cut}
+use Rattle.cut_packing.specs.declared.packing.Packing.{Packing}
+use Rattle.cut_packing.specs.Packing.{CutFits, Fits, weight}
+use Rattle.dual_ascent.specs.declared.ascent.Ascent.{Ascent}
+use Rattle.dual_ascent.specs.declared.ascent.Ascent.TheVariants.{Full, Reached}
+use Rattle.dual_ascent.specs.declared.extension.Extension.{Extension}
+use Rattle.dual_ascent.specs.Extension.{IsExtension, IsExtended, packing_of}
+use Rattle.worker_loop.specs.Node.{no_cuts}
+use Rattle.worker_loop.specs.Raising.{IsExtendable, IsExtendedTo, IsNoWorse}
+
+-- without its cuts a packing weighs no more
+lighter_without : (I : Network) (B : Branch) (P : Packing) → weight I B no_cuts ≤ weight I B P
+lighter_without I B P = omega arith
+
+-- what extends the one packing extends the other, where it is no lighter than that
+extends_other : (I : Network) (B : Branch) (E P new : Packing) (root : ℕ) → weight I B P ≤ weight I B new → IsExtended I B E new root → IsExtended I B P new root
+extends_other I B E P new root heavy e = record { rooted = e.rooted; fits = e.fits; no_lighter = heavy; sets = e.sets; few = e.few }
+
+-- the first of two ascents is no lighter than the packing that it began with
+first_heavy : (I : Network) (B : Branch) (P : Packing) (root target : ℕ) (first : Ascent) → IsExtension I B P root target first → weight I B P ≤ weight I B (packing_of first)
+first_heavy I B P root target (Full new) h = h.0.no_lighter
+first_heavy I B P root target (Reached new) h = h.0.no_lighter
+
+second_extends : (I : Network) (B : Branch) (P E : Packing) (root least : ℕ) (first second : Ascent) → weight I B E ≤ weight I B P → weight I B P ≤ least
+    → IsExtension I B P root (least - weight I B P) first → IsExtension I B E root (least - weight I B E) second → IsNoWorse I B first second
+    → IsExtension I B P root (least - weight I B P) second
+second_extends I B P E root least first (Full new) lighter light h s worse =
+    let heavy = first_heavy I B P root (least - weight I B P) first h in
+    (extends_other I B E P new root (omega (arith, heavy, worse)) s.0, omega (arith, s.1, lighter, light), s.2)
+second_extends I B P E root least first (Reached new) lighter light h s worse =
+    (extends_other I B E P new root (omega (arith, s.1, lighter, light)) s.0, omega (arith, s.1, lighter, light))
+
+-- the heavier of two extensions, the second of which began without cuts
+pub either_extends : (I : Network) (B : Branch) (P : Packing) (root least : ℕ) (first second chosen : Extension) → IsExtendable I B P root least
+    → IsExtendedTo I B P root least first → IsExtendedTo I B no_cuts root least second → (chosen ≡ first) ⊎ ((chosen ≡ second) × IsNoWorse I B first.ascent second.ascent)
+    → IsExtendedTo I B P root least chosen
+either_extends I B P root least first second chosen able h s (inl is) = subst (IsExtendedTo I B P root least) (sym is) h
+either_extends I B P root least first second chosen able h s (inr (is, worse)) = subst (IsExtendedTo I B P root least) (sym is) (record {
+  extended = second_extends I B P no_cuts root least first.ascent second.ascent (lighter_without I B P) able.light h.extended s.extended worse;
+  count = s.count;
+})
+
+-- no cuts fit every branch
+pub no_cuts_fit : (I : Network) (B : Branch) → Fits I B no_cuts
+no_cuts_fit I B = record {
+  root = refl;
+  cuts = All-nil (CutFits I B);
+  arcs = λ u v tail head. each_price (link I.links u v);
+  prizes = λ q vertex free. omega arith;
+}
+  where
+    each_price : (price : Option ℕ) → IfSome price (λ p. 0 ≤ p)
+    each_price None = tt
+    each_price (Some p) = omega arith
+
+-- what can be extended can be so without its cuts
+pub bare_extendable : (I : Network) (B : Branch) (P : Packing) (root least : ℕ) → IsExtendable I B P root least → IsExtendable I B no_cuts root least
+bare_extendable I B P root least able = record {
+  start = record {
+    branch = able.start.branch;
+    required = able.start.required;
+    fits = no_cuts_fit I B;
+    sets = All-nil (λ (c : Cut). IsVertexSet I.n c.set);
+  };
+  rooted = record { vertex = able.rooted.vertex; certain = able.rooted.certain; same = inl refl };
+  light = omega (arith, lighter_without I B P, able.light);
+}

@@ -1,0 +1,14 @@
+pub mod Splits
+pub mod Writing
+pub mod Narrowing
+pub mod Parts
+pub mod Extended
+pub mod Heavier
+pub mod Found
+pub mod Closed
+pub mod Growing
+pub mod Numbers
+pub mod Steps
+pub mod Gathering
+pub mod Beginning
+pub mod Working

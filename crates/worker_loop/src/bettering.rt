@@ -1,0 +1,144 @@
+ghost use Rattle.std.specs.Prelude.{◌≡◌, ◌≤◌, IfOk, IfSome, IfNone};
+ghost use Rattle.st_model.specs.declared.branch.Branch.{Branch as Part};
+ghost use Rattle.st_model.specs.Arborescence.{IsTree, cost};
+ghost use Rattle.st_model.specs.Branch.{AreThose, Belongs, IsBranch, LeavesRequired};
+ghost use Rattle.st_model.specs.Network.{IsVertex};
+ghost use Rattle.worker_loop.specs.Deciding.{is_left_out};
+ghost use Rattle.worker_loop.specs.Node.{IsPartOf};
+ghost use Rattle.worker_loop.specs.Step.{IsBetter};
+
+use crate::step::Priced;
+use crate::used_up::used_up;
+use bidirected_form::Arcs;
+use cut_packing::{Packing, weight};
+use graph_store::Whole;
+use local_search::improve;
+use st_model::{Branch, Instance, Listed, Sides, Tree, VertexSet, tree_cost, walk};
+use std::alloc::{AllocError, Global};
+use tree_heuristic::{first_tree, prune};
+
+/// A tree of the branch that costs less than the least cost known, if one is found: a first tree,
+/// pruned, over the vertices to which arcs with nothing left lead from the root, and those that have
+/// to be reached. One that costs more than the least cost known by over twice the gap hardly becomes
+/// the cheapest, and isn't improved. The gap is what the bound is below that cost.
+pub fn better_tree(
+    alloc: Global,
+    whole: &Whole,
+    branch: &Sides,
+    arcs: &Arcs,
+    least: u64,
+    gap: u64,
+) -> Result<Option<Priced>, AllocError>
+    requires branch { IsBranch whole.now.instance branch.now }
+    ensures { IfOk result (λ better. IfSome better (IsBetter whole.now.instance branch.now least)) }
+{
+    let heads = used_up(alloc, arcs)?;
+    let reached = walk(alloc, &heads, arcs.root())?;
+    let narrow = narrowed(alloc, &whole.instance, branch, &reached)?;
+    let narrow = Sides::of(alloc, narrow)?;
+    let Some(tree) = first_tree(alloc, &whole.store, &narrow)? else {
+        return Ok(None);
+    };
+    let tree = prune(alloc, &whole.instance, &narrow, tree)?;
+    let limit = least.saturating_add(gap.saturating_mul(2));
+    let tree = improved(alloc, whole, branch, tree, limit)?;
+    Ok(priced(&whole.instance, tree, least))
+}
+
+// The tree, or where it costs no more than a limit one that local search makes of it.
+fn improved(
+    alloc: Global,
+    whole: &Whole,
+    branch: &Sides,
+    tree: Tree,
+    limit: u64,
+) -> Result<Tree, AllocError>
+    requires branch { IsBranch whole.now.instance branch.now }
+    requires tree { IsTree whole.now.instance tree }
+    requires belongs { Belongs branch.now tree }
+    ensures tree { IfOk result (IsTree whole.now.instance) }
+    ensures belongs { IfOk result (Belongs branch.now) }
+{
+    if tree_cost(&whole.instance, &tree) > limit {
+        return Ok(tree);
+    }
+    improve(alloc, whole, branch, tree)
+}
+
+/// What a packing of the branch weighs less than the least cost known.
+pub fn gap(instance: &Instance, branch: &Sides, packing: &Packing, least: u64) -> u64
+    requires { IsBranch instance.now branch.now }
+{
+    let weighs = weight(instance, branch.branch(), packing);
+    if weighs < u128::from(least) {
+        least.saturating_sub(weighs as u64)
+    } else {
+        0
+    }
+}
+
+/// A tree and its price, if that is less than the least cost known.
+pub fn priced(instance: &Instance, tree: Tree, least: u64) -> Option<Priced>
+    requires { IsTree instance.now tree }
+    ensures better { (B : Part) → Belongs B tree → IfSome result (IsBetter instance.now B least) }
+    ensures price { IfSome result (λ p. p.price ≡ cost instance.now tree) }
+    ensures none { IfNone result (least ≤ cost instance.now tree) }
+{
+    let price = tree_cost(instance, &tree);
+    if price < least {
+        Some(Priced { tree, price })
+    } else {
+        None
+    }
+}
+
+/// The branch, in which each vertex is also outside that is neither required nor inside nor in a
+/// set.
+pub fn narrowed(
+    alloc: Global,
+    instance: &Instance,
+    branch: &Sides,
+    reached: &VertexSet,
+) -> Result<Branch, AllocError>
+    requires { IsBranch instance.now branch.now }
+    ensures branch { IfOk result (IsBranch instance.now) }
+    ensures part { IfOk result (IsPartOf branch.now) }
+    ensures required { LeavesRequired instance.now branch.now → IfOk result (LeavesRequired instance.now) }
+{
+    let outside = left_out(alloc, instance, branch, reached)?;
+    let before = branch.branch();
+    let inside = Vec::from_slice(alloc, before.inside.as_slice())?;
+    Ok(Branch {
+        inside: Listed::of(inside),
+        outside: Listed::of(outside),
+    })
+}
+
+// The vertices that are outside, and those that are neither required nor inside nor in a set;
+// ascending.
+fn left_out(
+    alloc: Global,
+    instance: &Instance,
+    branch: &Sides,
+    reached: &VertexSet,
+) -> Result<Vec<u32>, AllocError>
+    ensures { IfOk result (λ out. AreThose
+        (is_left_out instance.now branch.now reached.now.members) instance.now.n out.items) }
+{
+    let mut out = Vec::new(alloc);
+    for before in 0..instance.vertices() {
+        let vertex = before + 1;
+        if is_left_out(instance, branch, reached, vertex) {
+            out.push(vertex)?;
+        }
+    }
+    Ok(out)
+}
+
+// Whether a vertex is outside, or is neither required nor inside nor in a set.
+fn is_left_out(instance: &Instance, branch: &Sides, reached: &VertexSet, vertex: u32) -> bool
+    requires { IsVertex instance.now.n vertex }
+    ensures { result ≡ is_left_out instance.now branch.now reached.now.members vertex }
+{
+    branch.is_outside(vertex) || !(branch.is_certain(instance, vertex) || reached.contains(vertex))
+}

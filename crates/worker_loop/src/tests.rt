@@ -1,0 +1,223 @@
+use crate::OpenGate;
+use gates::CountingGate;
+use graph_store::Whole;
+use st_model::{Instance, Need};
+use starting::{Outcome, run, run_without};
+use std::alloc::{AllocError, Global};
+use std::test::Fail;
+use test_instances::{link, triangle_with_centre};
+
+mod brute_force;
+mod gates;
+mod starting;
+
+// A budget, and how a search of a whole instance ends within it: the least value, how many nodes it
+// worked on, and how many wait.
+type Row = (u64, u64, u64, usize);
+
+// Whether a search ends so.
+fn ends_so(alloc: Global, whole: &Whole, row: Row) -> Result<bool, AllocError> {
+    let (budget, least, claimed, waiting) = row;
+    let wanted = Outcome {
+        least,
+        claimed,
+        waiting,
+    };
+    Ok(run(alloc, whole, budget, &OpenGate)? == Some(wanted))
+}
+
+// Sides of 4: cuts of the root close the triangle.
+#[test]
+fn goes_through_the_centre(rt: HostRuntime) -> Result<(), Fail> {
+    let instance = triangle_with_centre(rt.alloc(), 4)?;
+    let whole = Whole::of(rt.alloc(), instance)?;
+    for row in [(0, 6, 0, 1), (1, 6, 1, 0), (9, 6, 1, 0)] {
+        assert!(rt; ends_so(rt.alloc(), &whole, row)?, "with {row:?}");
+    }
+    Ok(())
+}
+
+// Without the centre two of the sides are left.
+#[test]
+fn avoids_the_centre(rt: HostRuntime) -> Result<(), Fail> {
+    let instance = triangle_with_centre(rt.alloc(), 4)?;
+    let whole = Whole::of(rt.alloc(), instance)?;
+    let got = run_without(rt.alloc(), &whole, 4, u64::MAX)?.ok_or("no tree")?;
+    assert_eq!(rt; got.least, 8);
+    assert_eq!(rt; got.waiting, 0);
+    Ok(())
+}
+
+// Two sides of 5, over which the start goes, and out to the centre; arcs with nothing left lead over
+// the centre alone.
+#[test]
+fn finds_the_centre(rt: HostRuntime) -> Result<(), Fail> {
+    let links = [
+        link(1, 2, 5),
+        link(2, 3, 5),
+        link(1, 4, 2),
+        link(2, 4, 2),
+        link(3, 4, 2),
+    ];
+    let needs = [
+        (1, Need::Required),
+        (2, Need::Required),
+        (3, Need::Required),
+    ];
+    let instance = Instance::build(rt.alloc(), 4, &links, &needs)?;
+    let whole = Whole::of(rt.alloc(), instance)?;
+    for row in [(0, 12, 0, 1), (1, 6, 1, 0)] {
+        assert!(rt; ends_so(rt.alloc(), &whole, row)?, "with {row:?}");
+    }
+    Ok(())
+}
+
+// Two sides of 3 cost as much as the way through the centre.
+#[test]
+fn ties_with_the_sides(rt: HostRuntime) -> Result<(), Fail> {
+    let instance = triangle_with_centre(rt.alloc(), 3)?;
+    let whole = Whole::of(rt.alloc(), instance)?;
+    let got = run(rt.alloc(), &whole, u64::MAX, &OpenGate)?.ok_or("no tree")?;
+    assert_eq!(rt; got.least, 6);
+    assert_eq!(rt; got.waiting, 0);
+    Ok(())
+}
+
+// Of three links between two required vertices the second is the cheapest.
+#[test]
+fn takes_the_cheapest_parallel_link(rt: HostRuntime) -> Result<(), Fail> {
+    let links = [link(1, 2, 5), link(1, 2, 3), link(2, 1, 7)];
+    let needs = [(1, Need::Required), (2, Need::Required)];
+    let instance = Instance::build(rt.alloc(), 2, &links, &needs)?;
+    let whole = Whole::of(rt.alloc(), instance)?;
+    for row in [(0, 3, 0, 1), (1, 3, 1, 0)] {
+        assert!(rt; ends_so(rt.alloc(), &whole, row)?, "with {row:?}");
+    }
+    Ok(())
+}
+
+// A hub 1 with spokes to 2, 3 and 4, and a rim on which 5, 6 and 7 lie between two of these. The start
+// has all six links of cost 2 that a tree can have. Half of each of the nine links crosses every cut, so
+// cuts alone weigh at most 9, and it takes a split to prove the least cost of 10.
+fn odd_wheel(alloc: Global) -> Result<Whole, AllocError> {
+    let links = [
+        link(1, 2, 2),
+        link(1, 3, 2),
+        link(1, 4, 2),
+        link(5, 2, 2),
+        link(5, 3, 2),
+        link(6, 3, 2),
+        link(6, 4, 2),
+        link(7, 2, 2),
+        link(7, 4, 2),
+    ];
+    let needs = [
+        (1, Need::Required),
+        (5, Need::Required),
+        (6, Need::Required),
+        (7, Need::Required),
+    ];
+    Whole::of(alloc, Instance::build(alloc, 7, &links, &needs)?)
+}
+
+// What a search of the odd wheel within a budget ends with, if it worked on as many nodes as it
+// claims, each of which its gate saw once, and nodes wait only where these are the whole budget.
+fn crosses(alloc: Global, budget: u64) -> Result<Option<Outcome>, AllocError> {
+    let whole = odd_wheel(alloc)?;
+    let gate = CountingGate::new();
+    let Some(got) = run(alloc, &whole, budget, &gate)? else {
+        return Ok(None);
+    };
+    let spent = got.claimed == budget;
+    if gate.count() == Some(got.claimed) && (spent || got.waiting == 0) {
+        Ok(Some(got))
+    } else {
+        Ok(None)
+    }
+}
+
+// The root splits, and each half closes.
+#[test]
+fn crosses_an_odd_wheel(rt: HostRuntime) -> Result<(), Fail> {
+    for (budget, claimed, waiting) in [(0, 0, 1), (1, 1, 2), (2, 2, 1), (3, 3, 0), (16, 3, 0)] {
+        let got = crosses(rt.alloc(), budget)?.ok_or("no tree")?;
+        assert_eq!(rt;
+            (got.claimed, got.waiting),
+            (claimed, waiting),
+            "with budget {budget}"
+        );
+        assert!(rt;
+            10 <= got.least && (got.least == 10 || waiting > 0),
+            "with budget {budget}"
+        );
+    }
+    Ok(())
+}
+
+// Nobody is required: the link to the prize of 9 pays, and the one to the prize of 2 doesn't. The
+// first split is at the prize of 9. With it inside, cuts for the other prizes weigh 6; without it, the
+// prize outside weighs more than the tree that these lead to.
+#[test]
+fn leaves_the_least(rt: HostRuntime) -> Result<(), Fail> {
+    let links = [link(1, 2, 4), link(2, 3, 5)];
+    let needs = [(1, Need::Pays(7)), (2, Need::Pays(9)), (3, Need::Pays(2))];
+    let instance = Instance::build(rt.alloc(), 3, &links, &needs)?;
+    let whole = Whole::of(rt.alloc(), instance)?;
+    for row in [
+        (0, 11, 0, 1),
+        (1, 11, 1, 2),
+        (2, 6, 2, 1),
+        (3, 6, 3, 0),
+        (9, 6, 3, 0),
+    ] {
+        assert!(rt; ends_so(rt.alloc(), &whole, row)?, "with {row:?}");
+    }
+    Ok(())
+}
+
+// Eleven vertices, six of them required, and a least cost of 14, found by trying all sets of vertices. Cuts
+// for all vertices weigh less; raised where those too far from the root are left out, they close the
+// first node.
+#[test]
+fn closes_by_a_guess(rt: HostRuntime) -> Result<(), Fail> {
+    let links = [
+        link(1, 2, 2),
+        link(1, 3, 1),
+        link(1, 6, 4),
+        link(1, 8, 2),
+        link(1, 9, 4),
+        link(1, 10, 4),
+        link(2, 3, 3),
+        link(2, 5, 1),
+        link(2, 7, 2),
+        link(2, 8, 1),
+        link(3, 4, 1),
+        link(3, 5, 2),
+        link(3, 9, 2),
+        link(4, 7, 1),
+        link(5, 9, 3),
+        link(7, 8, 4),
+        link(8, 11, 1),
+        link(9, 10, 2),
+    ];
+    let needs = [
+        (5, Need::Required),
+        (6, Need::Required),
+        (7, Need::Required),
+        (8, Need::Required),
+        (9, Need::Required),
+        (11, Need::Required),
+    ];
+    let instance = Instance::build(rt.alloc(), 11, &links, &needs)?;
+    let whole = Whole::of(rt.alloc(), instance)?;
+    assert!(rt; ends_so(rt.alloc(), &whole, (1, 14, 1, 0))?);
+    Ok(())
+}
+
+#[test]
+fn stays_at_one_vertex(rt: HostRuntime) -> Result<(), Fail> {
+    let instance = Instance::build(rt.alloc(), 1, &[], &[(1, Need::Required)])?;
+    let whole = Whole::of(rt.alloc(), instance)?;
+    assert!(rt; ends_so(rt.alloc(), &whole, (1, 0, 1, 0))?);
+    Ok(())
+}
