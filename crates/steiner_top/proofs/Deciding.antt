@@ -3,6 +3,7 @@ use Rattle.cert_checker.specs.Checking.{IsAnswer}
 use Rattle.cert_checker.specs.Verdict.{verdict_of}
 use Rattle.log_format.specs.Text.{log_text}
 use Rattle.log_format.specs.declared.log.Log.{Log}
+use Rattle.search_core.specs.declared.gathered.Searched.{Searched}
 use Rattle.std.proofs.Common.{◌≡◌, ◌≢◌, ◌⊎◌, ◌↔◌, inl, inr, ℕ, ◌^◌, ◌<◌, ◌≤◌, List, [], length, Result, Ok, Err, Option, Some, None, refl, sym, subst, ap, ◌∙◌, arith, cond, eqb}
 use Rattle.std.specs.Prelude.{IfSome}
 use Rattle.std.specs.Io.KnownBytes.{append_known}
@@ -28,16 +29,16 @@ use Rattle.steiner_top.specs.Headline.{Headline, NothingFails, SolvesFile, Check
 use Rattle.steiner_top.specs.Output.{status_of_verdict}
 
 -- a check accepts the certificate of a solution
-certificate_checks : (w : SolveWords) (bytes : List ℕ) (tree : Tree) (primal dual : ℕ) (log : Log) (sent : List ℕ) → IsSolution w bytes tree primal dual log sent → IsAnswer bytes (log_text log) (Ok (cond (eqb dual primal) (verdict.Optimal primal) (verdict.Bound dual primal)))
-certificate_checks w bytes tree primal dual log sent s =
+certificate_checks : (w : SolveWords) (bytes : List ℕ) (tree : Tree) (primal dual expanded : ℕ) (searches : List Searched) (log : Log) (sent : List ℕ) → IsSolution w bytes tree primal dual expanded searches log sent → IsAnswer bytes (log_text log) (Ok (cond (eqb dual primal) (verdict.Optimal primal) (verdict.Bound dual primal)))
+certificate_checks w bytes tree primal dual expanded searches log sent s =
     let c = s.found.certified in
     (s.instance, s.reads, (log, record { is_log = c.is_log; text = refl }, c.accepted, sym (ap verdict_of c.claims)))
 
 -- a file whose solution is given is answered by that tree, and by no refusal
-answered_found : (w : SolveWords) (bytes : List ℕ) (status : Status) (tree : Tree) (primal dual : ℕ) (log : Log) (texts : Texts) (taken now : Option (List ℕ)) (sent : List ℕ)
-    → RefusedExactly bytes → length bytes ≤ 2 ^ 34 → IsSolution w bytes tree primal dual log sent → ((status ≡ Optimal) × (dual ≡ primal)) ⊎ ((status ≡ Budget) × (dual < primal)) → now ≡ append_known taken sent → IsSaved (Some (solve w)) texts (Some (Found tree primal dual log))
-    → SolvesFile w bytes status (Some (Found tree primal dual log)) texts taken now
-answered_found w bytes status tree primal dual log texts taken now sent law short s ends took saved = record {
+answered_found : (w : SolveWords) (bytes : List ℕ) (status : Status) (tree : Tree) (primal dual expanded : ℕ) (searches : List Searched) (log : Log) (texts : Texts) (taken now : Option (List ℕ)) (sent : List ℕ)
+    → RefusedExactly bytes → length bytes ≤ 2 ^ 34 → IsSolution w bytes tree primal dual expanded searches log sent → ((status ≡ Optimal) × (dual ≡ primal)) ⊎ ((status ≡ Budget) × (dual < primal)) → now ≡ append_known taken sent → IsSaved (Some (solve w)) texts (Some (Found tree primal dual expanded searches log))
+    → SolvesFile w bytes status (Some (Found tree primal dual expanded searches log)) texts taken now
+answered_found w bytes status tree primal dual expanded searches log texts taken now sent law short s ends took saved = record {
   too_long = ((λ e. absurd (never TooLong (λ same. cc) (λ same. cc) e)), (λ long. absurd (omega (arith, short, long))));
   refused = λ _. ((λ e. absurd (never RefusedFile (λ same. cc) (λ same. cc) e)), (λ r. absurd (law.not_both s.instance r.0 r.1 s.reads r.2)));
   infeasible = λ I reads _. ((λ e. absurd (never Infeasible (λ same. cc) (λ same. cc) e)), (λ none. absurd (subst (λ J. IsTree J tree → ⊥) (law.one_instance I s.instance reads s.reads) (none tree) s.found.is_tree)));
@@ -45,14 +46,16 @@ answered_found w bytes status tree primal dual log texts taken now sent law shor
     tree = tree;
     primal = primal;
     dual = dual;
+    expanded = expanded;
+    searches = searches;
     certificate = log;
     sent = sent;
     given = refl;
-    found = subst (λ J. IsFound w.nodes w.plain J tree primal dual log) (law.one_instance s.instance I s.reads reads) s.found;
+    found = subst (λ J. IsFound w.nodes w.plain J tree primal dual expanded searches log) (law.one_instance s.instance I s.reads reads) s.found;
     text = s.text;
     took = took;
     ends = ends;
-    checks = certificate_checks w bytes tree primal dual log sent s;
+    checks = certificate_checks w bytes tree primal dual expanded searches log sent s;
     log = saved;
   };
 }
@@ -64,8 +67,8 @@ answered_found w bytes status tree primal dual log texts taken now sent law shor
 answered_file : (w : SolveWords) (bytes : List ℕ) (status : Status) (outcome : Option Outcome) (texts : Texts) (taken now : Option (List ℕ)) (sent : List ℕ)
     → RefusedExactly bytes → length bytes ≤ 2 ^ 34 → SolveAnswer w bytes status outcome sent → now ≡ append_known taken sent → IsSaved (Some (solve w)) texts outcome
     → SolvesFile w bytes status outcome texts taken now
-answered_file w bytes Optimal (Some (Found tree primal dual log)) texts taken now sent law short (s, same) took saved = answered_found w bytes Optimal tree primal dual log texts taken now sent law short s (inl (refl, same)) took saved
-answered_file w bytes Budget (Some (Found tree primal dual log)) texts taken now sent law short (s, below) took saved = answered_found w bytes Budget tree primal dual log texts taken now sent law short s (inr (refl, below)) took saved
+answered_file w bytes Optimal (Some (Found tree primal dual expanded searches log)) texts taken now sent law short (s, same) took saved = answered_found w bytes Optimal tree primal dual expanded searches log texts taken now sent law short s (inl (refl, same)) took saved
+answered_file w bytes Budget (Some (Found tree primal dual expanded searches log)) texts taken now sent law short (s, below) took saved = answered_found w bytes Budget tree primal dual expanded searches log texts taken now sent law short s (inr (refl, below)) took saved
 answered_file w bytes Infeasible (Some (NoTree log)) texts taken now sent law short s took saved = record {
   too_long = ((λ e. absurd cc), (λ long. absurd (omega (arith, short, long))));
   refused = λ _. ((λ e. absurd cc), (λ r. absurd (law.not_both s.instance r.0 r.1 s.reads r.2)));
@@ -80,7 +83,7 @@ answered_file w bytes RefusedFile None texts taken now sent law short s took sav
 }
 answered_file w bytes Budget (Some (NoTree log)) texts taken now sent law short s took saved = absurd s
 answered_file w bytes Budget None texts taken now sent law short s took saved = absurd s
-answered_file w bytes Infeasible (Some (Found tree primal dual log)) texts taken now sent law short s took saved = absurd s
+answered_file w bytes Infeasible (Some (Found tree primal dual expanded searches log)) texts taken now sent law short s took saved = absurd s
 answered_file w bytes Infeasible None texts taken now sent law short s took saved = absurd s
 answered_file w bytes NoMemory outcome texts taken now sent law short s took saved = absurd s
 answered_file w bytes Optimal (Some (NoTree log)) texts taken now sent law short s took saved = absurd s

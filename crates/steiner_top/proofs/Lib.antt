@@ -2,6 +2,7 @@ mod Asking
 mod Reasons
 mod Remaining
 mod WritableSteps
+mod Cheapest
 mod Certifying
 mod Deciding
 mod Starting

@@ -21,7 +21,7 @@ use Rattle.log_format.specs.declared.proof_line.ProofLine.{ProofLine}
 use Rattle.log_format.specs.Accepts.{ProvesIn, left_of, left_over}
 use Rattle.log_format.proofs.Alike.{AreAlike, alike-refl, proves_alike, takes_alike}
 use Rattle.log_format.proofs.AllTrees.{left_over-branch}
-use Rattle.split_search.specs.Node.{free_count}
+use Rattle.search_core.specs.FreeVertices.{free_count}
 use Rattle.steiner_top.specs.Left.{HasSomeTree}
 use Rattle.steiner_top.specs.Outcome.{free_vertices}
 

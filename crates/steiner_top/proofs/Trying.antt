@@ -10,6 +10,7 @@ use Rattle.instance_gen.specs.Generated.{AreInRange}
 use Rattle.instance_gen.specs.Laws.{IsConnected, GeneratedAreConnected}
 use Rattle.log_format.specs.declared.log.Log.{Log}
 use Rattle.log_format.specs.Accepts.{AcceptsClaim}
+use Rattle.search_core.specs.declared.gathered.Searched.{Searched}
 use Rattle.command_line.specs.declared.cmd.DrawWords.{DrawWords as Numbers}
 use Rattle.command_line.specs.declared.cmd.TrialWords.{TrialWords as Trial}
 use Rattle.command_line.specs.Seen.{trial_words}
@@ -37,12 +38,12 @@ no_wall I wall connected h = by_case (has wall 1) refl
 
 -- so solving it gives a tree
 has_tree : (nodes : ℕ) (plain : Bool) (I : Network) (outcome : Outcome) → IsConnected I → IsOutcome nodes plain I outcome → HasTree outcome
-has_tree nodes plain I (Found tree primal dual log) connected h = tt
+has_tree nodes plain I (Found tree primal dual expanded searches log) connected h = tt
 has_tree nodes plain I (NoTree log) connected h = no_wall I h.wall connected (subst (AcceptsClaim I) h.claims h.accepted)
 
 -- a tree whose cost is a bound is a best one
-best_tree : (nodes : ℕ) (plain : Bool) (I : Network) (tree : Tree) (primal dual : ℕ) (log : Log) → IsFound nodes plain I tree primal dual log → dual ≡ primal → IsBest I tree
-best_tree nodes plain I tree primal dual log h same = record {
+best_tree : (nodes : ℕ) (plain : Bool) (I : Network) (tree : Tree) (primal dual expanded : ℕ) (searches : List Searched) (log : Log) → IsFound nodes plain I tree primal dual expanded searches log → dual ≡ primal → IsBest I tree
+best_tree nodes plain I tree primal dual expanded searches log h same = record {
   tree = h.is_tree;
   least = λ t is. let below = h.is_bound t is in let cost_is = h.is_cost in omega (arith, below, cost_is, same);
 }
@@ -51,19 +52,21 @@ best_tree nodes plain I tree primal dual log h same = record {
 best_cost : (I : Network) (t u : Tree) → IsBest I t → IsBest I u → cost I t ≡ cost I u
 best_cost I t u first second = let low = first.least u second.tree in let high = second.least t first.tree in omega (arith, low, high)
 
-tried_found : (w : TrialWords) (status : Status) (tree : Tree) (primal dual : ℕ) (log : Log) (text : List ℕ)
-    → IsFound 1000000 false (tried_instance w) tree primal dual log → text ≡ summary primal dual → ((status ≡ Optimal) × (dual ≡ primal)) ⊎ ((status ≡ Budget) × (dual < primal))
-    → IsTried w status (Some (Found tree primal dual log)) text
-tried_found w status tree primal dual log text h is ends = record {
+tried_found : (w : TrialWords) (status : Status) (tree : Tree) (primal dual expanded : ℕ) (searches : List Searched) (log : Log) (text : List ℕ)
+    → IsFound 1000000 false (tried_instance w) tree primal dual expanded searches log → text ≡ summary primal dual → ((status ≡ Optimal) × (dual ≡ primal)) ⊎ ((status ≡ Budget) × (dual < primal))
+    → IsTried w status (Some (Found tree primal dual expanded searches log)) text
+tried_found w status tree primal dual expanded searches log text h is ends = record {
   tree = tree;
   primal = primal;
   dual = dual;
+  expanded = expanded;
+  searches = searches;
   certificate = log;
   given = refl;
   found = h;
   text = is;
   ends = ends;
-  best = λ optimal. best_tree 1000000 false I tree primal dual log h (reached optimal);
+  best = λ optimal. best_tree 1000000 false I tree primal dual expanded searches log h (reached optimal);
   only = λ optimal t best. is ∙ ap₂ summary (costs optimal t best) (reached optimal ∙ costs optimal t best);
 } where
   I : Network
@@ -76,15 +79,15 @@ tried_found w status tree primal dual log text h is ends = record {
   ]
 
   costs : status ≡ Optimal → (t : Tree) → IsBest I t → primal ≡ cost I t
-  costs optimal t best = h.is_cost ∙ best_cost I tree t (best_tree 1000000 false I tree primal dual log h (reached optimal)) best
+  costs optimal t best = h.is_cost ∙ best_cost I tree t (best_tree 1000000 false I tree primal dual expanded searches log h (reached optimal)) best
 
 -- what solving the instance gave is what is sent, as a summary
 pub tried : (w : TrialWords) (outcome : Outcome) (text : List ℕ) → IsOutcome 1000000 false (tried_instance w) outcome → IsSummary outcome text → IsTried w (status_of_outcome outcome) (Some outcome) text
-tried w (Found tree primal dual log) text h is = by_case (eqb dual primal) refl
+tried w (Found tree primal dual expanded searches log) text h is = by_case (eqb dual primal) refl
   where
-    by_case : (b : Bool) → eqb dual primal ≡ b → IsTried w (cond b Optimal Budget) (Some (Found tree primal dual log)) text
-    by_case true same = tried_found w Optimal tree primal dual log text h is (inl (refl, grind (arith, nat_tests)))
-    by_case false apart = let below = h.is_below in tried_found w Budget tree primal dual log text h is (inr (refl, grind (arith, nat_tests)))
+    by_case : (b : Bool) → eqb dual primal ≡ b → IsTried w (cond b Optimal Budget) (Some (Found tree primal dual expanded searches log)) text
+    by_case true same = tried_found w Optimal tree primal dual expanded searches log text h is (inl (refl, grind (arith, nat_tests)))
+    by_case false apart = let below = h.is_below in tried_found w Budget tree primal dual expanded searches log text h is (inr (refl, grind (arith, nat_tests)))
 tried w (NoTree log) text h is = absurd is
 
 -- the numbers of the words are in their ranges

@@ -5,6 +5,7 @@ use Rattle.st_model.specs.Network.{Network}
 use Rattle.stp_reader.specs.declared.reason.Reason.{Reason}
 use Rattle.stp_reader.specs.Reads.{Reads, Refused}
 use Rattle.log_format.specs.declared.log.Log.{Log}
+use Rattle.search_core.specs.declared.gathered.Searched.{Searched}
 use Rattle.cert_checker.specs.declared.fault.CheckFault.{CheckFault}
 use Rattle.cert_checker.specs.declared.fault.CheckFault.TheVariants as check
 use Rattle.cert_checker.specs.declared.verdict.Verdict.{Verdict}
@@ -21,19 +22,19 @@ use Rattle.steiner_top.specs.Output.{infeasible_line, refused_stp, refused_log, 
 
 -- the status with which an outcome ends a run
 abbrev pub status_of_outcome : Outcome → Status
-status_of_outcome (Found tree primal dual log) = if dual == primal then Optimal else Budget
+status_of_outcome (Found tree primal dual expanded searches log) = if dual == primal then Optimal else Budget
 status_of_outcome (NoTree log) = Infeasible
 
 -- the text of an outcome
 abbrev pub IsOutcomeText : SolveWords → Outcome → List ℕ → Type 0
-IsOutcomeText w (Found tree primal dual log) sent = IsSolutionText w.file w.workers tree dual primal sent
+IsOutcomeText w (Found tree primal dual expanded searches log) sent = IsSolutionText w.file w.workers tree dual primal sent
 IsOutcomeText w (NoTree log) sent = sent ≡ infeasible_line
 
 -- the text of a tree of the file's instance, with its cost and a bound
-pub record IsSolution (w : SolveWords) (bytes : List ℕ) (tree : Tree) (primal dual : ℕ) (log : Log) (sent : List ℕ) : Type 0 where
+pub record IsSolution (w : SolveWords) (bytes : List ℕ) (tree : Tree) (primal dual expanded : ℕ) (searches : List Searched) (log : Log) (sent : List ℕ) : Type 0 where
   pub instance : Network
   pub reads : Reads bytes instance
-  pub found : IsFound w.nodes w.plain instance tree primal dual log
+  pub found : IsFound w.nodes w.plain instance tree primal dual expanded searches log
   pub text : IsSolutionText w.file w.workers tree dual primal sent
 
 -- the file's instance has no tree
@@ -52,8 +53,8 @@ pub record IsRefusal (bytes sent : List ℕ) : Type 0 where
 
 -- how the bytes of a file are answered that is to be solved
 abbrev pub SolveAnswer : SolveWords → List ℕ → Status → Option Outcome → List ℕ → Type 0
-SolveAnswer w bytes Optimal (Some (Found tree primal dual log)) sent = IsSolution w bytes tree primal dual log sent × (dual ≡ primal)
-SolveAnswer w bytes Budget (Some (Found tree primal dual log)) sent = IsSolution w bytes tree primal dual log sent × (dual < primal)
+SolveAnswer w bytes Optimal (Some (Found tree primal dual expanded searches log)) sent = IsSolution w bytes tree primal dual expanded searches log sent × (dual ≡ primal)
+SolveAnswer w bytes Budget (Some (Found tree primal dual expanded searches log)) sent = IsSolution w bytes tree primal dual expanded searches log sent × (dual < primal)
 SolveAnswer w bytes Infeasible (Some (NoTree log)) sent = IsInfeasible bytes log sent
 SolveAnswer w bytes RefusedFile None sent = IsRefusal bytes sent
 SolveAnswer w bytes _ _ sent = ⊥

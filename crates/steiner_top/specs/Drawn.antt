@@ -6,6 +6,7 @@ use Rattle.st_model.specs.Arborescence.{IsBest, cost}
 use Rattle.instance_gen.specs.Generated.{generated}
 use Rattle.instance_gen.specs.Text.{stp_text}
 use Rattle.log_format.specs.declared.log.Log.{Log}
+use Rattle.search_core.specs.declared.gathered.Searched.{Searched}
 use Rattle.command_line.specs.Words.{DrawWords, GenWords, TrialWords}
 use Rattle.steiner_top.specs.declared.outcome.Outcome.{Outcome}
 use Rattle.steiner_top.specs.declared.outcome.Outcome.TheVariants.{Found, NoTree}
@@ -30,12 +31,12 @@ tried_instance w = drawn_instance w.drawn false
 
 -- a tree was found
 abbrev pub HasTree : Outcome → Type 0
-HasTree (Found tree primal dual log) = Unit {0}
+HasTree (Found tree primal dual expanded searches log) = Unit {0}
 HasTree (NoTree log) = ⊥
 
 -- the summary of a tree that was found
 abbrev pub IsSummary : Outcome → List ℕ → Type 0
-IsSummary (Found tree primal dual log) text = text ≡ summary primal dual
+IsSummary (Found tree primal dual expanded searches log) text = text ≡ summary primal dual
 IsSummary (NoTree log) text = ⊥
 
 -- how `trial` is answered: by the cost of a tree and a bound, which are equal unless the whole budget was spent
@@ -43,9 +44,11 @@ pub record IsTried (w : TrialWords) (status : Status) (outcome : Option Outcome)
   pub tree : Tree
   pub primal : ℕ
   pub dual : ℕ
+  pub expanded : ℕ
+  pub searches : List Searched
   pub certificate : Log
-  pub given : outcome ≡ Some (Found tree primal dual certificate)
-  pub found : IsFound 1000000 false (tried_instance w) tree primal dual certificate
+  pub given : outcome ≡ Some (Found tree primal dual expanded searches certificate)
+  pub found : IsFound 1000000 false (tried_instance w) tree primal dual expanded searches certificate
   pub text : sent ≡ summary primal dual
   pub ends : ((status ≡ Optimal) × (dual ≡ primal)) ⊎ ((status ≡ Budget) × (dual < primal))
   -- where they are equal the tree is a best one, and any best tree says what is sent: it depends on the words alone

@@ -9,6 +9,7 @@ use Rattle.stp_reader.specs.declared.reason.Reason.{Reason}
 use Rattle.stp_reader.specs.Reads.{Reads, Refused}
 use Rattle.log_format.specs.declared.log.Log.{Log}
 use Rattle.log_format.specs.Text.{log_text}
+use Rattle.search_core.specs.declared.gathered.Searched.{Searched}
 use Rattle.dimacs_writer.specs.Solution.{IsSolutionText}
 use Rattle.cert_checker.specs.declared.verdict.Verdict.{Verdict}
 use Rattle.cert_checker.specs.declared.verdict.Verdict.TheVariants as verdict
@@ -36,10 +37,12 @@ pub record IsSolved (w : SolveWords) (bytes : List ℕ) (I : Network) (status : 
   pub tree : Tree
   pub primal : ℕ
   pub dual : ℕ
+  pub expanded : ℕ
+  pub searches : List Searched
   pub certificate : Log
   pub sent : List ℕ
-  pub given : outcome ≡ Some (Found tree primal dual certificate)
-  pub found : IsFound w.nodes w.plain I tree primal dual certificate
+  pub given : outcome ≡ Some (Found tree primal dual expanded searches certificate)
+  pub found : IsFound w.nodes w.plain I tree primal dual expanded searches certificate
   pub text : IsSolutionText w.file w.workers tree dual primal sent
   pub took : now ≡ append_known taken sent
   pub ends : ((status ≡ Optimal) × (dual ≡ primal)) ⊎ ((status ≡ Budget) × (dual < primal))

@@ -2,15 +2,18 @@
 use Rattle.std.specs.Prelude.{◌≡◌, ℕ, ◌<◌, ◌^◌, Bool, length, ⊤}
 use Rattle.st_model.specs.declared.tree.Tree.{Tree}
 use Rattle.st_model.specs.Network.{Network}
+use Rattle.st_model.specs.Arborescence.{cost}
 use Rattle.lift_back.specs.declared.step.Step.{Step}
 use Rattle.lift_back.specs.declared.step.Step.TheVariants.{Pendant, Through, Forced, Detour}
 use Rattle.lift_back.specs.State.{State, IsTreeOf, whole}
 use Rattle.lift_back.specs.Steps.{Applies}
-use Rattle.log_format.specs.Accepts.{left_over}
-use Rattle.split_search.specs.declared.searched.Searched.{Searched}
-use Rattle.split_search.specs.Searched.{IsSearched}
+use Rattle.log_format.specs.declared.log.Claim.{Claim}
+use Rattle.log_format.specs.declared.log.Claim.TheVariants.{Found, NoTree}
+use Rattle.log_format.specs.Text.{IsWritablePacking}
+use Rattle.search_core.specs.Complete.{AllPackings}
+use Rattle.steiner_top.specs.declared.best.Best.{Best}
 use Rattle.steiner_top.specs.declared.left.Left.{Left}
-use Rattle.steiner_top.specs.Outcome.{AreSteps}
+use Rattle.steiner_top.specs.Outcome.{AreSteps, IsSearchOf}
 
 -- the steps apply to the instance and leave this
 pub record IsLeftOf (I : Network) (plain : Bool) (l : Left) : Type 0 where
@@ -22,9 +25,22 @@ pub record IsLeftOf (I : Network) (plain : Bool) (l : Left) : Type 0 where
 abbrev pub HasSomeTree : State → Type 0
 HasSomeTree s = (t : Tree) × IsTreeOf s t
 
--- a search found it among the trees of what is left
-abbrev pub IsFoundAmong : State → ℕ → Searched → Type 0
-IsFoundAmong s nodes found = (start : Tree) × IsSearched s.instance (left_over s) start nodes found
+-- a search of what is left and the best tree that it found, all of which can be written in a log
+pub record IsBestOf (s : State) (budget : ℕ) (b : Best) : Type 0 where
+  pub is_left : IsTreeOf s b.tree
+  pub is_least : b.search.gathered.least ≡ cost s.instance b.tree
+  pub searched : IsSearchOf s budget b.search
+  pub writable : AllPackings IsWritablePacking b.search.gathered
+
+-- a tree is claimed
+abbrev pub IsFoundClaim : Claim → Type 0
+IsFoundClaim (Found primal dual tree steps proof) = ⊤
+IsFoundClaim (NoTree wall) = ⊥
+
+-- this tree and these numbers are claimed
+abbrev pub IsClaimOf : Claim → Tree → ℕ → ℕ → Type 0
+IsClaimOf (Found p d t steps proof) tree primal dual = (t ≡ tree) × (p ≡ primal) × (d ≡ dual)
+IsClaimOf (NoTree wall) tree primal dual = ⊥
 
 -- a detour's inner vertices can be counted
 abbrev pub CanBeCounted : Step → Type 0

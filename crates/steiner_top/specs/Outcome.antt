@@ -8,15 +8,18 @@ use Rattle.stp_reader.specs.declared.fault.ReadError.{ReadError}
 use Rattle.stp_reader.specs.declared.fault.ReadError.TheVariants.{Fault, NoMemory as NoMemoryToRead}
 use Rattle.stp_reader.specs.Reads.{Reads, Refused}
 use Rattle.lift_back.specs.declared.step.Step.{Step}
-use Rattle.lift_back.specs.State.{State, whole}
+use Rattle.lift_back.specs.State.{State, IsTreeOf, whole}
 use Rattle.lift_back.specs.Steps.{Applies}
 use Rattle.log_format.specs.declared.log.Log.{Log}
 use Rattle.log_format.specs.declared.log.Claim.TheVariants as claim
 use Rattle.log_format.specs.declared.proof_line.ProofLine.{ProofLine}
 use Rattle.log_format.specs.Accepts.{Accepts, ProvesAfter, left_of, left_over}
 use Rattle.log_format.specs.Text.{IsLog}
+use Rattle.search_core.specs.declared.gathered.Searched.{Searched}
 use Rattle.reductions.specs.Results.{HasNoVertexStep}
-use Rattle.split_search.specs.Searched.{IsSpent}
+use Rattle.search_core.specs.Complete.{IsComplete, IsFinished}
+use Rattle.certificate_log.specs.Assembled.{IsAssembled}
+use Rattle.certificate_log.specs.Spent.{IsSpent}
 use Rattle.steiner_top.specs.declared.outcome.Outcome.{Outcome}
 use Rattle.steiner_top.specs.declared.outcome.Outcome.TheVariants.{Found, NoTree}
 use Rattle.steiner_top.specs.declared.outcome.SolveFault.{SolveFault}
@@ -35,8 +38,19 @@ abbrev pub AreSteps : Bool → List Step → State → Type 0
 AreSteps true steps left = steps ≡ []
 AreSteps false steps left = HasNoVertexStep left
 
--- the log claims this tree and this bound, and its proof shows no greater bound after its steps; and the proof spent the budget on what these leave if they are apart
-pub record IsCertificate (nodes : ℕ) (plain : Bool) (I : Network) (tree : Tree) (primal dual : ℕ) (log : Log) : Type 0 where
+-- a search of what is left, which began with the cost of a tree of it, within a budget
+pub record IsSearchOf (left : State) (budget : ℕ) (s : Searched) : Type 0 where
+  -- it goes on from no earlier search
+  pub first : s.close ≡ 0
+  pub budget_is : s.budget ≡ budget
+  pub start : (t : Tree) × IsTreeOf left t × (s.start ≡ cost left.instance t)
+  -- each node that was made was closed, split or left, and rightly so
+  pub complete : IsComplete s.gathered left.instance left.gone s.start budget
+  -- and none was left unless the budget was spent
+  pub finished : IsFinished s.gathered left.instance left.gone s.start budget
+
+-- the log claims this tree and this bound, and its proof is that of one search of what its steps leave; it shows no greater bound, and spent the budget if they are apart
+pub record IsCertificate (nodes : ℕ) (plain : Bool) (I : Network) (tree : Tree) (primal dual expanded : ℕ) (searches : List Searched) (log : Log) : Type 0 where
   pub steps : List Step
   pub proof : List ProofLine
   pub claims : log.claim ≡ claim.Found primal dual tree steps proof
@@ -44,19 +58,28 @@ pub record IsCertificate (nodes : ℕ) (plain : Bool) (I : Network) (tree : Tree
   pub left : State
   pub applies : Applies steps (whole I) left
   pub reduced : AreSteps plain steps left
+  -- the one search of it
+  pub search : Searched
+  pub searched : IsSearchOf left nodes search
+  pub only : searches ≡ search ∷ []
+  -- how many units of the budget it took
+  pub expanded_is : expanded ≡ search.gathered.claimed
+  -- the log is made of what it gathered
+  pub assembled : IsAssembled steps I left search.gathered log
   pub greatest : IsGreatestBound I steps primal dual proof
   -- a close is light where it weighs less than primal together with what is paid besides
   pub spent : dual < primal → IsSpent nodes left.instance (left_over left) (left_of primal left) proof
+  pub all_spent : dual < primal → expanded ≡ nodes
   pub is_log : IsLog log
   pub accepted : Accepts I log
 
 -- a tree of this cost, a bound on the cost of every tree, and their certificate
-pub record IsFound (nodes : ℕ) (plain : Bool) (I : Network) (tree : Tree) (primal dual : ℕ) (log : Log) : Type 0 where
+pub record IsFound (nodes : ℕ) (plain : Bool) (I : Network) (tree : Tree) (primal dual expanded : ℕ) (searches : List Searched) (log : Log) : Type 0 where
   pub is_tree : IsTree I tree
   pub is_cost : primal ≡ cost I tree
   pub is_bound : IsBound I dual
   pub is_below : dual ≤ primal
-  pub certified : IsCertificate nodes plain I tree primal dual log
+  pub certified : IsCertificate nodes plain I tree primal dual expanded searches log
   -- a budget that is sure to suffice
   pub enough : 2 ^ (free_vertices I + 1) ≤ nodes → dual ≡ primal
 
@@ -70,12 +93,12 @@ pub record IsWithoutTree (I : Network) (log : Log) : Type 0 where
 
 -- what is right of an instance, where so many nodes may be expanded, and it is to be plain or not
 abbrev pub IsOutcome : ℕ → Bool → Network → Outcome → Type 0
-IsOutcome nodes plain I (Found tree primal dual log) = IsFound nodes plain I tree primal dual log
+IsOutcome nodes plain I (Found tree primal dual expanded searches log) = IsFound nodes plain I tree primal dual expanded searches log
 IsOutcome nodes plain I (NoTree log) = IsWithoutTree I log
 
 -- the certificate of an outcome
 abbrev pub certificate_of : Outcome → Log
-certificate_of (Found tree primal dual log) = log
+certificate_of (Found tree primal dual expanded searches log) = log
 certificate_of (NoTree log) = log
 
 -- what the bytes of a file give: an outcome of their instance, or the line at which they are refused

@@ -14,9 +14,9 @@ use crate::gen_command::gen_command;
 use crate::solve_command::solve_command;
 use crate::trial_command::trial_command;
 use command_line::{Cmd, read_words};
-use split_search::Gate;
 use st_edge::Shelf;
 use std::alloc::Global;
+use worker_loop::Gate;
 
 /// Does what the words ask for, up to the sending: what there is to send, or how the run ends
 /// without an answer.

@@ -7,6 +7,7 @@
 
 mod answer;
 mod answering;
+mod best;
 mod check_command;
 mod gen_command;
 mod left;
@@ -29,5 +30,5 @@ pub use command_line::{
 pub use outcome::{Outcome, SolveFault};
 pub use running::{Ended, run};
 pub use solving::solve_bytes;
-pub use split_search::{Gate, OpenGate};
 pub use status::Status;
+pub use worker_loop::{Gate, OpenGate};

@@ -3,18 +3,22 @@ ghost use Rattle.steiner_top.specs.declared.outcome.SolveFault.TheVariants.{NoMe
 ghost use Rattle.steiner_top.specs.Outcome.{certificate_of, fault_of_file};
 
 use log_format::Log;
-use st_model::Tree;
+use search_core::Searched;
+use st_model::{Listed, Tree};
 use std::alloc::AllocError;
 use stp_reader::{ReadError, StpFault};
 
 /// What solving a file gave.
 #[derive(Debug, Drop)]
 pub enum Outcome {
-    /// A tree of cost `primal`, and that no tree costs less than `dual`.
+    /// A tree of cost `primal`, and that no tree costs less than `dual`; how many nodes were
+    /// expanded, and the searches that found it.
     Found {
         tree: Tree,
         primal: u64,
         dual: u64,
+        expanded: u64,
+        searches: Listed<Searched>,
         certificate: Log,
     },
     /// There is no tree.

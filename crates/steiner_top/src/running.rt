@@ -11,9 +11,9 @@ ghost use Rattle.steiner_top.specs.declared.status.Status.TheVariants.{ReadFault
 
 use crate::answering::answer;
 use crate::{Outcome, Status};
-use split_search::Gate;
 use st_edge::{Failed, Shelf, Sink, send_all};
 use std::alloc::Global;
+use worker_loop::Gate;
 
 /// How a run ended.
 #[derive(Debug, Drop)]

@@ -20,9 +20,9 @@ use crate::solving::solve_bytes;
 use command_line::SolveWords;
 use dimacs_writer::solution_text;
 use log_format::write_log;
-use split_search::Gate;
 use st_edge::Shelf;
 use std::alloc::{AllocError, Global};
+use worker_loop::Gate;
 
 // The text of what solving a file gave.
 fn outcome_text(
@@ -64,7 +64,7 @@ fn answer_bytes<G: Gate>(
     ensures { IfOk result (λ a.
         SolveAnswer (solve_words words.now) bytes.now a.status a.outcome a.text.items) }
 {
-    match solve_bytes(alloc, bytes, words.nodes, words.plain, gate) {
+    match solve_bytes(alloc, bytes, words.workers, words.nodes, words.plain, gate) {
         Ok(outcome) => {
             let text = outcome_text(alloc, words, &outcome)?;
             let status = outcome_status(&outcome);

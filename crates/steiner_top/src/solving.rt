@@ -7,20 +7,23 @@ ghost use Rattle.stp_reader.specs.Reads.{Refused};
 ghost use Rattle.lift_back.specs.State.{IsState};
 ghost use Rattle.log_format.specs.Text.{IsWritableSet};
 ghost use Rattle.steiner_top.specs.declared.outcome.SolveFault.TheVariants.{Stp, NoMemory};
-ghost use Rattle.steiner_top.specs.Left.{HasSomeTree, IsFoundAmong, IsLeftOf};
+ghost use Rattle.steiner_top.specs.Left.{HasSomeTree, IsBestOf, IsClaimOf, IsFoundClaim, IsLeftOf};
 ghost use Rattle.steiner_top.specs.Outcome.{IsOutcome, Solves};
 
+use crate::best::{Best, cheapest, copy_of};
 use crate::left::Left;
 use crate::outcome::{Outcome, SolveFault};
 use crate::reducing::{count_steps, left_of, left_over};
 use crate::start::{start_tree, wall_of};
+use certificate_log::assemble;
 use graph_store::Whole;
 use lift_back::Reduced;
 use log_format::{Claim, Log};
-use split_search::{Gate, Searched, search};
-use st_model::{Instance, Listed, Sides, Tree};
+use search_core::Searched;
+use st_model::{Instance, Listed, Sides, Tree, tree_cost};
 use std::alloc::{AllocError, Global};
 use stp_reader::read_stp;
+use worker_loop::{Gate, run_all};
 
 /// Solves an STP file, all of the bytes, expanding so many nodes at most: a tree and a bound with
 /// a certificate, the bound being the tree's cost unless the budget was spent; or a certificate
@@ -29,6 +32,7 @@ use stp_reader::read_stp;
 pub fn solve_bytes<G: Gate>(
     alloc: Global,
     stp: &[u8],
+    workers: u32,
     nodes: u64,
     plain: bool,
     gate: &G,
@@ -40,13 +44,14 @@ pub fn solve_bytes<G: Gate>(
         → (result ≡ Err (Stp (record { line = line; reason = reason }))) ⊎ (result ≡ Err NoMemory) }
 {
     stp_reader::refused_exactly();
-    solve(alloc, stp, nodes, plain, gate)
+    solve(alloc, stp, workers, nodes, plain, gate)
 }
 
 // Reads the file and solves its instance.
 fn solve<G: Gate>(
     alloc: Global,
     stp: &[u8],
+    workers: u32,
     nodes: u64,
     plain: bool,
     gate: &G,
@@ -54,7 +59,7 @@ fn solve<G: Gate>(
     ensures { Solves nodes plain stp.now result }
 {
     let instance = read_stp(alloc, stp)?;
-    let outcome = solve_instance(alloc, &instance, nodes, plain, gate)?;
+    let outcome = solve_instance(alloc, &instance, workers, nodes, plain, gate)?;
     Ok(outcome)
 }
 
@@ -62,6 +67,7 @@ fn solve<G: Gate>(
 pub fn solve_instance<G: Gate>(
     alloc: Global,
     instance: &Instance,
+    workers: u32,
     nodes: u64,
     plain: bool,
     gate: &G,
@@ -70,7 +76,7 @@ pub fn solve_instance<G: Gate>(
 {
     match wall_of(alloc, instance)? {
         Some(wall) => Ok(without_tree(instance, wall)),
-        None => find(alloc, instance, nodes, plain, gate),
+        None => find(alloc, instance, workers, nodes, plain, gate),
     }
 }
 
@@ -78,6 +84,7 @@ pub fn solve_instance<G: Gate>(
 fn find<G: Gate>(
     alloc: Global,
     instance: &Instance,
+    workers: u32,
     nodes: u64,
     plain: bool,
     gate: &G,
@@ -87,40 +94,53 @@ fn find<G: Gate>(
 {
     prove!(1 <= instance.vertices());
     let left = left_of(alloc, instance, plain)?;
-    let searched = search_left(alloc, &left.reduced, nodes, gate)?;
-    found(alloc, instance, nodes, plain, left, searched)
+    let best = search_left(alloc, &left.reduced, workers, nodes, gate)?;
+    found(alloc, instance, nodes, plain, left, best)
 }
 
 // Searches for a least tree of what is left.
 fn search_left<G: Gate>(
     alloc: Global,
     reduced: &Reduced,
+    workers: u32,
     nodes: u64,
     gate: &G,
-) -> Result<Searched, AllocError>
+) -> Result<Best, AllocError>
     requires state { IsState reduced.now.state }
     requires some { HasSomeTree reduced.now.state }
-    ensures { IfOk result (IsFoundAmong reduced.now.state nodes) }
+    ensures { IfOk result (IsBestOf reduced.now.state nodes) }
 {
     let rest = reduced.instance(alloc)?;
     let whole = Whole::of(alloc, rest)?;
     let branch = left_over(alloc, reduced)?;
     let sides = Sides::of(alloc, branch)?;
     let start = start_tree(alloc, &whole, &sides)?;
-    search(alloc, &whole, sides.into_branch(), start, nodes, gate)
+    let gone = sides.branch().outside.as_slice();
+    let first = tree_cost(&whole.instance, &start);
+    let gathered = run_all(alloc, &whole, gone, &start, workers, nodes, gate)?;
+    let tree = cheapest(alloc, &whole.instance, gone, start, gathered.segments.as_slice())?;
+    Ok(Best {
+        tree,
+        search: Searched {
+            close: 0,
+            start: first,
+            budget: nodes,
+            gathered,
+        },
+    })
 }
 
-// What a search found in what is left, as a tree of the instance, with its certificate.
+// What a search in what is left found, as a tree of the instance, with its certificate.
 fn found(
     alloc: Global,
     instance: &Instance,
     nodes: u64,
     plain: bool,
     left: Left,
-    searched: Searched,
+    best: Best,
 ) -> Result<Outcome, AllocError>
     requires left { IsLeftOf instance.now plain left }
-    requires searched { IsFoundAmong left.reduced.state nodes searched }
+    requires best { IsBestOf left.reduced.state nodes best }
     ensures { IfOk result (IsOutcome nodes plain instance.now) }
 {
     log_format::accepted_holds();
@@ -128,34 +148,31 @@ fn found(
     let Left { steps, reduced } = left;
     // So that each step can be written.
     count_steps(&steps);
-    let offset = reduced.offset();
-    let (primal, dual) = (searched.primal + offset, searched.dual + offset);
-    let tree = reduced.lift(alloc, &searched.tree)?;
+    let Best { tree, search } = best;
+    let expanded = search.gathered.claimed;
+    let certificate = assemble(alloc, steps, &reduced, &tree, &search.gathered)?;
+    let (tree, primal, dual) = claimed(alloc, &certificate)?;
     Ok(Outcome::Found {
-        tree: copy_of(alloc, &tree)?,
+        tree,
         primal,
         dual,
-        certificate: Log {
-            claim: Claim::Found {
-                primal,
-                dual,
-                tree,
-                steps: Listed::of(steps),
-                proof: searched.proof,
-            },
-        },
+        expanded,
+        searches: Listed::of(vec![in alloc; search]?),
+        certificate,
     })
 }
 
-// The same tree once more.
-fn copy_of(alloc: Global, tree: &Tree) -> Result<Tree, AllocError>
-    ensures { IfOk result (λ copy. copy ≡ tree.now) }
+// The tree and the two numbers that a log claims.
+fn claimed(alloc: Global, log: &Log) -> Result<(Tree, u64, u64), AllocError>
+    requires { IsFoundClaim log.now.claim }
+    ensures { IfOk result (λ found. IsClaimOf log.now.claim found.0 found.1 found.2) }
 {
-    let arcs = Vec::from_slice(alloc, tree.arcs.as_slice())?;
-    Ok(Tree {
-        start: tree.start,
-        arcs: Listed::of(arcs),
-    })
+    match &log.claim {
+        Claim::Found {
+            tree, primal, dual, ..
+        } => Ok((copy_of(alloc, tree)?, *primal, *dual)),
+        Claim::NoTree { .. } => unreachable!(),
+    }
 }
 
 // That there is no tree, because of a wall.

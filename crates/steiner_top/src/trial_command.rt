@@ -9,9 +9,9 @@ use crate::solve_command::outcome_status;
 use crate::solving::solve_instance;
 use command_line::TrialWords;
 use instance_gen::{generate, generated_are_connected};
-use split_search::Gate;
 use st_model::Instance;
 use std::alloc::{AllocError, Global};
+use worker_loop::Gate;
 
 // How many nodes may be expanded.
 const NODES: u64 = 1_000_000;
@@ -45,7 +45,7 @@ pub fn trial_command<G: Gate>(
 {
     generated_are_connected();
     let instance = draw(alloc, words)?;
-    let outcome = solve_instance(alloc, &instance, NODES, false, gate)?;
+    let outcome = solve_instance(alloc, &instance, words.workers, NODES, false, gate)?;
     let text = summary_of(alloc, &outcome)?;
     Ok(Answer {
         status: outcome_status(&outcome),

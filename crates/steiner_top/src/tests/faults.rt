@@ -25,14 +25,6 @@ fn tells_read_faults(rt: HostRuntime) -> Result<(), Fail> {
     Ok(())
 }
 
-/// Where the log can't be saved nothing is sent.
-#[test]
-fn sends_nothing_without_the_log(rt: HostRuntime) -> Result<(), Fail> {
-    let mut shelf = shelf_of(rt.alloc(), TRIANGLE, &[2])?;
-    let want = (Status::WriteFault, 8, "");
-    ends(&rt, "solve a.stp --log b", &mut shelf, want)
-}
-
 /// Whichever write fails, the log stands and the bytes before are taken.
 #[test]
 fn ends_at_each_write_that_fails(rt: HostRuntime) -> Result<(), Fail> {
@@ -49,6 +41,75 @@ fn ends_at_each_write_that_fails(rt: HostRuntime) -> Result<(), Fail> {
             STAR.as_bytes().get(..write as usize - 1).unwrap_or(&[])
         );
         assert!(rt; shelf.text_of("b").is_some());
+    }
+    Ok(())
+}
+
+/// What fails of the devices, by the numbers of their calls, where the triangle is solved with a log.
+struct Row {
+    name: &'static str,
+    calls: &'static [u64],
+    writes: &'static [u64],
+    room: u64,
+    code: u8,
+    sent: &'static str,
+    is_saved: bool,
+}
+
+const ROWS: &[Row] = &[
+    Row {
+        name: "the file can't be read",
+        calls: &[1],
+        writes: &[],
+        room: 100,
+        code: 7,
+        sent: "read fault\n",
+        is_saved: false,
+    },
+    Row {
+        name: "the file can't be read, and nothing be written",
+        calls: &[1],
+        writes: &[1],
+        room: 100,
+        code: 8,
+        sent: "",
+        is_saved: false,
+    },
+    Row {
+        name: "the log can't be saved",
+        calls: &[2],
+        writes: &[],
+        room: 100,
+        code: 8,
+        sent: "",
+        is_saved: false,
+    },
+    Row {
+        name: "ten bytes can be written",
+        calls: &[],
+        writes: &[],
+        room: 10,
+        code: 8,
+        sent: "33D32945 S",
+        is_saved: true,
+    },
+];
+
+/// Whether a run ends as its row says.
+fn ends_as(alloc: Global, row: &Row) -> Result<bool, Fail> {
+    let mut shelf = shelf_of(alloc, TRIANGLE, row.calls)?;
+    let failing = Vec::from_slice(alloc, row.writes)?;
+    let mut out = MemorySink::of(alloc, row.room, 1, failing)?;
+    let words = words_of(alloc, "solve a.stp --log b")?;
+    let code = run(alloc, &words, &mut shelf, &mut out, &OpenGate).status.code();
+    let is_saved = shelf.text_of("b").is_some();
+    Ok(code == row.code && out.bytes() == row.sent.as_bytes() && is_saved == row.is_saved)
+}
+
+#[test]
+fn ends_where_devices_fail(rt: HostRuntime) -> Result<(), Fail> {
+    for row in ROWS {
+        assert!(rt; ends_as(rt.alloc(), row)?, "where {}", row.name);
     }
     Ok(())
 }

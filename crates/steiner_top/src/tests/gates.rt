@@ -52,7 +52,7 @@ fn lines_of(log: &Log) -> u64 {
 fn shows_each_line(alloc: Global, lines: &str, nodes: u64, plain: bool) -> Result<bool, Fail> {
     let text = text_of(alloc, lines)?;
     let gate = CountingGate::new();
-    let Ok(outcome) = solve_bytes(alloc, &text, nodes, plain, &gate) else {
+    let Ok(outcome) = solve_bytes(alloc, &text, 1, nodes, plain, &gate) else {
         return Ok(false);
     };
     let expanded = gate.nodes.load(Ordering::SeqCst);
@@ -80,7 +80,7 @@ fn shows_no_more_nodes_than_the_budget(rt: HostRuntime) -> Result<(), Fail> {
     let text = text_of(rt.alloc(), WHEEL)?;
     for budget in [0, 1] {
         let gate = CountingGate::new();
-        let found = solve_bytes(rt.alloc(), &text, budget, false, &gate);
+        let found = solve_bytes(rt.alloc(), &text, 1, budget, false, &gate);
         let Ok(Outcome::Found { primal, dual, .. }) = found else {
             return Err(Fail::new("no tree"));
         };

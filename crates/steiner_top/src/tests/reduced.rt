@@ -32,7 +32,7 @@ fn solved(
     plain: bool,
 ) -> Result<Option<(usize, usize)>, Fail> {
     let text = text_of(alloc, lines)?;
-    let Ok(outcome) = solve_bytes(alloc, &text, nodes, plain, &OpenGate) else {
+    let Ok(outcome) = solve_bytes(alloc, &text, 1, nodes, plain, &OpenGate) else {
         return Ok(None);
     };
     Ok(counts_of(outcome.certificate()))
@@ -64,7 +64,7 @@ fn takes_steps_unless_it_is_plain(rt: HostRuntime) -> Result<(), Fail> {
 fn needs_no_node_where_all_is_gone(rt: HostRuntime) -> Result<(), Fail> {
     for (lines, cost) in [(TRIANGLE, 6), (IDLE, 0), (ALONE, 0)] {
         let text = text_of(rt.alloc(), lines)?;
-        let outcome = solve_bytes(rt.alloc(), &text, 0, false, &OpenGate);
+        let outcome = solve_bytes(rt.alloc(), &text, 1, 0, false, &OpenGate);
         let is_cost =
             matches!(outcome, Ok(Outcome::Found { primal, dual, .. }) if primal == cost && dual == cost);
         assert!(rt; is_cost, "for {lines}");

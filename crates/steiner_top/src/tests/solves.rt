@@ -17,7 +17,7 @@ fn numbers_of(
     plain: bool,
 ) -> Result<Option<(u64, u64)>, Fail> {
     let text = text_of(alloc, lines)?;
-    let Ok(outcome) = solve_bytes(alloc, &text, nodes, plain, &OpenGate) else {
+    let Ok(outcome) = solve_bytes(alloc, &text, 1, nodes, plain, &OpenGate) else {
         return Ok(None);
     };
     match outcome {

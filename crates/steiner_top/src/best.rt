@@ -1,0 +1,72 @@
+ghost use Rattle.std.specs.Prelude.{◌≡◌, ◌⊎◌, All, IfOk, IfSome, min};
+ghost use Rattle.st_model.specs.Arborescence.{IsArborescence, IsTree, cost};
+ghost use Rattle.st_model.specs.Branch.{Belongs};
+ghost use Rattle.search_core.specs.Complete.{least_found, without_gone};
+
+use search_core::{Searched, Segment};
+use st_model::{Instance, Listed, Tree, tree_cost};
+use std::alloc::{AllocError, Global};
+
+// A search, and the best tree that it found.
+#[derive(Drop)]
+pub struct Best {
+    pub tree: Tree,
+    pub search: Searched,
+}
+
+/// The cheapest of a tree and those that workers found, in what is left.
+pub fn cheapest(
+    alloc: Global,
+    instance: &Instance,
+    gone: &[u32],
+    start: Tree,
+    segments: &[Segment],
+) -> Result<Tree, AllocError>
+    requires tree { IsTree instance.now start }
+    requires belongs { Belongs (without_gone gone.now) start }
+    requires found { All (λ s. IfSome s.best
+        (λ t. IsTree instance.now t × Belongs (without_gone gone.now) t)) segments.now }
+    ensures tree { IfOk result (IsTree instance.now) }
+    ensures belongs { IfOk result (Belongs (without_gone gone.now)) }
+    ensures least { IfOk result (λ t. cost instance.now t
+        ≡ least_found instance.now (cost instance.now start) segments.now) }
+{
+    let mut best = start;
+    for segment in segments {
+        if let Some(tree) = &segment.best {
+            best = cheaper(alloc, instance, best, tree)?;
+        }
+    }
+    Ok(best)
+}
+
+// The second of two trees, where it costs less, and else the first.
+fn cheaper(
+    alloc: Global,
+    instance: &Instance,
+    first: Tree,
+    second: &Tree,
+) -> Result<Tree, AllocError>
+    requires first { IsArborescence instance.now first }
+    requires second { IsArborescence instance.now second.now }
+    ensures one { IfOk result (λ t. (t ≡ first) ⊎ (t ≡ second.now)) }
+    ensures least { IfOk result (λ t. cost instance.now t
+        ≡ min (cost instance.now second.now) (cost instance.now first)) }
+{
+    if tree_cost(instance, second) < tree_cost(instance, &first) {
+        copy_of(alloc, second)
+    } else {
+        Ok(first)
+    }
+}
+
+/// The same tree once more.
+pub fn copy_of(alloc: Global, tree: &Tree) -> Result<Tree, AllocError>
+    ensures { IfOk result (λ copy. copy ≡ tree.now) }
+{
+    let arcs = Vec::from_slice(alloc, tree.arcs.as_slice())?;
+    Ok(Tree {
+        start: tree.start,
+        arcs: Listed::of(arcs),
+    })
+}
