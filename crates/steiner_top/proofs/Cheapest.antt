@@ -1,34 +1,33 @@
 -- The cheapest of a tree and those that workers found.
-use Rattle.std.proofs.Common.{◌≡◌, ◌⊎◌, inl, inr, ℕ, List, [], ◌∷◌, Option, None, Some, refl, ap, ◌∙◌, arith, subst, sym}
-use Rattle.std.specs.Prelude.{min, IfSome}
+use Rattle.std.proofs.Common.{◌≡◌, ℕ, suc, ◌+◌, ◌<◌, List, [], ◌∷◌, length, drop, Option, None, Some, refl, ap, sym, ◌∙◌, subst, slice_index_or, arith}
+use Rattle.std.specs.Prelude.{min}
+use Rattle.std.proofs.Math.Seq.{drop-cons}
 use Rattle.std.proofs.lemmas.Bool.Decides.{nat_tests}
-use Rattle.st_model.specs.declared.branch.Branch.{Branch}
 use Rattle.st_model.specs.declared.tree.Tree.{Tree}
 use Rattle.st_model.specs.Network.{Network}
-use Rattle.st_model.specs.Arborescence.{IsTree, cost}
-use Rattle.st_model.specs.Branch.{Belongs}
+use Rattle.st_model.specs.Arborescence.{cost}
 use Rattle.search_core.specs.declared.gathered.Segment.{Segment}
 use Rattle.search_core.specs.Complete.{least_found, less_found}
 
 min_swap : (a b c : ℕ) → min a (min b c) ≡ min b (min a c)
 min_swap a b c = grind (arith, nat_tests)
 
--- a lower start lowers what is found
-pub least_found-lower : (I : Network) (b x : ℕ) (ss : List Segment) → least_found I (min b x) ss ≡ min b (least_found I x ss)
-least_found-lower I b x [] = refl
-least_found-lower I b x (s ∷ ss) = by_best (least_found I (min b x) ss) (least_found I x ss) s.best (least_found-lower I b x ss)
-  where
-    by_best : (low high : ℕ) (best : Option Tree) → low ≡ min b high → less_found I best low ≡ min b (less_found I best high)
-    by_best low high None e = e
-    by_best low high (Some t) e = ap (λ (y : ℕ). min (cost I t) y) e ∙ min_swap (cost I t) b high
+-- of two trees that were found either may come first
+less_swap : (I : Network) (one other : Option Tree) (x : ℕ) → less_found I one (less_found I other x) ≡ less_found I other (less_found I one x)
+less_swap I None other x = refl
+less_swap I (Some t) None x = refl
+less_swap I (Some t) (Some u) x = min_swap (cost I t) (cost I u) x
 
--- the first of two trees and the second, which is a worker's best, as the cheaper of both
-pub taken : (I : Network) (first : Tree) (second : Tree) (new : Tree) (s : Segment) (ss : List Segment) → s.best ≡ Some second → cost I new ≡ min (cost I second) (cost I first)
-    → least_found I (cost I new) ss ≡ least_found I (cost I first) (s ∷ ss)
-taken I first second new s ss is low =
-    ap (λ (x : ℕ). least_found I x ss) low ∙ least_found-lower I (cost I second) (cost I first) ss ∙ ap (λ (best : Option Tree). less_found I best (least_found I (cost I first) ss)) (sym is)
+-- a tree that is found lowers what is found with others
+least_found-less : (I : Network) (best : Option Tree) (x : ℕ) (ss : List Segment) → least_found I (less_found I best x) ss ≡ less_found I best (least_found I x ss)
+least_found-less I best x [] = refl
+least_found-less I best x (s ∷ ss) = ap (less_found I s.best) (least_found-less I best x ss) ∙ less_swap I s.best best (least_found I x ss)
 
--- one of two trees of a branch is one
-pub one_of_both : (I : Network) (B : Branch) (first second new : Tree) → IsTree I first × Belongs B first → IsTree I second × Belongs B second → (new ≡ first) ⊎ (new ≡ second) → IsTree I new × Belongs B new
-one_of_both I B first second new f s (inl is) = subst (λ (t : Tree). IsTree I t × Belongs B t) (sym is) f
-one_of_both I B first second new f s (inr is) = subst (λ (t : Tree). IsTree I t × Belongs B t) (sym is) s
+-- what is found with the segments that are left, once one more is looked at
+pub one_more : (I : Network) (first new : Tree) (segments : List Segment) (k : ℕ) (s : Segment) (least : ℕ) → k < length segments → s ≡ slice_index_or segments k s
+    → cost I new ≡ less_found I s.best (cost I first) → least_found I (cost I first) (drop k segments) ≡ least → least_found I (cost I new) (drop (k + 1) segments) ≡ least
+one_more I first new segments k s least within is cheaper before =
+    let next : k + 1 ≡ suc k = omega arith in
+    let cut : drop k segments ≡ s ∷ drop (k + 1) segments = rw next (drop-cons segments k s within ∙ ap (λ (t : Segment). t ∷ drop (suc k) segments) (sym is)) in
+    let there : least_found I (cost I first) (s ∷ drop (k + 1) segments) ≡ least = subst (λ (ss : List Segment). least_found I (cost I first) ss ≡ least) cut before in
+    ap (λ (x : ℕ). least_found I x (drop (k + 1) segments)) cheaper ∙ least_found-less I s.best (cost I first) (drop (k + 1) segments) ∙ there

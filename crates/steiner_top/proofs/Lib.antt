@@ -3,6 +3,7 @@ mod Reasons
 mod Remaining
 mod WritableSteps
 mod Cheapest
+mod Bests
 mod Certifying
 mod Deciding
 mod Starting

@@ -1,5 +1,5 @@
 -- What solving a file gives: a tree and a bound with their certificate, or a certificate that there is no tree.
-use Rattle.std.specs.Prelude.{◌≡◌, ℕ, ◌+◌, ◌^◌, ◌<◌, ◌≤◌, Bool, true, false, if◌then◌else◌, List, [], Result, Ok, Err}
+use Rattle.std.specs.Prelude.{◌≡◌, ℕ, ◌+◌, ◌^◌, ◌<◌, ◌≤◌, Bool, true, false, if◌then◌else◌, List, [], ◌∷◌, Result, Ok, Err}
 use Rattle.st_model.specs.declared.tree.Tree.{Tree}
 use Rattle.st_model.specs.Lists.{sum_to}
 use Rattle.st_model.specs.Network.{Network, is_required}

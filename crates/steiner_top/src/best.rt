@@ -1,7 +1,7 @@
-ghost use Rattle.std.specs.Prelude.{◌≡◌, ◌⊎◌, All, IfOk, IfSome, min};
-ghost use Rattle.st_model.specs.Arborescence.{IsArborescence, IsTree, cost};
+ghost use Rattle.std.specs.Prelude.{◌≡◌, All, IfOk, IfSome, min};
+ghost use Rattle.st_model.specs.Arborescence.{IsTree, cost};
 ghost use Rattle.st_model.specs.Branch.{Belongs};
-ghost use Rattle.search_core.specs.Complete.{least_found, without_gone};
+ghost use Rattle.search_core.specs.Complete.{least_found, less_found, without_gone};
 
 use search_core::{Searched, Segment};
 use st_model::{Instance, Listed, Tree, tree_cost};
@@ -33,23 +33,46 @@ pub fn cheapest(
 {
     let mut best = start;
     for segment in segments {
-        if let Some(tree) = &segment.best {
-            best = cheaper(alloc, instance, best, tree)?;
-        }
+        best = with_found(alloc, instance, gone, best, segment)?;
     }
     Ok(best)
+}
+
+// A tree, or the one that a worker found, where that costs less.
+fn with_found(
+    alloc: Global,
+    instance: &Instance,
+    gone: &[u32],
+    tree: Tree,
+    segment: &Segment,
+) -> Result<Tree, AllocError>
+    requires tree { IsTree instance.now tree }
+    requires belongs { Belongs (without_gone gone.now) tree }
+    requires found { IfSome segment.now.best
+        (λ t. IsTree instance.now t × Belongs (without_gone gone.now) t) }
+    ensures tree { IfOk result (IsTree instance.now) }
+    ensures belongs { IfOk result (Belongs (without_gone gone.now)) }
+    ensures least { IfOk result (λ t. cost instance.now t
+        ≡ less_found instance.now segment.now.best (cost instance.now tree)) }
+{
+    match &segment.best {
+        Some(found) => cheaper(alloc, instance, gone, tree, found),
+        None => Ok(tree),
+    }
 }
 
 // The second of two trees, where it costs less, and else the first.
 fn cheaper(
     alloc: Global,
     instance: &Instance,
+    gone: &[u32],
     first: Tree,
     second: &Tree,
 ) -> Result<Tree, AllocError>
-    requires first { IsArborescence instance.now first }
-    requires second { IsArborescence instance.now second.now }
-    ensures one { IfOk result (λ t. (t ≡ first) ⊎ (t ≡ second.now)) }
+    requires first { IsTree instance.now first × Belongs (without_gone gone.now) first }
+    requires second { IsTree instance.now second.now × Belongs (without_gone gone.now) second.now }
+    ensures tree { IfOk result (IsTree instance.now) }
+    ensures belongs { IfOk result (Belongs (without_gone gone.now)) }
     ensures least { IfOk result (λ t. cost instance.now t
         ≡ min (cost instance.now second.now) (cost instance.now first)) }
 {

@@ -118,7 +118,13 @@ fn search_left<G: Gate>(
     let gone = sides.branch().outside.as_slice();
     let first = tree_cost(&whole.instance, &start);
     let gathered = run_all(alloc, &whole, gone, &start, workers, nodes, gate)?;
-    let tree = cheapest(alloc, &whole.instance, gone, start, gathered.segments.as_slice())?;
+    let tree = cheapest(
+        alloc,
+        &whole.instance,
+        gone,
+        start,
+        gathered.segments.as_slice(),
+    )?;
     Ok(Best {
         tree,
         search: Searched {
@@ -169,7 +175,10 @@ fn claimed(alloc: Global, log: &Log) -> Result<(Tree, u64, u64), AllocError>
 {
     match &log.claim {
         Claim::Found {
-            tree, primal, dual, ..
+            tree,
+            primal,
+            dual,
+            ..
         } => Ok((copy_of(alloc, tree)?, *primal, *dual)),
         Claim::NoTree { .. } => unreachable!(),
     }

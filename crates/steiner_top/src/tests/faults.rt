@@ -101,7 +101,9 @@ fn ends_as(alloc: Global, row: &Row) -> Result<bool, Fail> {
     let failing = Vec::from_slice(alloc, row.writes)?;
     let mut out = MemorySink::of(alloc, row.room, 1, failing)?;
     let words = words_of(alloc, "solve a.stp --log b")?;
-    let code = run(alloc, &words, &mut shelf, &mut out, &OpenGate).status.code();
+    let code = run(alloc, &words, &mut shelf, &mut out, &OpenGate)
+        .status
+        .code();
     let is_saved = shelf.text_of("b").is_some();
     Ok(code == row.code && out.bytes() == row.sent.as_bytes() && is_saved == row.is_saved)
 }
