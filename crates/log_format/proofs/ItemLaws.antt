@@ -1,6 +1,6 @@
 -- The lines of a log say its items, and no two items have one line.
-use Rattle.std.proofs.Common.{◌≡◌, ℕ, ◌^◌, ◌<◌, ◌≤◌, Bool, true, false, cond, eqb, List, [], ◌∷◌, ◌++◌, length, map, Option, Some, None, refl, sym, ap, subst, ◌∙◌, append_assoc, arith}
-use Rattle.std.specs.Prelude.{codes, if◌then◌else◌, ◌==◌, All, IfSome}
+use Rattle.std.proofs.Common.{◌≡◌, ℕ, List, [], ◌∷◌, ◌++◌, length, map, Option, Some, None, refl, sym, ap, ◌∙◌, arith}
+use Rattle.std.specs.Prelude.{codes, if◌then◌else◌, ◌==◌}
 use Rattle.std.specs.List.{flat_map, AllByRecursion}
 use Rattle.std.specs.Str.{bytes_eq}
 use Rattle.std.proofs.lemmas.List.{map-append}
@@ -16,7 +16,7 @@ use Rattle.log_format.specs.declared.log.Claim.{Claim}
 use Rattle.log_format.specs.declared.log.Claim.TheVariants.{Found, NoTree}
 use Rattle.log_format.specs.declared.proof_line.ProofLine.{ProofLine}
 use Rattle.log_format.specs.declared.proof_line.ProofLine.TheVariants.{Split, Close}
-use Rattle.log_format.specs.Text.{spaced, words, root_number, arc_line, cut_line, step_line, lines_of, header, claim_lines, log_lines, IsAnyVertex, IsWritableCut, IsWritableStep, IsWritableLine, IsClaimInRange, IsLog}
+use Rattle.log_format.specs.Text.{words, root_number, arc_line, cut_line, step_line, lines_of, header, claim_lines, IsAnyVertex, IsWritableCut, IsWritableStep, IsWritableLine, IsClaimInRange, IsLog}
 use Rattle.log_format.specs.Items.{item_line, IsItem, proof_items, claim_items, log_items, ItemsAreLines, OneItem, LineItems}
 use Rattle.log_format.specs.Reading.{number_of, pair_of, cut_of, wall_of, step_of, most, root_of}
 use Rattle.log_format.proofs.LineLaws.{number_of_judges, pair_judges, cut_judges, wall_judges}

@@ -1,5 +1,5 @@
 -- Reading over what may follow alone goes as reading with all that was said does.
-use Rattle.std.proofs.Common.{◌≡◌, ℕ, zero, suc, ◌+◌, ◌-◌, ◌^◌, ◌<◌, ◌≤◌, Bool, true, false, cond, eqb, inl, inr, List, [], ◌∷◌, ◌++◌, length, Option, Some, None, refl, sym, ap, subst, ◌∙◌, arith}
+use Rattle.std.proofs.Common.{◌≡◌, ℕ, zero, suc, ◌+◌, ◌-◌, Bool, true, false, cond, eqb, inl, inr, List, [], ◌∷◌, ◌++◌, Option, Some, None, refl, sym, ap, subst, ◌∙◌, arith}
 use Rattle.std.specs.Prelude.{codes}
 use Rattle.std.specs.Str.{bytes_eq}
 use Rattle.std.proofs.lemmas.Option.{cond_some}
@@ -9,7 +9,6 @@ use Rattle.cut_packing.specs.declared.cut.Cut.{Cut}
 use Rattle.lift_back.specs.declared.step.Step.{Step}
 use Rattle.log_format.specs.declared.item.Item.{Item}
 use Rattle.log_format.specs.declared.item.Item.TheVariants.{Header, ClaimTree, ClaimNone, Wall, TreeHead, Arc, StepsHead, OneStep, ProofHead, Split as SplitAt, CloseHead, OneCut, Last}
-use Rattle.log_format.specs.declared.log.Log.{Log}
 use Rattle.log_format.specs.declared.log.Claim.{Claim}
 use Rattle.log_format.specs.declared.log.Claim.TheVariants.{NoTree}
 use Rattle.log_format.specs.declared.place.Place.{Place}
@@ -20,10 +19,10 @@ use Rattle.log_format.specs.declared.stage.Answer.{Answer}
 use Rattle.log_format.specs.declared.stage.Proving.{Proving}
 use Rattle.log_format.specs.declared.stage.Stage.{Stage}
 use Rattle.log_format.specs.declared.stage.Stage.TheVariants.{AtHeader, AtClaim, AtTree, AtArcs, AtSteps, AtHalf, AtCuts, AtWall, AtEnd, AtNothing}
-use Rattle.log_format.specs.Text.{words, header, log_lines, AreWhole, Begins}
+use Rattle.log_format.specs.Text.{words, header, AreWhole, Begins}
 use Rattle.log_format.specs.Items.{item_line, IsItem}
-use Rattle.log_format.specs.Reading.{number_of, pair_of, cut_of, wall_of, step_of, most, stage_if, root_of, closed, cuts_left, half_at, split_at, no_step_yet, with_step, step}
-use Rattle.log_format.specs.Reached.{lines_read, IsReached, IsRead}
+use Rattle.log_format.specs.Reading.{number_of, pair_of, cut_of, wall_of, step_of, most, stage_if, root_of, closed, cuts_left, half_at, no_step_yet, with_step, step}
+use Rattle.log_format.specs.Reached.{IsReached}
 use Rattle.log_format.specs.Places.{said_if, after_cuts, half_said, said, place_of, taken, IsPlace, IsAfter}
 use Rattle.log_format.proofs.LineLaws.{bytes_are, number_of_judges, pair_judges, cut_judges, wall_judges}
 use Rattle.log_format.proofs.StepLaws.{step_judges}

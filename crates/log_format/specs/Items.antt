@@ -1,7 +1,6 @@
 -- What the lines of a log say, one after the other.
 use Rattle.std.specs.Prelude.{◌≡◌, ℕ, ◌^◌, ◌<◌, List, [], ◌∷◌, ◌++◌, length, map, All, IfSome, codes}
 use Rattle.std.specs.List.{flat_map}
-use Rattle.lift_back.specs.declared.step.Step.{Step}
 use Rattle.log_format.specs.declared.item.Item.{Item}
 use Rattle.log_format.specs.declared.item.Item.TheVariants.{Header, ClaimTree, ClaimNone, Wall, TreeHead, Arc, StepsHead, OneStep, ProofHead, Split as SplitAt, CloseHead, OneCut, Last}
 use Rattle.log_format.specs.declared.log.Log.{Log}

@@ -2,7 +2,7 @@
 use mathlib.Core.Path.{refl}
 use mathlib.Core.List.{[], ◌∷◌}
 use seplogic.Ra.Ura.{Ura}
-use mir.Val.{Val, vstruct, vcons, vnil}
+use mir.Val.{Val, vstruct, vnil}
 use base.Logic.{SProp}
 use prog.Memory.{Memory}
 use prog.Routine.{Routine}
@@ -12,9 +12,9 @@ use contract.Monad.{Fun}
 use contract.Running.{tables, tables_of}
 use sound.WpLaws.{WpFn-mono}
 use types.Kit.{raw, ◌$◌, ◌∵◌, !, qed, keep, join, suffices, done}
-use types.Run.{no_more, and_then, returns, enter}
+use types.Run.{no_more, returns, enter}
 use types.Part.{agg}
-use types.ByLocal.{alloc_all, pass_all, free_all, look_at, get, sets}
+use types.ByLocal.{alloc_all, pass_all, free_all, look_at, sets}
 use denote.Shadow.{pure_i}
 use denote.Steps.{nothing}
 use denote.Triple.Entry.{on_entry}
