@@ -3,7 +3,9 @@ ghost use Rattle.st_model.specs.Branch.{all_trees, with_outside};
 
 mod judge;
 
-use crate::{Cut, Packing, SetTable, SharedSet, fits, is_full, proof_tree_bounds, weak_duality, weight};
+use crate::{
+    Cut, Packing, SetTable, SharedSet, fits, is_full, proof_tree_bounds, weak_duality, weight,
+};
 use judge::{plain_fits, plain_full};
 use st_model::{Branch, Instance, Listed, Need, Sides};
 use std::alloc::{AllocError, Global};
@@ -258,7 +260,10 @@ fn a_shared_packing_is_the_same(rt: HostRuntime) -> Result<(), Fail> {
     let shared = packing(alloc, 2)?.shared(alloc)?;
     let instance = triangle(alloc, 1)?;
     assert_eq!(rt; shared.cuts.as_slice().len(), 3);
-    assert_eq!(rt; shared.cuts.as_slice()[2].set.as_slice(), [2, 3, 4].as_slice());
+    assert_eq!(rt;
+        shared.cuts.as_slice()[2].set.as_slice(),
+        [2, 3, 4].as_slice()
+    );
     assert!(rt; fits(alloc, &instance, &everything(alloc)?, &shared)?);
     Ok(())
 }
