@@ -1,4 +1,4 @@
-use Rattle.std.proofs.Common.{◌∙◌, ap, subst, sym, List}
+use Rattle.std.proofs.Common.{◌≡◌, ◌∙◌, ap, subst, sym, List}
 use Rattle.std.specs.Prelude.{All, IfSome}
 use Rattle.st_model.specs.declared.branch.Branch.{Branch}
 use Rattle.st_model.specs.declared.tree.Tree.{Tree}
@@ -39,7 +39,8 @@ pub run_all-requires-clause-cheap : goal.run_all-requires-clause-cheap
 run_all-requires-clause-cheap g c _ _ none =
     let sides_is = c.in_ok-sides.ensures ∙ c.in_ok-branch.ensures in
     let gone_is = c.as_slice-gone.ensures ∙ ap (λ (B : Branch). B.outside) (c.branch-sides-2.ensures ∙ sides_is) in
-    c.in_ok-start.ensures.cheap (subst (NoneIsCertain c.in_ok-whole.whole.instance) (sym sides_is) (rw gone_is at none))
+    let same : without_gone c.as_slice-gone.result.now ≡ c.in_ok-sides.sides = ap without_gone gone_is ∙ sym sides_is in
+    c.in_ok-start.ensures.cheap (subst (λ (B : Branch). NoneIsCertain c.in_ok-whole.whole.instance B) same none)
 
 pub cheapest-requires-clause-belongs : goal.cheapest-requires-clause-belongs
 cheapest-requires-clause-belongs g c =
