@@ -259,11 +259,8 @@ fn a_shared_packing_is_the_same(rt: HostRuntime) -> Result<(), Fail> {
     let alloc = rt.alloc();
     let shared = packing(alloc, 2)?.shared(alloc)?;
     let instance = triangle(alloc, 1)?;
-    assert_eq!(rt; shared.cuts.as_slice().len(), 3);
-    assert_eq!(rt;
-        shared.cuts.as_slice()[2].set.as_slice(),
-        [2, 3, 4].as_slice()
-    );
+    let last = shared.cuts.as_slice().last().ok_or("no cut")?;
+    assert_eq!(rt; last.set.as_slice(), [2, 3, 4].as_slice());
     assert!(rt; fits(alloc, &instance, &everything(alloc)?, &shared)?);
     Ok(())
 }

@@ -5,11 +5,6 @@ use std::alloc::{AllocError, Global};
 use std::test::Fail;
 use test_instances::triangle_with_centre;
 
-mod book;
-mod draft;
-mod drawn;
-mod wheel;
-
 // What a step answers: its fault, or none.
 fn answer(search: &mut Search, event: Event) -> Result<Option<EventFault>, AllocError> {
     match search.step(event) {
@@ -89,17 +84,6 @@ fn counts(all: &Gathered) -> Option<(usize, usize, usize, u64)> {
     let done = segment.done.as_slice().len();
     let left = segment.left.as_slice().len();
     Some((done, left, all.queued.as_slice().len(), all.claimed))
-}
-
-// How many records the workers have, all in all, and how many nodes were left and are queued.
-fn sums(all: &Gathered) -> (usize, usize, usize) {
-    let mut done = 0_usize;
-    let mut left = 0_usize;
-    for segment in all.segments.as_slice() {
-        done = done.saturating_add(segment.done.as_slice().len());
-        left = left.saturating_add(segment.left.as_slice().len());
-    }
-    (done, left, all.queued.as_slice().len())
 }
 
 // Whether the root of the triangle is closed on the spot.
