@@ -5,7 +5,7 @@
 //! it makes itself.
 #![tactic(auto)]
 
-use st_edge::{DiskShelf, MemoryShelf, Shelf, StdSink, send_all};
+use st_edge::{DiskShelf, MemoryShelf, Shelf, Sink, StdSink, send_all};
 use std::alloc::{AllocError, Global};
 use std::env;
 use std::process::ExitCode;
@@ -36,12 +36,12 @@ fn main(rt: HostRuntime) -> ExitCode {
 }
 
 // Writes a row's title and the status with which a name is answered, and what is sent.
-fn answer<F: Shelf>(
+fn answer<F: Shelf, K: Sink>(
     alloc: Global,
     title: &str,
     name: &str,
     shelf: &mut F,
-    out: &mut StdSink,
+    out: &mut K,
 ) -> Result<(), AllocError> {
     let words = if name.ends_with(".log") {
         words_of(alloc, &["check", "triangle.stp", name])?
@@ -63,7 +63,7 @@ fn words_of(alloc: Global, words: &[&str]) -> Result<Vec<String>, AllocError> {
 }
 
 // Answers the texts that are made here.
-fn answer_long(alloc: Global, out: &mut StdSink) -> Result<(), AllocError> {
+fn answer_long<K: Sink>(alloc: Global, out: &mut K) -> Result<(), AllocError> {
     let name = "n".repeat(alloc, MANY)?;
     let mut none = MemoryShelf::of(alloc, Vec::new(alloc), Vec::new(alloc));
     answer(alloc, "a name of 1048576 bytes", &name, &mut none, out)?;
