@@ -1,5 +1,5 @@
 -- What a search found in what steps leave is, led back, an outcome with its certificate, and so is a wall.
-use Rattle.std.proofs.Common.{◌≡◌, ℕ, ◌+◌, ◌-◌, ◌^◌, ◌<◌, ◌≤◌, Bool, List, [], ◌∷◌, refl, sym, ap, subst, inl, inr, arith}
+use Rattle.std.proofs.Common.{◌≡◌, ℕ, ◌+◌, ◌-◌, ◌^◌, ◌<◌, ◌≤◌, Bool, List, [], ◌∷◌, refl, subst, inl, inr, arith}
 use Rattle.std.specs.Prelude.{min}
 use Rattle.std.proofs.Math.Pow.{pow_mono}
 use Rattle.std.proofs.lemmas.Bool.Decides.{nat_tests}
@@ -12,7 +12,7 @@ use Rattle.lift_back.specs.State.{State, whole}
 use Rattle.lift_back.specs.Steps.{Applies}
 use Rattle.log_format.specs.declared.log.Log.{Log}
 use Rattle.log_format.specs.declared.log.Claim.{Claim}
-use Rattle.log_format.specs.declared.log.Claim.TheVariants.{Found, NoTree}
+use Rattle.log_format.specs.declared.log.Claim.TheVariants.{NoTree}
 use Rattle.log_format.specs.Accepts.{AcceptedHolds, Holds, ProvesIn, left_of, left_over}
 use Rattle.log_format.specs.Text.{IsWritableSet}
 use Rattle.search_core.specs.FreeVertices.{free_count}

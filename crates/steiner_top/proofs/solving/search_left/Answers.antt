@@ -1,7 +1,6 @@
 use Rattle.std.proofs.Common.{◌≡◌, ◌∙◌, ap, subst, sym, List}
 use Rattle.std.specs.Prelude.{All, IfSome}
 use Rattle.st_model.specs.declared.branch.Branch.{Branch}
-use Rattle.st_model.specs.declared.tree.Tree.{Tree}
 use Rattle.st_model.specs.Arborescence.{IsTree}
 use Rattle.st_model.specs.Branch.{Belongs, NoneIsCertain}
 use Rattle.log_format.proofs.AllTrees.{belongs_left_over}
