@@ -1,0 +1,53 @@
+use st_edge::{MemorySink, Shelf, Sink, send_all};
+use std::alloc::{AllocError, Global};
+use steiner_top::{OpenGate, run};
+
+/// More bytes than any run here sends.
+const ROOM: u64 = 1 << 22;
+
+/// Writes a title, the code with which a run by these words ends, and what it sends.
+pub fn tell<F: Shelf, K: Sink>(
+    alloc: Global,
+    title: &str,
+    words: &[&str],
+    shelf: &mut F,
+    out: &mut K,
+) -> Result<(), AllocError> {
+    let (code, sent) = answer(alloc, words, shelf)?;
+    let head = format!(in alloc; "{title}: {code} ")?;
+    let _ = send_all(out, head.as_bytes());
+    let _ = send_all(out, sent.bytes());
+    Ok(())
+}
+
+/// Writes a title, the code with which a run by these words ends, and how many bytes it sends.
+pub fn tell_length<F: Shelf, K: Sink>(
+    alloc: Global,
+    title: &str,
+    words: &[&str],
+    shelf: &mut F,
+    out: &mut K,
+) -> Result<(), AllocError> {
+    let (code, sent) = answer(alloc, words, shelf)?;
+    let length = sent.bytes().len();
+    let line = format!(in alloc; "{title}: {code} and {length} bytes\n")?;
+    let _ = send_all(out, line.as_bytes());
+    Ok(())
+}
+
+// The code with which a run by these words ends, and the sink that it sent to.
+fn answer<F: Shelf>(
+    alloc: Global,
+    words: &[&str],
+    shelf: &mut F,
+) -> Result<(u8, MemorySink), AllocError> {
+    let mut owned = Vec::new(alloc);
+    for word in words {
+        owned.push(String::from_str(alloc, word)?)?;
+    }
+    let mut sent = MemorySink::of(alloc, ROOM, ROOM, Vec::new(alloc))?;
+    let code = run(alloc, &owned, shelf, &mut sent, &OpenGate)
+        .status
+        .code();
+    Ok((code, sent))
+}

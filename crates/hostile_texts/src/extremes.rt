@@ -1,0 +1,166 @@
+use crate::answer::{tell, tell_length};
+use st_edge::{MemoryShelf, Sink};
+use std::alloc::{AllocError, Global};
+
+/// The words of a line, or the bytes of a name, that is far too long.
+const MANY: usize = 1 << 20;
+
+/// The lines that say what one vertex pays.
+const MILLION: usize = 1_000_000;
+
+/// The lines of a file before those.
+const BEFORE_PRIZES: &str =
+    "33D32945 STP File, STP Format Version 1.0\nSECTION Graph\nNodes 2\nEdges 1\nE 1 2 5\nEND\nSECTION Terminals\nTerminals 1000000\n";
+
+/// Files that say how many vertices there are, and nothing else.
+const SIZES: &[(&str, &str)] = &[
+    ("a file of the line Nodes 1000000", "Nodes 1000000\n"),
+    (
+        "a file that ends after Nodes 1000000",
+        "33D32945 STP File, STP Format Version 1.0\nSECTION Graph\nNodes 1000000\n",
+    ),
+];
+
+/// What a log of the triangle says that it has: arcs, steps, cuts, and vertices of its first cut.
+struct Counts {
+    title: &'static str,
+    arcs: u64,
+    steps: u64,
+    cuts: u64,
+    vertices: u64,
+}
+
+const COUNTS: &[Counts] = &[
+    Counts {
+        title: "a log whose counts are right",
+        arcs: 3,
+        steps: 0,
+        cuts: 3,
+        vertices: 1,
+    },
+    Counts {
+        title: "a log that counts 2^64 - 1 arcs",
+        arcs: u64::MAX,
+        steps: 0,
+        cuts: 3,
+        vertices: 1,
+    },
+    Counts {
+        title: "a log that counts 2^64 - 1 steps",
+        arcs: 3,
+        steps: u64::MAX,
+        cuts: 3,
+        vertices: 1,
+    },
+    Counts {
+        title: "a log that counts 2^64 - 1 cuts",
+        arcs: 3,
+        steps: 0,
+        cuts: u64::MAX,
+        vertices: 1,
+    },
+    Counts {
+        title: "a log that counts 2^64 - 1 vertices of a cut",
+        arcs: 3,
+        steps: 0,
+        cuts: 3,
+        vertices: u64::MAX,
+    },
+    Counts {
+        title: "a log that counts 2^64 - 1 of all",
+        arcs: u64::MAX,
+        steps: u64::MAX,
+        cuts: u64::MAX,
+        vertices: u64::MAX,
+    },
+];
+
+/// A log that claims that there is no tree, and counts more vertices than it names.
+const WALL: &str = "STEINERLOG 1\nCLAIM NONE\nWALL 18446744073709551615 1 2\nEND\n";
+
+/// Tells how texts are answered that are far too long, or say that they are, some of them beside
+/// the triangle's file.
+pub fn tell_extremes<K: Sink>(
+    alloc: Global,
+    triangle: &[u8],
+    out: &mut K,
+) -> Result<(), AllocError> {
+    tell_lines(alloc, triangle, out)?;
+    tell_names(alloc, triangle, out)?;
+    tell_counts(alloc, triangle, out)?;
+    tell_prizes(alloc, out)?;
+    tell_sizes(alloc, out)
+}
+
+// A shelf with these texts under these names.
+fn holding(alloc: Global, texts: &[(&str, &[u8])]) -> Result<MemoryShelf, AllocError> {
+    let mut held = Vec::new(alloc);
+    for (name, text) in texts {
+        let name = String::from_str(alloc, name)?;
+        held.push((name, Vec::from_slice(alloc, text)?))?;
+    }
+    Ok(MemoryShelf::of(alloc, held, Vec::new(alloc)))
+}
+
+// One line of many words, as a file and as a log.
+fn tell_lines<K: Sink>(alloc: Global, triangle: &[u8], out: &mut K) -> Result<(), AllocError> {
+    let mut line = "w ".repeat(alloc, MANY)?;
+    line.push('\n')?;
+    let mut shelf = holding(alloc, &[("a.stp", triangle), ("b", line.as_bytes())])?;
+    let title = "a file of one line of 1048576 words";
+    tell(alloc, title, &["solve", "b"], &mut shelf, out)?;
+    let title = "a log of one line of 1048576 words";
+    tell(alloc, title, &["check", "a.stp", "b"], &mut shelf, out)
+}
+
+// A long name under which there is a file, and one under which there is none until its log is saved.
+fn tell_names<K: Sink>(alloc: Global, triangle: &[u8], out: &mut K) -> Result<(), AllocError> {
+    let (name, log) = ("n".repeat(alloc, MANY)?, "l".repeat(alloc, MANY)?);
+    let mut shelf = holding(alloc, &[(&name, triangle)])?;
+    let title = "no file under a name of 1048576 bytes";
+    tell(alloc, title, &["solve", &log], &mut shelf, out)?;
+    let title = "a file under a name of 1048576 bytes";
+    let words = ["solve", &name, "--log", &log];
+    tell_length(alloc, title, &words, &mut shelf, out)?;
+    let title = "a log under a name of 1048576 bytes";
+    tell(alloc, title, &["check", &name, &log], &mut shelf, out)
+}
+
+fn log_of(alloc: Global, counts: &Counts) -> Result<String, AllocError> {
+    let (arcs, steps, cuts, vertices) = (counts.arcs, counts.steps, counts.cuts, counts.vertices);
+    format!(in alloc;
+        "STEINERLOG 1\nCLAIM TREE 6 6\nTREE 1 {arcs}\nA 1 4\nA 4 2\nA 4 3\nSTEPS {steps}\nPROOF\n\
+        C 1 {cuts}\nU 2 2 {vertices} 2\nU 3 2 1 3\nU 2 2 3 2 3 4\nEND\n"
+    )
+}
+
+// Logs of the triangle with these counts, and the wall's.
+fn tell_counts<K: Sink>(alloc: Global, triangle: &[u8], out: &mut K) -> Result<(), AllocError> {
+    let words = ["check", "a.stp", "b"];
+    for counts in COUNTS {
+        let log = log_of(alloc, counts)?;
+        let mut shelf = holding(alloc, &[("a.stp", triangle), ("b", log.as_bytes())])?;
+        tell(alloc, counts.title, &words, &mut shelf, out)?;
+    }
+    let mut shelf = holding(alloc, &[("a.stp", triangle), ("b", WALL.as_bytes())])?;
+    let title = "a log that counts 2^64 - 1 vertices of a wall";
+    tell(alloc, title, &words, &mut shelf, out)
+}
+
+// Many lines of what one vertex pays.
+fn tell_prizes<K: Sink>(alloc: Global, out: &mut K) -> Result<(), AllocError> {
+    let mut text = String::from_str(alloc, BEFORE_PRIZES)?;
+    text.push_str(&"TP 1 3\n".repeat(alloc, MILLION)?)?;
+    text.push_str("END\nEOF\n")?;
+    let mut shelf = holding(alloc, &[("a.stp", text.as_bytes())])?;
+    let title = "a million prizes of one vertex";
+    tell(alloc, title, &["solve", "a.stp"], &mut shelf, out)
+}
+
+fn tell_sizes<K: Sink>(alloc: Global, out: &mut K) -> Result<(), AllocError> {
+    for (title, text) in SIZES {
+        let mut shelf = holding(alloc, &[("a.stp", text.as_bytes())])?;
+        tell(alloc, title, &["solve", "a.stp"], &mut shelf, out)?;
+    }
+    Ok(())
+}
