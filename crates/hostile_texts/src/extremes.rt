@@ -1,5 +1,5 @@
 use crate::answer::{tell, tell_length};
-use st_edge::{MemoryShelf, Sink};
+use st_edge::{MemoryShelf, Shelf, Sink};
 use std::alloc::{AllocError, Global};
 
 /// The words of a line, or the bytes of a name, that is far too long.
@@ -92,21 +92,28 @@ pub fn tell_extremes<K: Sink>(
     tell_sizes(alloc, out)
 }
 
-// A shelf with these texts under these names.
-fn holding(alloc: Global, texts: &[(&str, &[u8])]) -> Result<MemoryShelf, AllocError> {
-    let mut held = Vec::new(alloc);
-    for (name, text) in texts {
-        let name = String::from_str(alloc, name)?;
-        held.push((name, Vec::from_slice(alloc, text)?))?;
+// A shelf with a text under a name.
+fn shelf_of(alloc: Global, name: &str, text: &[u8]) -> Result<MemoryShelf, AllocError> {
+    let name = String::from_str(alloc, name)?;
+    let text = Vec::from_slice(alloc, text)?;
+    let texts = vec![in alloc; (name, text)]?;
+    Ok(MemoryShelf::of(alloc, texts, Vec::new(alloc)))
+}
+
+// A shelf with a file under `a.stp` and a log under `b`.
+fn shelf_with_log(alloc: Global, file: &[u8], log: &str) -> Result<MemoryShelf, AllocError> {
+    let mut shelf = shelf_of(alloc, "a.stp", file)?;
+    match shelf.save("b", log.as_bytes()) {
+        Ok(()) => Ok(shelf),
+        Err(_) => Err(AllocError),
     }
-    Ok(MemoryShelf::of(alloc, held, Vec::new(alloc)))
 }
 
 // One line of many words, as a file and as a log.
 fn tell_lines<K: Sink>(alloc: Global, triangle: &[u8], out: &mut K) -> Result<(), AllocError> {
     let mut line = "w ".repeat(alloc, MANY)?;
     line.push('\n')?;
-    let mut shelf = holding(alloc, &[("a.stp", triangle), ("b", line.as_bytes())])?;
+    let mut shelf = shelf_with_log(alloc, triangle, &line)?;
     let title = "a file of one line of 1048576 words";
     tell(alloc, title, &["solve", "b"], &mut shelf, out)?;
     let title = "a log of one line of 1048576 words";
@@ -115,15 +122,26 @@ fn tell_lines<K: Sink>(alloc: Global, triangle: &[u8], out: &mut K) -> Result<()
 
 // A long name under which there is a file, and one under which there is none until its log is saved.
 fn tell_names<K: Sink>(alloc: Global, triangle: &[u8], out: &mut K) -> Result<(), AllocError> {
-    let (name, log) = ("n".repeat(alloc, MANY)?, "l".repeat(alloc, MANY)?);
-    let mut shelf = holding(alloc, &[(&name, triangle)])?;
+    let name = "n".repeat(alloc, MANY)?;
+    let log = "l".repeat(alloc, MANY)?;
+    let mut shelf = shelf_of(alloc, &name, triangle)?;
+    tell_pair(alloc, &name, &log, &mut shelf, out)
+}
+
+// The same once the names are made.
+fn tell_pair<F: Shelf, K: Sink>(
+    alloc: Global,
+    name: &str,
+    log: &str,
+    shelf: &mut F,
+    out: &mut K,
+) -> Result<(), AllocError> {
     let title = "no file under a name of 1048576 bytes";
-    tell(alloc, title, &["solve", &log], &mut shelf, out)?;
+    tell(alloc, title, &["solve", log], shelf, out)?;
     let title = "a file under a name of 1048576 bytes";
-    let words = ["solve", &name, "--log", &log];
-    tell_length(alloc, title, &words, &mut shelf, out)?;
+    tell_length(alloc, title, &["solve", name, "--log", log], shelf, out)?;
     let title = "a log under a name of 1048576 bytes";
-    tell(alloc, title, &["check", &name, &log], &mut shelf, out)
+    tell(alloc, title, &["check", name, log], shelf, out)
 }
 
 fn log_of(alloc: Global, counts: &Counts) -> Result<String, AllocError> {
@@ -136,15 +154,23 @@ fn log_of(alloc: Global, counts: &Counts) -> Result<String, AllocError> {
 
 // Logs of the triangle with these counts, and the wall's.
 fn tell_counts<K: Sink>(alloc: Global, triangle: &[u8], out: &mut K) -> Result<(), AllocError> {
-    let words = ["check", "a.stp", "b"];
     for counts in COUNTS {
         let log = log_of(alloc, counts)?;
-        let mut shelf = holding(alloc, &[("a.stp", triangle), ("b", log.as_bytes())])?;
-        tell(alloc, counts.title, &words, &mut shelf, out)?;
+        tell_log(alloc, counts.title, triangle, &log, out)?;
     }
-    let mut shelf = holding(alloc, &[("a.stp", triangle), ("b", WALL.as_bytes())])?;
     let title = "a log that counts 2^64 - 1 vertices of a wall";
-    tell(alloc, title, &words, &mut shelf, out)
+    tell_log(alloc, title, triangle, WALL, out)
+}
+
+fn tell_log<K: Sink>(
+    alloc: Global,
+    title: &str,
+    file: &[u8],
+    log: &str,
+    out: &mut K,
+) -> Result<(), AllocError> {
+    let mut shelf = shelf_with_log(alloc, file, log)?;
+    tell(alloc, title, &["check", "a.stp", "b"], &mut shelf, out)
 }
 
 // Many lines of what one vertex pays.
@@ -152,15 +178,22 @@ fn tell_prizes<K: Sink>(alloc: Global, out: &mut K) -> Result<(), AllocError> {
     let mut text = String::from_str(alloc, BEFORE_PRIZES)?;
     text.push_str(&"TP 1 3\n".repeat(alloc, MILLION)?)?;
     text.push_str("END\nEOF\n")?;
-    let mut shelf = holding(alloc, &[("a.stp", text.as_bytes())])?;
-    let title = "a million prizes of one vertex";
+    tell_file(alloc, "a million prizes of one vertex", &text, out)
+}
+
+fn tell_file<K: Sink>(
+    alloc: Global,
+    title: &str,
+    file: &str,
+    out: &mut K,
+) -> Result<(), AllocError> {
+    let mut shelf = shelf_of(alloc, "a.stp", file.as_bytes())?;
     tell(alloc, title, &["solve", "a.stp"], &mut shelf, out)
 }
 
 fn tell_sizes<K: Sink>(alloc: Global, out: &mut K) -> Result<(), AllocError> {
     for (title, text) in SIZES {
-        let mut shelf = holding(alloc, &[("a.stp", text.as_bytes())])?;
-        tell(alloc, title, &["solve", "a.stp"], &mut shelf, out)?;
+        tell_file(alloc, title, text, out)?;
     }
     Ok(())
 }
