@@ -5,6 +5,9 @@ use std::alloc::{AllocError, Global};
 use std::test::Fail;
 use test_instances::triangle_with_centre;
 
+mod notes;
+mod wheel;
+
 // What a step answers: its fault, or none.
 fn answer(search: &mut Search, event: Event) -> Result<Option<EventFault>, AllocError> {
     match search.step(event) {
