@@ -5,6 +5,12 @@ use std::alloc::{AllocError, Global};
 use std::test::Fail;
 use test_instances::triangle_with_centre;
 
+mod agreeing;
+mod book;
+mod draft;
+mod drawing;
+mod drawn;
+mod ground;
 mod notes;
 mod wheel;
 
