@@ -1,5 +1,5 @@
 -- What is gathered of a state accounts for every node that was made, and is complete where the state is settled.
-use Rattle.std.proofs.Common.{◌≡◌, ℕ, zero, suc, ◌+◌, ◌<◌, ◌≤◌, Bool, true, false, cond, ◌&&◌, List, [], ◌∷◌, ◌++◌, length, map, filter, refl, sym, ap, ◌∙◌, subst, arith, ◌⊎◌, inl, inr}
+use Rattle.std.proofs.Common.{◌≡◌, ℕ, suc, ◌+◌, ◌<◌, ◌≤◌, Bool, true, false, cond, ◌&&◌, List, [], ◌∷◌, ◌++◌, length, map, filter, refl, sym, ap, ◌∙◌, subst, arith, ◌⊎◌, inl, inr}
 use Rattle.std.specs.Prelude.{◌==◌, All, Contains, nat_lt, nat_le}
 use Rattle.std.specs.List.{AllByRecursion, flat_map}
 use Rattle.std.proofs.lemmas.Bool.{false≢true}
@@ -12,16 +12,15 @@ use Rattle.branching.specs.declared.node.Node.{Node}
 use Rattle.branching.specs.Node.{IsNode}
 use Rattle.search_core.specs.declared.done.Done.{Done}
 use Rattle.search_core.specs.declared.done.Done.TheVariants.{Split, Close}
-use Rattle.search_core.specs.declared.gathered.Gathered.{Gathered}
 use Rattle.search_core.specs.declared.made.Made.{Made}
 use Rattle.search_core.specs.declared.made.Place.{Place}
 use Rattle.search_core.specs.declared.made.Place.TheVariants as place
 use Rattle.search_core.specs.declared.worker.Worker.{Worker}
 use Rattle.search_core.specs.Accounted.{IsGatheredOf, busy_ids, claimed_in_hands, is_busy, is_hand}
 use Rattle.search_core.specs.Complete.{IsComplete, IsRightNode, IsRightRecord, IsRightSegment, done_id, made_ids, records, standing_ids, times, waiting}
-use Rattle.search_core.specs.Kept.{AreRecorded, IsCounted, IsKept, IsOfWorker, IsRecorded, IsRecordedNode, IsSound, IsSoundRecord, IsSoundWork, all_done, claim_fits, claimed, ended_count, ended_ids, made_nodes, node_ids, one_if}
+use Rattle.search_core.specs.Kept.{IsCounted, IsKept, IsOfWorker, IsRecorded, IsRecordedNode, IsSoundRecord, IsSoundWork, all_done, claim_fits, made_nodes, node_ids, one_if}
 use Rattle.search_core.specs.Needs.{is_queue}
-use Rattle.search_core.specs.Settled.{IsSettled, gathered, is_done, is_left_of, is_waiting, left_of, queued, segment_of, segments_from}
+use Rattle.search_core.specs.Settled.{IsSettled, gathered, is_done, is_left_of, is_waiting, left_of, queued, segments_from}
 use Rattle.search_core.specs.State.{State}
 use Rattle.search_core.proofs.Ids.{times-append}
 use Rattle.search_core.proofs.Recording.{if_ended, times-ended_ids, times-node_ids}

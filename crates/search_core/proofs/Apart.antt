@@ -1,5 +1,5 @@
 -- No node stands twice in a tree that is read off: the halves of a split have branches that no node has both of.
-use Rattle.std.proofs.Common.{◌≡◌, ℕ, ◌+◌, ◌≤◌, Bool, true, false, not, ◌&&◌, ◌||◌, List, [], ◌∷◌, ◌++◌, map, refl, sym, ◌∙◌, subst, arith, inl, inr}
+use Rattle.std.proofs.Common.{◌≡◌, ℕ, ◌≤◌, Bool, true, false, not, ◌&&◌, List, ◌++◌, map, refl, sym, ◌∙◌, subst, arith, inl, inr}
 use Rattle.std.specs.Prelude.{◌==◌, Contains, All, ◌⊎◌}
 use Rattle.std.proofs.lemmas.Bool.{or_left, or_right, or_cases, eqb-true, eq-eqb}
 use Rattle.std.proofs.lemmas.List.Elements.{All-contains, All-weaker}
@@ -15,7 +15,6 @@ use Rattle.branching.specs.declared.node.Node.{Node}
 use Rattle.search_core.specs.declared.done.Done.{Done}
 use Rattle.search_core.specs.declared.done.Done.TheVariants.{Split, Close}
 use Rattle.search_core.specs.declared.gathered.Gathered.{Gathered}
-use Rattle.search_core.specs.declared.gathered.Segment.{Segment}
 use Rattle.search_core.specs.Complete.{IsComplete, IsMade, root, inside_of, outside_of, IsRightRecord, IsRightNode, IsRightSegment, records, waiting, done_id, standing_ids, times}
 use Rattle.search_core.specs.ReadOff.{IsReadOff, closed, waits, was_split}
 use Rattle.search_core.proofs.Ids.{one_branch}

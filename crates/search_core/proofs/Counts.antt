@@ -1,12 +1,11 @@
 -- How many nodes a tree has that is read off what is complete, and how many of its closes weigh less than the least value.
-use Rattle.std.proofs.Common.{◌≡◌, ℕ, ◌+◌, ◌<◌, ◌≤◌, Bool, true, false, cond, List, [], ◌∷◌, ◌++◌, length, map, refl, sym, ◌∙◌, subst, arith, inl, inr, length-append}
-use Rattle.std.specs.Prelude.{◌==◌, nat_lt, Contains}
+use Rattle.std.proofs.Common.{◌≡◌, ℕ, ◌+◌, ◌≤◌, Bool, true, false, cond, List, [], ◌∷◌, ◌++◌, length, map, refl, sym, subst, arith, inl, inr, length-append}
+use Rattle.std.specs.Prelude.{◌==◌, nat_lt}
 use Rattle.std.proofs.lemmas.Bool.Decides.{nat_tests}
 use Rattle.std.proofs.lemmas.List.{length-map}
 use Rattle.st_model.specs.declared.branch.Branch.{Branch}
 use Rattle.st_model.specs.Branch.{with_inside, with_outside}
 use Rattle.st_model.specs.Network.{Network}
-use Rattle.cut_packing.specs.declared.packing.Packing.{Packing}
 use Rattle.cut_packing.specs.Packing.{weight}
 use Rattle.cut_packing.specs.ProofTree.{ProofTree}
 use Rattle.branching.specs.declared.node.Node.{Node}
@@ -14,9 +13,9 @@ use Rattle.search_core.specs.declared.gathered.Gathered.{Gathered}
 use Rattle.search_core.specs.Complete.{IsComplete, IsMade, root, inside_of, outside_of, records, waiting, done_id, standing_ids, times, without_gone}
 use Rattle.search_core.specs.ReadOff.{CompleteCounts, IsReadOff, closed, waits, was_split, size, light_closes}
 use Rattle.search_core.proofs.Ids.{among, made_times, times-append}
-use Rattle.search_core.proofs.Times.{once_where, times-head, times-either, times-single, times_among, length-times}
+use Rattle.search_core.proofs.Times.{once_where, times-either, times-single, times_among, length-times}
 use Rattle.search_core.proofs.TreeIds.{AreOnce, ids_of, length-ids_of, made_in_tree}
-use Rattle.search_core.proofs.Apart.{WasMade, standing_made, close_right, under, tree_once}
+use Rattle.search_core.proofs.Apart.{standing_made, close_right, under, tree_once}
 
 -- the ids of the closes that weigh less than x
 abbrev light_ids : Network → ℕ → (G : Gathered) (id : ℕ) (p : ProofTree) → IsReadOff G id p → Branch → List ℕ

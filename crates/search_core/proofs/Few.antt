@@ -1,12 +1,12 @@
 -- How large a tree is that is read off what is complete: each split leaves one vertex less to split at.
-use Rattle.std.proofs.Common.{◌≡◌, ℕ, suc, ◌+◌, ◌*◌, ◌^◌, ◌<◌, ◌≤◌, Bool, true, false, cond, List, not, ◌&&◌, ◌||◌, zero, refl, sym, ap, ◌∙◌, subst, arith}
+use Rattle.std.proofs.Common.{◌≡◌, ℕ, suc, ◌+◌, ◌*◌, ◌^◌, ◌<◌, ◌≤◌, Bool, true, false, cond, List, not, ◌&&◌, ◌||◌, zero, refl, sym, ap, ◌∙◌, arith}
 use Rattle.std.specs.Prelude.{◌==◌, IsTrue}
 use Rattle.std.proofs.lemmas.Bool.{and_from, both_ways}
 use Rattle.std.proofs.Math.Nat.{pow-suc}
 use Rattle.st_model.specs.declared.branch.Branch.{Branch}
 use Rattle.st_model.specs.Branch.{is_free, is_undecided, with_inside, with_outside}
 use Rattle.st_model.specs.Lists.{has}
-use Rattle.st_model.specs.Network.{Network, IsVertex, is_required}
+use Rattle.st_model.specs.Network.{Network, is_required}
 use Rattle.st_model.proofs.Sums.{sum_to_same, sum_to-add, sum_to_one}
 use Rattle.st_model.proofs.Halves.{has-with_vertex}
 use Rattle.cut_packing.specs.ProofTree.{ProofTree, IsSplit}

@@ -1,13 +1,11 @@
 -- Each event keeps what is said of nodes and records.
-use Rattle.std.proofs.Common.{◌≡◌, ℕ, zero, suc, ◌+◌, ◌-◌, ◌<◌, ◌≤◌, min, Bool, true, false, cond, ◌&&◌, ◌||◌, not, replicate, List, [], ◌∷◌, ◌++◌, length, map, Option, Some, None, refl, sym, ap, ◌∙◌, subst, arith, inl, inr}
-use Rattle.std.specs.Prelude.{◌==◌, All, Contains, IfSome, find, nat_lt, slice_get}
-use Rattle.std.specs.List.{flat_map}
+use Rattle.std.proofs.Common.{◌≡◌, ℕ, zero, suc, ◌+◌, ◌-◌, ◌<◌, ◌≤◌, min, Bool, true, false, cond, ◌||◌, replicate, List, [], ◌∷◌, ◌++◌, length, Option, Some, None, refl, sym, ap, ◌∙◌, subst, arith, inl, inr}
+use Rattle.std.specs.Prelude.{◌==◌, All, Contains, IfSome, find, nat_lt}
 use Rattle.std.specs.Option.{option_map_or}
 use Rattle.std.proofs.lemmas.Bool.{false≢true}
 use Rattle.std.proofs.lemmas.Bool.Decides.{nat_tests}
 use Rattle.std.proofs.lemmas.List.{append-nil}
 use Rattle.std.proofs.lemmas.List.Elements.{All-append, All-from_recursion, All-nil, All-weaker}
-use Rattle.std.proofs.lemmas.List.Folds.{find-append}
 use Rattle.st_model.specs.Lists.{total}
 use Rattle.st_model.specs.Network.{Network}
 use Rattle.st_model.proofs.Sums.{total-append}
@@ -27,17 +25,17 @@ use Rattle.search_core.specs.declared.made.Place.TheVariants as place
 use Rattle.search_core.specs.declared.worker.Worker.{Worker}
 use Rattle.search_core.specs.Complete.{IsMade, root, inside_of, outside_of, inside, outside, done_id, half_ids, made_ids, times}
 use Rattle.search_core.specs.Effects.{after, ended, granted, refused, handed, moved, id_in_hand, put_down}
-use Rattle.search_core.specs.Kept.{AreRecorded, IsCounted, IsOfWorker, IsRecorded, IsRecordedNode, IsSound, all_done, ended_count, ended_ids, node_ids, one_if}
+use Rattle.search_core.specs.Kept.{AreRecorded, IsCounted, IsOfWorker, IsRecorded, IsRecordedNode, IsSound, all_done, ended_ids, node_ids, one_if}
 use Rattle.search_core.specs.Needs.{AllowsSplit, IsAllowed, is_fresh, is_fresh_of, is_queue, holds, splits_at}
 use Rattle.search_core.specs.Settled.{is_done}
-use Rattle.search_core.specs.State.{State, beginning, changed_at, hand, has_id, held, made_as, new_worker, root_of, seen, with_made}
+use Rattle.search_core.specs.State.{State, beginning, changed_at, hand, has_id, made_as, new_worker, seen, with_made}
 use Rattle.search_core.proofs.Counting.{found-first, fresh_waits, held_found, held_place, queue_waits}
 use Rattle.search_core.proofs.Early.{SplitEarly, KeepEarly, take_early, pick_early, give_early, claim_early, up_early, split_early, keep_early}
 use Rattle.search_core.proofs.Happened.{after_split, inside_made, outside_made, split_state}
 use Rattle.search_core.proofs.Look.{all-with_made_at, asked, same_number}
-use Rattle.search_core.proofs.MoreRecords.{AreMoreRecords, Records, all_done-more, all_done-new, all_done-same, length-changed, made-more, node-more, total-all_done}
+use Rattle.search_core.proofs.MoreRecords.{AreMoreRecords, all_done-more, all_done-new, all_done-same, length-changed, made-more, node-more, total-all_done}
 use Rattle.search_core.proofs.NodeLists.{all-found, all-with_made, found-id, total-with_made, total-with_made_same}
-use Rattle.search_core.proofs.Soundness.{HeldNode, held_node, splits}
+use Rattle.search_core.proofs.Soundness.{held_node, splits}
 use Rattle.search_core.proofs.Totals.{length-total, total-filter, total-flat_map, total-map, total-zero}
 
 -- how often an id stands among those of nodes, as a sum over the nodes

@@ -1,7 +1,6 @@
 -- Lists of events keep what each event keeps, faults are exact, and a search that is done bounds every tree.
-use Rattle.std.proofs.Common.{◌≡◌, ℕ, ◌+◌, ◌-◌, Bool, true, false, cond, List, [], ◌∷◌, Option, Some, None, refl, sym, ◌∙◌, ◌<◌, ◌≤◌, arith, subst, inl, inr}
+use Rattle.std.proofs.Common.{◌≡◌, ℕ, Bool, true, false, cond, List, [], ◌∷◌, Option, Some, None, refl, sym, ◌∙◌, ◌<◌, ◌≤◌, arith, subst, inl, inr}
 use Rattle.std.specs.Prelude.{◌==◌, IfSome, nat_lt}
-use Rattle.st_model.specs.declared.tree.Tree.{Tree}
 use Rattle.st_model.specs.Arborescence.{IsTree, cost}
 use Rattle.st_model.specs.Branch.{Belongs}
 use Rattle.st_model.specs.declared.branch.Branch.{Branch}
@@ -11,7 +10,7 @@ use Rattle.cut_packing.specs.Packing.{weight}
 use Rattle.search_core.specs.declared.made.Made.{Made}
 use Rattle.search_core.specs.declared.event.Event.{Event}
 use Rattle.search_core.specs.declared.done.End.TheVariants.{OpenZero, HaltSeen}
-use Rattle.search_core.specs.declared.event.Event.TheVariants.{Take, Pick, Give, Claim, See, Offer, Up, Split, Close, Down, SeeOpen, SeeHalt, Halt, Keep}
+use Rattle.search_core.specs.declared.event.Event.TheVariants.{Claim, Split, Close, SeeOpen, SeeHalt}
 use Rattle.search_core.specs.declared.event.EventFault.{EventFault}
 use Rattle.search_core.specs.declared.event.EventFault.TheVariants.{BadPacking, TooLight}
 use Rattle.search_core.specs.State.{State, beginning, held, seen}

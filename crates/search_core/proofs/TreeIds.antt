@@ -1,18 +1,15 @@
 -- The ids of the nodes of a tree that is read off.
-use Rattle.std.proofs.Common.{◌≡◌, ℕ, suc, ◌+◌, ◌<◌, ◌≤◌, Bool, true, false, cond, List, [], ◌∷◌, ◌++◌, length, map, refl, sym, ap, ◌∙◌, subst, arith, inl, inr, length-append}
-use Rattle.std.specs.Prelude.{Contains, nat_lt, ◌⊎◌}
+use Rattle.std.proofs.Common.{◌≡◌, ℕ, suc, ◌+◌, ◌≤◌, List, [], ◌∷◌, ◌++◌, length, map, refl, subst, arith, inl, inr, length-append}
+use Rattle.std.specs.Prelude.{Contains}
 use Rattle.st_model.specs.declared.branch.Branch.{Branch}
-use Rattle.st_model.specs.Branch.{with_inside, with_outside}
-use Rattle.st_model.specs.Network.{Network}
 use Rattle.cut_packing.specs.declared.packing.Packing.{Packing}
-use Rattle.cut_packing.specs.Packing.{weight}
-use Rattle.cut_packing.specs.ProofTree.{ProofTree, close, split}
+use Rattle.cut_packing.specs.ProofTree.{ProofTree}
 use Rattle.branching.specs.declared.node.Node.{Node}
 use Rattle.search_core.specs.declared.done.Done.{Done}
 use Rattle.search_core.specs.declared.done.Done.TheVariants.{Split, Close}
 use Rattle.search_core.specs.declared.gathered.Gathered.{Gathered}
 use Rattle.search_core.specs.Complete.{IsMade, root, inside_of, outside_of, records, waiting, done_id, standing_ids, times}
-use Rattle.search_core.specs.ReadOff.{IsReadOff, closed, waits, was_split, size, light_closes}
+use Rattle.search_core.specs.ReadOff.{IsReadOff, closed, waits, was_split, size}
 use Rattle.search_core.proofs.Ids.{among, times-append}
 use Rattle.search_core.proofs.Times.{times-head, times-tail, times-cases, times-left, times-right, times-either, times-not_both, times-single, times_among, same_of_id}
 
