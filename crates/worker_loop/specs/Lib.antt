@@ -5,3 +5,6 @@ pub mod Step
 pub mod Finding
 pub mod UnderWay
 pub mod Work
+pub mod Sound
+pub mod Run
+pub mod Team
