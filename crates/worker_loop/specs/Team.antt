@@ -1,10 +1,8 @@
 -- What is gathered of workers that ran beside each other, and what it comes to. Helpers' clauses cite this, and no public one.
-use Rattle.std.specs.Prelude.{◌≡◌, ℕ, ◌+◌, ◌<◌, ◌≤◌, ◌%◌, ◌^◌, List, [], ◌∷◌, length, map, min, All, IsTrue, IsFalse, IfSome, ⊤}
+use Rattle.std.specs.Prelude.{◌≡◌, ℕ, ◌+◌, ◌<◌, ◌≤◌, ◌%◌, ◌^◌, List, [], ◌∷◌, length, map, min, All, IfSome, ⊤}
 use Rattle.std.specs.List.{sum_by}
 use Rattle.st_model.specs.Arborescence.{cost}
-use Rattle.st_model.specs.Branch.{IsVertexSet}
-use Rattle.st_model.specs.Lists.{has}
-use Rattle.st_model.specs.Network.{Network, IsInstance, is_required}
+use Rattle.st_model.specs.Network.{Network}
 use Rattle.log_format.specs.Text.{IsWritablePacking}
 use Rattle.branching.specs.declared.node.Node.{Node}
 use Rattle.incumbent.specs.Least.{least_of}
@@ -74,8 +72,6 @@ pub record IsSearched (G : Gathered) (I : Network) (gone : List ℕ) (start budg
 -- the theorem on a team: what it did, with what pool, ledger and incumbent came to, is a search
 abbrev pub TeamSearches : Type 0
 TeamSearches = (I : Network) (gone : List ℕ) (start budget workers : ℕ) (team : List Member) (queued : List Node) (least opened claimed : ℕ)
-    → IsInstance I → IsVertexSet I.n gone → ((v : ℕ) → IsTrue (has gone v) → IsFalse (is_required I v))
-    → 0 < workers → length team ≡ workers → workers ≤ 64
-    → HaveRun I gone start workers 0 team
+    → length team ≡ workers → workers ≤ 64 → HaveRun I gone start workers 0 team
     → IsPooled I gone team queued → IsCounted budget team opened claimed → IsLowest start team least
     → IsSearched (gathered_of team queued least claimed) I gone start budget
