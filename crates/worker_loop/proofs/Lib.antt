@@ -12,3 +12,11 @@ pub mod Steps
 pub mod Gathering
 pub mod Beginning
 pub mod Working
+pub mod SameNodes
+pub mod Weights
+pub mod TeamNodes
+pub mod Teams
+pub mod TeamIds
+pub mod TeamCounts
+pub mod TeamFinds
+pub mod TeamSearch

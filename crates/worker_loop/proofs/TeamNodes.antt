@@ -1,0 +1,179 @@
+-- Each node that was worked on, or that waits, was made, where the root and all halves are the nodes that were worked on and those that wait.
+use Rattle.std.proofs.Common.{◌≡◌, ℕ, zero, suc, ◌+◌, ◌≤◌, Bool, true, false, cond, List, [], ◌∷◌, length, map, refl, sym, ap, subst, ◌∙◌, ◌⊎◌, inl, inr, arith}
+use Rattle.std.specs.Prelude.{nat_lt, Contains}
+use Rattle.std.specs.List.{flat_map, sum_by}
+use Rattle.st_model.specs.declared.branch.Branch.{Branch}
+use Rattle.st_model.specs.Branch.{with_vertex}
+use Rattle.st_model.specs.Network.{Network}
+use Rattle.cut_packing.specs.declared.packing.Packing.{Packing}
+use Rattle.cut_packing.specs.Packing.{weight}
+use Rattle.branching.specs.declared.node.Node.{Node}
+use Rattle.branching.specs.Node.{inside_half, outside_half}
+use Rattle.branching.proofs.NoLighter.{halves_are_no_lighter_lem}
+use Rattle.search_core.specs.declared.done.Done.{Done}
+use Rattle.search_core.specs.declared.done.Done.TheVariants.{Split, Close}
+use Rattle.search_core.specs.Complete.{IsHalf, IsMade, KeepsWeight, done_id, inside, outside, inside_of, outside_of, root}
+use Rattle.search_core.specs.State.{root_of}
+use Rattle.search_core.proofs.Ids.{Among}
+use Rattle.worker_loop.specs.Run.{IsDoneWith, IsSplitTask, IsTask, Task, done_of, halves_by, halves_of, node_of, packed}
+use Rattle.worker_loop.proofs.SameNodes.{node_is, node_itself, same_node}
+use Rattle.worker_loop.proofs.Weights.{among_map, among_one_of, contains, heavy_one, weight_le}
+
+-- the root and all halves are the nodes of the tasks and those that wait, however nodes are weighed
+abbrev pub IsAccounted : List ℕ → List Task → List Node → Type 0
+IsAccounted gone tasks waiting = (h : Node → ℕ) → h (root_of gone) + sum_by h (flat_map halves_of tasks) ≡ sum_by h (map node_of tasks) + sum_by h waiting
+
+-- each is a right task at some value that was seen
+abbrev pub AreTasks : Network → List ℕ → ℕ → List Task → Type 0
+AreTasks I gone start tasks = (T : Task) → Among tasks T → (seen : ℕ) × IsTask I gone start seen T
+
+-- the node is a half of this task's, which split its node at v on P
+pub record IsHalfOf (T : Task) (N : Node) : Type 0 where
+  pub id : ℕ
+  pub v : ℕ
+  pub i : ℕ
+  pub o : ℕ
+  pub P : Packing
+  pub is_split : T.done ≡ Split id v i o P
+  pub is_half : (N ≡ inside_half (packed id T.node.branch P) v i) ⊎ (N ≡ outside_half (packed id T.node.branch P) v o)
+
+-- what is among the halves of a task is a half of it
+half_of : (T : Task) (N : Node) → Among (halves_of T) N → IsHalfOf T N
+half_of T N there = by_done T.done refl there
+  where
+    by_done : (d : Done) → T.done ≡ d → Among (halves_by T.node.branch d) N → IsHalfOf T N
+    by_done (Close id P) is h = absurd h
+    by_done (Split id v i o P) is (inl e) = record { id = id; v = v; i = i; o = o; P = P; is_split = is; is_half = inl (sym e) }
+    by_done (Split id v i o P) is (inr (inl e)) = record { id = id; v = v; i = i; o = o; P = P; is_split = is; is_half = inr (sym e) }
+    by_done (Split id v i o P) is (inr (inr h)) = absurd h
+
+-- where a node comes from: it is the root, or a half of a task's
+abbrev pub Comes : List ℕ → List Task → Node → Type 0
+Comes gone tasks N = (N ≡ root_of gone) ⊎ ((T : Task) × Among tasks T × IsHalfOf T N)
+
+-- 1 where it is this node
+abbrev is_it : Node → Node → ℕ
+is_it N M = cond (same_node N M) 1 0
+
+it_is : (N M : Node) → 1 ≤ is_it N M → N ≡ M
+it_is N M h = by_case (same_node N M) refl h
+  where
+    by_case : (b : Bool) → same_node N M ≡ b → 1 ≤ cond b 1 0 → N ≡ M
+    by_case true e k = node_is N M e
+    by_case false e k = absurd (omega arith)
+
+-- what is the root or weighs something among the halves comes from there
+among_halves : (gone : List ℕ) (tasks : List Task) (N : Node) → 1 ≤ is_it N (root_of gone) + sum_by (is_it N) (flat_map halves_of tasks) → Comes gone tasks N
+among_halves gone tasks N h = by_case (is_it N (root_of gone)) refl
+  where
+    by_case : (n : ℕ) → is_it N (root_of gone) ≡ n → Comes gone tasks N
+    by_case (suc n) e = inl (it_is N (root_of gone) (omega (arith, e)))
+    by_case zero e =
+        let heavy = heavy_one (is_it N) (flat_map halves_of tasks) (omega (arith, e, h)) in
+        let of_task = among_one_of halves_of tasks heavy.0 heavy.1 in
+        inr (of_task.0, of_task.1, half_of of_task.0 N (subst (Among (halves_of of_task.0)) (sym (it_is N heavy.0 heavy.2)) of_task.2))
+
+-- each node that was worked on, or that waits, comes from there
+pub comes : (gone : List ℕ) (tasks : List Task) (waiting : List Node) (N : Node) → IsAccounted gone tasks waiting → Among (map node_of tasks) N ⊎ Among waiting N → Comes gone tasks N
+comes gone tasks waiting N accounted there = among_halves gone tasks N (some there)
+  where
+    here : 1 ≤ is_it N N
+    here = rw (node_itself N) (omega arith)
+
+    some : Among (map node_of tasks) N ⊎ Among waiting N → 1 ≤ is_it N (root_of gone) + sum_by (is_it N) (flat_map halves_of tasks)
+    some (inl h) = omega (arith, here, accounted (is_it N), weight_le (is_it N) (map node_of tasks) N h)
+    some (inr h) = omega (arith, here, accounted (is_it N), weight_le (is_it N) waiting N h)
+
+-- how many vertices a branch decides
+abbrev decided : Branch → ℕ
+decided B = length B.inside + length B.outside
+
+one_longer : (xs : List ℕ) (v : ℕ) → length (with_vertex xs v) ≡ length xs + 1
+one_longer [] v = refl
+one_longer (x ∷ xs) v = by_case (nat_lt x v) (one_longer xs v)
+  where
+    by_case : (b : Bool) → length (with_vertex xs v) ≡ length xs + 1 → length (cond b (x ∷ with_vertex xs v) (v ∷ x ∷ xs)) ≡ suc (length xs) + 1
+    by_case true e = omega (arith, e)
+    by_case false e = omega arith
+
+-- a half decides one vertex more
+one_more : (T : Task) (N : Node) → IsHalfOf T N → decided N.branch ≡ decided T.node.branch + 1
+one_more T N h = elim h.is_half [
+  | inl is ↦ let e = ap (λ (M : Node). decided M.branch) is in omega (arith, e, one_longer T.node.branch.inside h.v)
+  | inr is ↦ let e = ap (λ (M : Node). decided M.branch) is in omega (arith, e, one_longer T.node.branch.outside h.v)
+]
+
+-- the record of the split
+recorded : (tasks : List Task) (T : Task) (N : Node) (h : IsHalfOf T N) → Among tasks T → Contains (map done_of tasks) (Split h.id h.v h.i h.o h.P)
+recorded tasks T N h there = contains (map done_of tasks) _ (subst (Among (map done_of tasks)) h.is_split (among_map done_of tasks T there))
+
+-- a half of what was made was made
+half_made : (gone : List ℕ) (tasks : List Task) (T : Task) (N : Node) (h : IsHalfOf T N) → Among tasks T → IsMade gone (map done_of tasks) h.id T.node.branch
+    → IsMade gone (map done_of tasks) N.id N.branch
+half_made gone tasks T N h there made = elim h.is_half [
+  | inl is ↦ subst (λ (M : Node). IsMade gone (map done_of tasks) M.id M.branch) (sym is) (inside_of (recorded tasks T N h there) made)
+  | inr is ↦ subst (λ (M : Node). IsMade gone (map done_of tasks) M.id M.branch) (sym is) (outside_of (recorded tasks T N h there) made)
+]
+
+-- the id in the record of a split is its node's
+same_id : (I : Network) (gone : List ℕ) (start seen : ℕ) (T : Task) (N : Node) (h : IsHalfOf T N) → IsTask I gone start seen T → T.node.id ≡ h.id
+same_id I gone start seen T N h task = sym task.same ∙ ap done_id h.is_split
+
+-- by induction on how many vertices the branch decides
+made_below : (I : Network) (gone : List ℕ) (start : ℕ) (tasks : List Task) (waiting : List Node) → AreTasks I gone start tasks → IsAccounted gone tasks waiting
+    → (k : ℕ) (N : Node) → decided N.branch ≤ k → Among (map node_of tasks) N ⊎ Among waiting N → IsMade gone (map done_of tasks) N.id N.branch
+made_below I gone start tasks waiting right accounted zero N few there = elim (comes gone tasks waiting N accounted there) [
+  | inl is ↦ subst (λ (M : Node). IsMade gone (map done_of tasks) M.id M.branch) (sym is) root
+  | inr half ↦ absurd (omega (arith, few, one_more half.0 N half.2))
+]
+made_below I gone start tasks waiting right accounted (suc k) N few there = elim (comes gone tasks waiting N accounted there) [
+  | inl is ↦ subst (λ (M : Node). IsMade gone (map done_of tasks) M.id M.branch) (sym is) root
+  | inr half ↦
+      let T = half.0 in
+      let task = right T half.1 in
+      let parent = made_below I gone start tasks waiting right accounted k T.node (omega (arith, few, one_more T N half.2)) (inl (among_map node_of tasks T half.1)) in
+      half_made gone tasks T N half.2 half.1 (subst (λ (id : ℕ). IsMade gone (map done_of tasks) id T.node.branch) (same_id I gone start task.0 T N half.2 task.1) parent)
+]
+
+-- each node that was worked on, or that waits, was made
+pub was_made : (I : Network) (gone : List ℕ) (start : ℕ) (tasks : List Task) (waiting : List Node) (N : Node) → AreTasks I gone start tasks → IsAccounted gone tasks waiting
+    → Among (map node_of tasks) N ⊎ Among waiting N → IsMade gone (map done_of tasks) N.id N.branch
+was_made I gone start tasks waiting N right accounted there = made_below I gone start tasks waiting right accounted (decided N.branch) N (omega arith) there
+
+-- a task that split its node
+split_so : (I : Network) (start seen : ℕ) (N : Node) (d : Done) (id v i o : ℕ) (P : Packing) → d ≡ Split id v i o P → IsDoneWith I start seen N d → IsSplitTask I start N v P
+split_so I start seen N d id v i o P is h = subst (IsDoneWith I start seen N) is h
+
+-- and a node that waits weighs no less than the split that made it
+pub keeps_weight : (I : Network) (gone : List ℕ) (start : ℕ) (tasks : List Task) (waiting : List Node) (N : Node) → AreTasks I gone start tasks → IsAccounted gone tasks waiting
+    → Among waiting N → KeepsWeight I gone (map done_of tasks) N
+keeps_weight I gone start tasks waiting N right accounted there = elim (comes gone tasks waiting N accounted (inr there)) [
+  | inl is ↦ inl (ap (λ (M : Node). M.id) is)
+  | inr half ↦ by_half half.0 half.1 half.2
+]
+  where
+    by_half : (T : Task) → Among tasks T → IsHalfOf T N → KeepsWeight I gone (map done_of tasks) N
+    by_half T among h =
+        let task = right T among in
+        let made = subst (λ (id : ℕ). IsMade gone (map done_of tasks) id T.node.branch) (same_id I gone start task.0 T N h task.1)
+        (was_made I gone start tasks waiting T.node right accounted (inl (among_map node_of tasks T among))) in
+        let of_split = split_so I start task.0 T.node T.done h.id h.v h.i h.o h.P h.is_split task.1.done_right in
+        let weighs = halves_are_no_lighter_lem I (packed T.node.id T.node.branch h.P) h.v h.i h.o of_split.packed.node of_split.vertex in
+        let done = recorded tasks T N h among in
+        inr (
+          h.id,
+          h.P,
+          T.node.branch,
+          elim h.is_half [
+            | inl is ↦ record {
+              half = subst (λ (M : Node). IsHalf (map done_of tasks) h.id h.P M.id) (sym is) (inside done);
+              made = made;
+              weight = subst (λ (M : Node). weight I T.node.branch h.P ≤ weight I M.branch M.packing) (sym is) weighs.0.no_lighter;
+            }
+            | inr is ↦ record {
+              half = subst (λ (M : Node). IsHalf (map done_of tasks) h.id h.P M.id) (sym is) (outside done);
+              made = made;
+              weight = subst (λ (M : Node). weight I T.node.branch h.P ≤ weight I M.branch M.packing) (sym is) weighs.1.no_lighter;
+            }
+          ],
+        )
