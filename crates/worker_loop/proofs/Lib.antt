@@ -6,12 +6,11 @@ pub mod Extended
 pub mod Heavier
 pub mod Found
 pub mod Closed
-pub mod Growing
-pub mod Numbers
-pub mod Steps
-pub mod Gathering
 pub mod Beginning
-pub mod Working
+pub mod Drawing
+pub mod Progressing
+pub mod WorkedOn
+pub mod Members
 pub mod SameNodes
 pub mod Weights
 pub mod TeamNodes
@@ -20,3 +19,4 @@ pub mod TeamIds
 pub mod TeamCounts
 pub mod TeamFinds
 pub mod TeamSearch
+pub mod Searching

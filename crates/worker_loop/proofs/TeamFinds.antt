@@ -10,8 +10,8 @@ use Rattle.incumbent.specs.Least.{least_of}
 use Rattle.incumbent.specs.Seat.{all_offers}
 use Rattle.search_core.specs.declared.gathered.Segment.{Segment}
 use Rattle.search_core.specs.Complete.{least_found, less_found, without_gone}
+use Rattle.worker_loop.specs.Run.{IsFound}
 use Rattle.worker_loop.specs.Team.{HaveRun, Member, segments_of, sights}
-use Rattle.worker_loop.specs.UnderWay.{IsFound}
 
 least_low : (start : ℕ) (xs : List ℕ) → least_of start xs ≤ start
 least_low start [] = omega arith

@@ -3,8 +3,8 @@ pub mod Deciding
 pub mod Raising
 pub mod Step
 pub mod Finding
-pub mod UnderWay
-pub mod Work
 pub mod Sound
 pub mod Run
+pub mod Progress
+pub mod Slots
 pub mod Team

@@ -1,8 +1,10 @@
 -- What one worker did in a whole run. Helpers' clauses cite this, and no public one.
-use Rattle.std.specs.Prelude.{◌≡◌, ℕ, ◌+◌, ◌*◌, ◌<◌, ◌≤◌, List, [], ◌∷◌, length, map, Option, Some, None, All, IfSome}
+use Rattle.std.specs.Prelude.{◌≡◌, ℕ, ◌+◌, ◌*◌, ◌<◌, ◌≤◌, List, [], ◌∷◌, length, map, Option, All, IfSome}
 use Rattle.std.specs.List.{flat_map, sum_by}
 use Rattle.st_model.specs.declared.branch.Branch.{Branch}
 use Rattle.st_model.specs.declared.tree.Tree.{Tree}
+use Rattle.st_model.specs.Arborescence.{IsTree, cost}
+use Rattle.st_model.specs.Branch.{Belongs}
 use Rattle.st_model.specs.Network.{Network}
 use Rattle.cut_packing.specs.declared.packing.Packing.{Packing}
 use Rattle.cut_packing.specs.Packing.{weight}
@@ -14,7 +16,7 @@ use Rattle.incumbent.specs.Least.{least_of}
 use Rattle.incumbent.specs.Seat.{Known as Sight}
 use Rattle.open_ledger.specs.Seat.{Known as Account}
 use Rattle.node_pool.specs.Pool.{Station, gave, took}
-use Rattle.search_core.specs.Complete.{done_id, half_ids, less_found, times}
+use Rattle.search_core.specs.Complete.{done_id, half_ids, less_found, times, without_gone}
 use Rattle.search_core.specs.Needs.{AllowsSplit}
 use Rattle.search_core.specs.declared.done.Done.{Done}
 use Rattle.search_core.specs.declared.done.Done.TheVariants.{Split, Close}
@@ -23,7 +25,6 @@ use Rattle.search_core.specs.declared.done.End.TheVariants.{OpenZero, ClaimRefus
 use Rattle.search_core.specs.declared.gathered.Segment.{Segment}
 use Rattle.worker_loop.specs.Node.{IsWritableNode}
 use Rattle.worker_loop.specs.Sound.{IsSound}
-use Rattle.worker_loop.specs.UnderWay.{IsFound}
 
 -- the node that a worker worked on, and the record of it
 pub record Task : Type 0 where
@@ -89,6 +90,12 @@ drawn_ids done = flat_map half_ids done
 pub record AreDrawn (seat workers : ℕ) (done : List Done) : Type 0 where
   pub once : (id : ℕ) → times id (drawn_ids done) ≤ 1
   pub own : (id : ℕ) → 0 < times id (drawn_ids done) → (j : ℕ) × (id ≡ 1 + seat + workers * j)
+
+-- a tree that reaches nobody gone, and is cheaper than the start
+pub record IsFound (I : Network) (gone : List ℕ) (start : ℕ) (t : Tree) : Type 0 where
+  pub tree : IsTree I t
+  pub belongs : Belongs (without_gone gone) t
+  pub cheaper : cost I t < start
 
 -- the best tree that was found, if there is one: its cost is the least that was offered
 pub record IsOffered (I : Network) (gone : List ℕ) (start : ℕ) (best : Option Tree) (offers : List ℕ) : Type 0 where

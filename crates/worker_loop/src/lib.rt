@@ -1,12 +1,15 @@
-//! The search for a least tree by splits, within a budget of nodes.
+//! The search for a least tree by splits, by 1 to 64 workers side by side, within a budget of nodes.
 //!
-//! A worker goes on with the half inside of the node that it split last, and else takes the node that
-//! waits longest. What `expand` finds closes a node or splits it into the half with a vertex inside
-//! and the half with it outside; each record is one node's. Of what `run_all` gathers callers may
-//! rely on search_core's *complete* and *finished*: the records and the nodes that wait are a proof
-//! tree, and nodes wait only where the whole budget was spent.
+//! A worker goes on with the half inside of the node that it split last, and else takes a node of
+//! the pool, from its own queue or another's. What `expand` finds closes a node or splits it into
+//! the half with a vertex inside and the half with it outside, which the worker gives to the pool;
+//! each record is one node's. What one worker did is known by its pass and its seats alone; the sums
+//! over all of them are put together when they are handed back. Of what `run_all` gathers callers
+//! may rely on search_core's *complete* and *finished*: the records and the nodes that wait are a
+//! proof tree, and nodes wait only where the whole budget was spent.
 #![tactic(auto)]
 
+mod aim;
 mod bettering;
 mod deciding;
 mod distances;
@@ -18,12 +21,18 @@ mod picking;
 mod raising;
 mod repairing;
 mod room;
+mod run;
 mod running;
 mod step;
+mod team;
 #[cfg(test)]
 mod tests;
+mod turn;
 mod used_up;
 mod work;
+mod worker;
 
+pub use aim::{Aim, SoundFor};
 pub use gate::{Gate, OpenGate};
 pub use running::run_all;
+pub use worker::Worker;

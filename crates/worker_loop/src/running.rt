@@ -1,33 +1,47 @@
-ghost use Rattle.std.specs.Prelude.{◌<◌, ◌≤◌, ℕ, All, IfOk, IfSome, IsFalse, IsTrue};
+ghost use Rattle.std.specs.Prelude.{◌≡◌, ◌<◌, ◌≤◌, ℕ, All, IfOk, IfSome, IsFalse, IsTrue};
 ghost use Rattle.st_model.specs.Arborescence.{IsTree, cost};
 ghost use Rattle.st_model.specs.Branch.{Belongs, IsVertexSet, NoneIsCertain};
 ghost use Rattle.st_model.specs.Lists.{has, sum_to};
 ghost use Rattle.st_model.specs.Network.{is_required, pays};
 ghost use Rattle.log_format.specs.Text.{IsWritablePacking};
 ghost use Rattle.search_core.specs.Complete.{AllPackings, IsComplete, IsFinished, without_gone};
+ghost use Rattle.worker_loop.specs.Progress.{IsAim};
+ghost use Rattle.worker_loop.specs.Team.{IsSearched};
 
 use crate::Gate;
-use crate::work::Work;
+use crate::aim::{Aim, SoundFor};
+use crate::node::root_of;
+use crate::team::{handed_back, run_team, team_of};
 use graph_store::Whole;
+use incumbent::Incumbent;
+use node_pool::{begin, close, passes_stay_a_pool};
+use open_ledger::Ledger;
 use search_core::Gathered;
-use st_model::{MAX_VERTICES, Tree, tree_cost};
+use st_model::{Listed, MAX_VERTICES, Tree, tree_cost};
 use std::alloc::{AllocError, Global};
+use std::marker::Brand;
+use std::sync::Wait;
+use std::thread::Threads;
+
+// The most claims that a ledger counts. No memory holds so many records.
+const MOST_CLAIMS: u64 = (1 << 63) - 1;
 
 /// Searches for a least tree of the instance among those that reach nobody gone, from a first one,
-/// the start. What is gathered is *complete*: its records and the nodes that wait are a proof tree.
-/// It is *finished*: the trees in it are such trees, the least value is the least of the start's
-/// cost and of theirs, and nodes wait only where the whole budget was spent. A tree is found only
-/// where it is cheaper than the start, and every packing can be written in a log. Each node that is
-/// worked on takes one unit of the budget.
+/// the start, by 1 to 64 workers. What is gathered is *complete*: its records and the nodes that
+/// wait are a proof tree. It is *finished*: the trees in it are such trees, the least value is the
+/// least of the start's cost and of theirs, and nodes wait only where the whole budget was spent. A
+/// tree is found only where it is cheaper than the start, and every packing can be written in a
+/// log. Each node that is worked on takes one unit of the budget.
 ///
-/// The calls and the promises are those of a search by so many workers. For now one alone does all,
-/// whatever their number, and the gate learns of seat 0.
-pub fn run_all<G: Gate>(
+/// Each worker runs in a thread of its own where one can be made, and else they run one after
+/// another.
+pub fn run_all<R: Threads + Wait + Sync, G: Gate>(
+    rt: &R,
     alloc: Global,
     whole: &Whole,
     gone: &[u32],
     start: &Tree,
-    _workers: u32,
+    workers: u32,
     budget: u64,
     gate: &G,
 ) -> Result<Gathered, AllocError>
@@ -38,6 +52,7 @@ pub fn run_all<G: Gate>(
     // Where nobody has to be reached, the start is no dearer than leaving everybody out.
     requires cheap { NoneIsCertain whole.now.instance (without_gone gone.now)
         → cost whole.now.instance start.now ≤ sum_to (pays whole.now.instance) whole.now.instance.n }
+    requires few { (0 < workers) × (workers ≤ 64) }
     ensures complete { IfOk result (λ G. IsComplete G whole.now.instance gone.now
         (cost whole.now.instance start.now) budget) }
     ensures finished { IfOk result (λ G. IsFinished G whole.now.instance gone.now
@@ -48,13 +63,57 @@ pub fn run_all<G: Gate>(
 {
     // So that each vertex can be written.
     prove!(whole.instance.vertices() <= MAX_VERTICES);
-    let mut work = Work::begin(alloc, gone, tree_cost(&whole.instance, start))?;
-    for _ in 0..budget {
-        let Some(node) = work.next() else {
-            return work.gathered(alloc);
-        };
-        gate.at(0, node.id);
-        work.take(alloc, whole, node)?;
+    let first = tree_cost(&whole.instance, start);
+    let gathered = searched::<Brand, R, G>(rt, alloc, whole, gone, first, workers, budget, gate)?;
+    Ok(gathered)
+}
+
+// The search for an aim, from a tree of this cost.
+fn searched<Q: Aim + Send, R: Threads + Wait + Sync, G: Gate>(
+    rt: &R,
+    alloc: Global,
+    whole: &Whole,
+    gone: &[u32],
+    first: u64,
+    workers: u32,
+    budget: u64,
+    gate: &G,
+) -> Result<Gathered, AllocError>
+    requires whole { whole.now.instance ≡ Q.instance }
+    requires gone { gone.now ≡ Q.gone }
+    requires first { first ≡ Q.start }
+    requires aim { IsAim Q.instance Q.gone Q.start }
+    requires set { IsVertexSet Q.instance.n Q.gone }
+    requires leaves { (v : ℕ) → IsTrue (has Q.gone v) → IsFalse (is_required Q.instance v) }
+    requires few { (0 < workers) × (workers ≤ 64) }
+    ensures { IfOk result (λ G. IsSearched G Q.instance Q.gone Q.start budget) }
+{
+    let allowed = budget.min(MOST_CLAIMS);
+    let root = root_of(alloc, gone)?;
+    let passes = begin::<SoundFor<Q>>(alloc, workers, root)?;
+    let (ledger, accounts) = Ledger::begin(alloc, allowed, workers)?;
+    let (incumbent, sights) = Incumbent::begin(alloc, first, workers)?;
+    let mut team = team_of(alloc, workers, passes, accounts, sights)?;
+    run_team(
+        rt,
+        alloc,
+        whole,
+        team.as_mut_slice(),
+        workers as usize,
+        gate,
+    );
+    let returned = handed_back(alloc, team)?;
+    passes_stay_a_pool();
+    let queued = close(alloc, returned.passes)?;
+    let totals = ledger.close(returned.accounts);
+    let least = incumbent.close(returned.sights);
+    if totals.claimed == MOST_CLAIMS {
+        return Err(AllocError);
     }
-    work.gathered(alloc)
+    Ok(Gathered {
+        segments: Listed::of(returned.segments),
+        queued: Listed::of(queued),
+        least,
+        claimed: totals.claimed,
+    })
 }

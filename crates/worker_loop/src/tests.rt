@@ -1,12 +1,19 @@
+ghost use Rattle.std.specs.Prelude.{◌<◌, ◌≤◌};
+
 use crate::OpenGate;
-use gates::CountingGate;
+use alone::brought_alone;
+use gates::{CountingGate, MeetingGate};
 use graph_store::Whole;
+use search_core::End;
 use st_model::{Instance, Need};
 use starting::{Outcome, run, run_without};
 use std::alloc::{AllocError, Global};
+use std::sync::Wait;
 use std::test::Fail;
+use std::thread::Threads;
 use test_instances::{link, triangle_with_centre};
 
+mod alone;
 mod brute_force;
 mod gates;
 mod starting;
@@ -16,14 +23,19 @@ mod starting;
 type Row = (u64, u64, u64, usize);
 
 // Whether a search ends so.
-fn ends_so(alloc: Global, whole: &Whole, row: Row) -> Result<bool, AllocError> {
+fn ends_so<R: Threads + Wait + Sync>(
+    rt: &R,
+    alloc: Global,
+    whole: &Whole,
+    row: Row,
+) -> Result<bool, AllocError> {
     let (budget, least, claimed, waiting) = row;
     let wanted = Outcome {
         least,
         claimed,
         waiting,
     };
-    Ok(run(alloc, whole, budget, &OpenGate)? == Some(wanted))
+    Ok(run(rt, alloc, whole, 1, budget, &OpenGate)? == Some(wanted))
 }
 
 // Sides of 4: cuts of the root close the triangle.
@@ -32,7 +44,7 @@ fn goes_through_the_centre(rt: HostRuntime) -> Result<(), Fail> {
     let instance = triangle_with_centre(rt.alloc(), 4)?;
     let whole = Whole::of(rt.alloc(), instance)?;
     for row in [(0, 6, 0, 1), (1, 6, 1, 0), (9, 6, 1, 0)] {
-        assert!(rt; ends_so(rt.alloc(), &whole, row)?, "with {row:?}");
+        assert!(rt; ends_so(&rt, rt.alloc(), &whole, row)?, "with {row:?}");
     }
     Ok(())
 }
@@ -42,7 +54,7 @@ fn goes_through_the_centre(rt: HostRuntime) -> Result<(), Fail> {
 fn avoids_the_centre(rt: HostRuntime) -> Result<(), Fail> {
     let instance = triangle_with_centre(rt.alloc(), 4)?;
     let whole = Whole::of(rt.alloc(), instance)?;
-    let got = run_without(rt.alloc(), &whole, 4, u64::MAX)?.ok_or("no tree")?;
+    let got = run_without(&rt, rt.alloc(), &whole, 4, u64::MAX)?.ok_or("no tree")?;
     assert_eq!(rt; got.least, 8);
     assert_eq!(rt; got.waiting, 0);
     Ok(())
@@ -67,7 +79,7 @@ fn finds_the_centre(rt: HostRuntime) -> Result<(), Fail> {
     let instance = Instance::build(rt.alloc(), 4, &links, &needs)?;
     let whole = Whole::of(rt.alloc(), instance)?;
     for row in [(0, 12, 0, 1), (1, 6, 1, 0)] {
-        assert!(rt; ends_so(rt.alloc(), &whole, row)?, "with {row:?}");
+        assert!(rt; ends_so(&rt, rt.alloc(), &whole, row)?, "with {row:?}");
     }
     Ok(())
 }
@@ -77,7 +89,7 @@ fn finds_the_centre(rt: HostRuntime) -> Result<(), Fail> {
 fn ties_with_the_sides(rt: HostRuntime) -> Result<(), Fail> {
     let instance = triangle_with_centre(rt.alloc(), 3)?;
     let whole = Whole::of(rt.alloc(), instance)?;
-    let got = run(rt.alloc(), &whole, u64::MAX, &OpenGate)?.ok_or("no tree")?;
+    let got = run(&rt, rt.alloc(), &whole, 1, u64::MAX, &OpenGate)?.ok_or("no tree")?;
     assert_eq!(rt; got.least, 6);
     assert_eq!(rt; got.waiting, 0);
     Ok(())
@@ -91,7 +103,7 @@ fn takes_the_cheapest_parallel_link(rt: HostRuntime) -> Result<(), Fail> {
     let instance = Instance::build(rt.alloc(), 2, &links, &needs)?;
     let whole = Whole::of(rt.alloc(), instance)?;
     for row in [(0, 3, 0, 1), (1, 3, 1, 0)] {
-        assert!(rt; ends_so(rt.alloc(), &whole, row)?, "with {row:?}");
+        assert!(rt; ends_so(&rt, rt.alloc(), &whole, row)?, "with {row:?}");
     }
     Ok(())
 }
@@ -122,10 +134,17 @@ fn odd_wheel(alloc: Global) -> Result<Whole, AllocError> {
 
 // What a search of the odd wheel within a budget ends with, if it worked on as many nodes as it
 // claims, each of which its gate saw once, and nodes wait only where these are the whole budget.
-fn crosses(alloc: Global, budget: u64) -> Result<Option<Outcome>, AllocError> {
+fn crosses<R: Threads + Wait + Sync>(
+    rt: &R,
+    alloc: Global,
+    workers: u32,
+    budget: u64,
+) -> Result<Option<Outcome>, AllocError>
+    requires { (0 < workers) × (workers ≤ 64) }
+{
     let whole = odd_wheel(alloc)?;
-    let gate = CountingGate::new();
-    let Some(got) = run(alloc, &whole, budget, &gate)? else {
+    let gate = CountingGate::new(workers);
+    let Some(got) = run(rt, alloc, &whole, workers, budget, &gate)? else {
         return Ok(None);
     };
     let spent = got.claimed == budget;
@@ -140,7 +159,7 @@ fn crosses(alloc: Global, budget: u64) -> Result<Option<Outcome>, AllocError> {
 #[test]
 fn crosses_an_odd_wheel(rt: HostRuntime) -> Result<(), Fail> {
     for (budget, claimed, waiting) in [(0, 0, 1), (1, 1, 2), (2, 2, 1), (3, 3, 0), (16, 3, 0)] {
-        let got = crosses(rt.alloc(), budget)?.ok_or("no tree")?;
+        let got = crosses(&rt, rt.alloc(), 1, budget)?.ok_or("no tree")?;
         assert_eq!(rt;
             (got.claimed, got.waiting),
             (claimed, waiting),
@@ -151,6 +170,85 @@ fn crosses_an_odd_wheel(rt: HostRuntime) -> Result<(), Fail> {
             "with budget {budget}"
         );
     }
+    Ok(())
+}
+
+// Whether so many workers find the least cost of the odd wheel by at least one split.
+fn crosses_by_a_split<R: Threads + Wait + Sync>(
+    rt: &R,
+    alloc: Global,
+    workers: u32,
+    budget: u64,
+) -> Result<bool, AllocError>
+    requires { (0 < workers) × (workers ≤ 64) }
+{
+    let Some(got) = crosses(rt, alloc, workers, budget)? else {
+        return Ok(false);
+    };
+    Ok(got.least == 10 && got.waiting == 0 && got.claimed > 1)
+}
+
+#[test]
+fn several_cross_an_odd_wheel(rt: HostRuntime) -> Result<(), Fail> {
+    assert!(rt; crosses_by_a_split(&rt, rt.alloc(), 1, u64::MAX)?);
+    assert!(rt; crosses_by_a_split(&rt, rt.alloc(), 2, 16)?);
+    assert!(rt; crosses_by_a_split(&rt, rt.alloc(), 8, u64::MAX)?);
+    Ok(())
+}
+
+// Whether a worker that is alone at the odd wheel ends where nothing is open, with nothing left.
+fn ends_alone<R: Wait>(rt: &R, alloc: Global) -> Result<bool, AllocError> {
+    let whole = odd_wheel(alloc)?;
+    let Some(segment) = brought_alone(rt, alloc, &whole, 12)? else {
+        return Ok(false);
+    };
+    let (done, left) = (segment.done.as_slice(), segment.left.as_slice());
+    Ok(
+        matches!(segment.end, End::OpenZero)
+            && segment.seen == 10
+            && done.len() == 3
+            && left.is_empty(),
+    )
+}
+
+#[test]
+fn ends_where_nothing_is_open(rt: HostRuntime) -> Result<(), Fail> {
+    assert!(rt; ends_alone(&rt, rt.alloc())?);
+    Ok(())
+}
+
+// Three workers leave nodes only where they spend the whole budget.
+#[test]
+fn three_spend_each_budget(rt: HostRuntime) -> Result<(), Fail> {
+    for budget in 0..8 {
+        let got = crosses(&rt, rt.alloc(), 3, budget)?;
+        assert!(rt; got.is_some(), "with budget {budget}");
+    }
+    Ok(())
+}
+
+#[test]
+fn eight_agree_each_time(rt: HostRuntime) -> Result<(), Fail> {
+    for turn in 0..100 {
+        assert!(rt;
+            crosses_by_a_split(&rt, rt.alloc(), 8, u64::MAX)?,
+            "at turn {turn}"
+        );
+    }
+    Ok(())
+}
+
+// The half that one worker gives is taken by the other while the first is at its own.
+fn meets<R: Threads + Wait + Sync>(rt: &R, alloc: Global) -> Result<bool, AllocError> {
+    let whole = odd_wheel(alloc)?;
+    let gate = MeetingGate::new();
+    let found = run(rt, alloc, &whole, 2, u64::MAX, &gate)?;
+    Ok(gate.has_met() && found.map(|end| end.least) == Some(10))
+}
+
+#[test]
+fn two_share_the_halves(rt: HostRuntime) -> Result<(), Fail> {
+    assert!(rt; meets(&rt, rt.alloc())?);
     Ok(())
 }
 
@@ -170,7 +268,7 @@ fn leaves_the_least(rt: HostRuntime) -> Result<(), Fail> {
         (3, 6, 3, 0),
         (9, 6, 3, 0),
     ] {
-        assert!(rt; ends_so(rt.alloc(), &whole, row)?, "with {row:?}");
+        assert!(rt; ends_so(&rt, rt.alloc(), &whole, row)?, "with {row:?}");
     }
     Ok(())
 }
@@ -210,7 +308,7 @@ fn closes_by_a_guess(rt: HostRuntime) -> Result<(), Fail> {
     ];
     let instance = Instance::build(rt.alloc(), 11, &links, &needs)?;
     let whole = Whole::of(rt.alloc(), instance)?;
-    assert!(rt; ends_so(rt.alloc(), &whole, (1, 14, 1, 0))?);
+    assert!(rt; ends_so(&rt, rt.alloc(), &whole, (1, 14, 1, 0))?);
     Ok(())
 }
 
@@ -218,6 +316,6 @@ fn closes_by_a_guess(rt: HostRuntime) -> Result<(), Fail> {
 fn stays_at_one_vertex(rt: HostRuntime) -> Result<(), Fail> {
     let instance = Instance::build(rt.alloc(), 1, &[], &[(1, Need::Required)])?;
     let whole = Whole::of(rt.alloc(), instance)?;
-    assert!(rt; ends_so(rt.alloc(), &whole, (1, 0, 1, 0))?);
+    assert!(rt; ends_so(&rt, rt.alloc(), &whole, (1, 0, 1, 0))?);
     Ok(())
 }

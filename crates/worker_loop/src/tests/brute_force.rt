@@ -76,7 +76,7 @@ fn agrees_with_all_subsets(rt: HostRuntime) -> Result<(), Fail> {
         let instance = Draws { state: seed }.instance(rt.alloc())?;
         let want = least_over_sets(&instance);
         let whole = Whole::of(rt.alloc(), instance)?;
-        let got = run(rt.alloc(), &whole, u64::MAX, &OpenGate)?;
+        let got = run(&rt, rt.alloc(), &whole, 2, u64::MAX, &OpenGate)?;
         assert_eq!(rt;
             got.map(|end| (end.least, end.waiting)),
             want.map(|cost| (cost, 0)),

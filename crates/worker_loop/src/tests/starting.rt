@@ -1,4 +1,4 @@
-ghost use Rattle.std.specs.Prelude.{◌≤◌, IfSome, IfNone, IsTrue};
+ghost use Rattle.std.specs.Prelude.{◌<◌, ◌≤◌, IfSome, IfNone, IsTrue};
 ghost use Rattle.st_model.specs.Arborescence.{cost};
 ghost use Rattle.st_model.specs.Lists.{sum_to};
 ghost use Rattle.st_model.specs.Network.{IsVertex, is_required, pays};
@@ -9,6 +9,8 @@ use graph_store::Whole;
 use search_core::Gathered;
 use st_model::{Branch, Instance, Listed, Need, Sides, Tree, is_tree};
 use std::alloc::{AllocError, Global};
+use std::sync::Wait;
+use std::thread::Threads;
 use tree_heuristic::first_tree;
 
 // How a search ended.
@@ -21,29 +23,39 @@ pub struct Outcome {
 
 // What a search ends with, from a tree over all links where somebody is required, and else from
 // vertex 1 alone. None where that isn't a tree.
-pub fn run<G: Gate>(
+pub fn run<R: Threads + Wait + Sync, G: Gate>(
+    rt: &R,
     alloc: Global,
     whole: &Whole,
-    budget: u64,
-    gate: &G,
-) -> Result<Option<Outcome>, AllocError> {
-    match first_required(&whole.instance) {
-        Some(vertex) => {
-            let start = grown(alloc, &whole.instance, vertex)?;
-            run_from(alloc, whole, start, budget, gate)
-        }
-        None => run_from(alloc, whole, lone(alloc, &whole.instance), budget, gate),
-    }
-}
-
-fn run_from<G: Gate>(
-    alloc: Global,
-    whole: &Whole,
-    start: Tree,
+    workers: u32,
     budget: u64,
     gate: &G,
 ) -> Result<Option<Outcome>, AllocError>
-    requires { NoneIsCertain whole.now.instance all_trees
+    requires { (0 < workers) × (workers ≤ 64) }
+{
+    match first_required(&whole.instance) {
+        Some(vertex) => {
+            let start = grown(alloc, &whole.instance, vertex)?;
+            run_from(rt, alloc, whole, start, workers, budget, gate)
+        }
+        None => {
+            let start = lone(alloc, &whole.instance);
+            run_from(rt, alloc, whole, start, workers, budget, gate)
+        }
+    }
+}
+
+fn run_from<R: Threads + Wait + Sync, G: Gate>(
+    rt: &R,
+    alloc: Global,
+    whole: &Whole,
+    start: Tree,
+    workers: u32,
+    budget: u64,
+    gate: &G,
+) -> Result<Option<Outcome>, AllocError>
+    requires few { (0 < workers) × (workers ≤ 64) }
+    requires cheap { NoneIsCertain whole.now.instance all_trees
         → cost whole.now.instance start ≤ sum_to (pays whole.now.instance) whole.now.instance.n }
 {
     if !is_tree(alloc, &whole.instance, &start)? {
@@ -51,13 +63,14 @@ fn run_from<G: Gate>(
     }
     let all = Branch::all(alloc);
     let gone = all.outside.as_slice();
-    let found = run_all(alloc, whole, gone, &start, 1, budget, gate)?;
+    let found = run_all(rt, alloc, whole, gone, &start, workers, budget, gate)?;
     Ok(Some(outcome_of(&found)))
 }
 
 // What a search of the trees that avoid a vertex ends with, from a first tree. None where there is
 // none, where the vertex is required, or where nobody is.
-pub fn run_without(
+pub fn run_without<R: Threads + Wait + Sync>(
+    rt: &R,
     alloc: Global,
     whole: &Whole,
     vertex: u32,
@@ -78,7 +91,7 @@ pub fn run_without(
         return Ok(None);
     };
     let gone = sides.branch().outside.as_slice();
-    let found = run_all(alloc, whole, gone, &start, 2, budget, &OpenGate)?;
+    let found = run_all(rt, alloc, whole, gone, &start, 2, budget, &OpenGate)?;
     Ok(Some(outcome_of(&found)))
 }
 
@@ -96,7 +109,7 @@ fn outcome_of(found: &Gathered) -> Outcome {
 }
 
 // The first vertex that is required.
-fn first_required(instance: &Instance) -> Option<u32>
+pub fn first_required(instance: &Instance) -> Option<u32>
     ensures vertex { IfSome result (IsVertex instance.now.n) }
     ensures required { IfSome result (λ v. IsTrue (is_required instance.now v)) }
     ensures none { IfNone result (NoneIsCertain instance.now all_trees) }

@@ -1,0 +1,43 @@
+-- The workers of a team in their slots, before and after they run. Helpers' clauses cite this, and no public one.
+use Rattle.std.specs.Prelude.{◌≡◌, ℕ, ◌+◌, ◌<◌, List, [], ◌∷◌, length, slice_index_or, Option, IfSome, ⊤}
+use Rattle.st_model.specs.Network.{Network}
+use Rattle.incumbent.specs.Seat.{Known as Sight}
+use Rattle.open_ledger.specs.Seat.{Known as Account}
+use Rattle.node_pool.specs.Pool.{Station}
+use Rattle.search_core.specs.declared.gathered.Segment.{Segment}
+use Rattle.worker_loop.specs.declared.team.Slot.{Slot}
+use Rattle.worker_loop.specs.Progress.{SameWorker}
+use Rattle.worker_loop.specs.Run.{HasRun, Task}
+
+abbrev pub pass_of : {Q : Type 0} → Slot Q → Station
+pass_of s = s.worker.pass
+
+abbrev pub account_of : {Q : Type 0} → Slot Q → Account
+account_of s = s.worker.ledger
+
+abbrev pub sight_of : {Q : Type 0} → Slot Q → Sight
+sight_of s = s.worker.best
+
+abbrev pub segment_of : {Q : Type 0} → Slot Q → Option Segment
+segment_of s = s.segment
+
+-- the worker in this seat of so many, which has drawn no id yet
+pub record IsSeated {Q : Type 0} (workers seat : ℕ) (s : Slot Q) : Type 0 where
+  pub seat_is : s.worker.seat ≡ seat
+  pub workers_are : s.worker.workers ≡ workers
+  pub next : s.worker.next ≡ 1 + seat
+
+-- the workers of a team of so many, from this seat on
+abbrev pub AreSeated : {Q : Type 0} → ℕ → ℕ → List (Slot Q) → Type 0
+AreSeated workers seat [] = ⊤
+AreSeated workers seat (s ∷ ss) = IsSeated workers seat s × AreSeated workers (seat + 1) ss
+
+-- a worker ran in its slot, and left there what it brings back, unless it was refused memory
+pub record HasRunIn {Q : Type 0} (I : Network) (gone : List ℕ) (start : ℕ) (before after : Slot Q) : Type 0 where
+  pub same : SameWorker before.worker after.worker
+  pub run : IfSome after.segment (λ s. (tasks : List Task)
+      × HasRun I gone start before.worker.seat before.worker.workers before.worker.pass after.worker.pass after.worker.ledger after.worker.best tasks s)
+
+-- each worker of a team ran in its slot
+abbrev pub HaveRunIn : {Q : Type 0} → Network → List ℕ → ℕ → List (Slot Q) → List (Slot Q) → Type 0
+HaveRunIn {Q} I gone start before after = (k : ℕ) (d : Slot Q) → k < length before → HasRunIn I gone start (slice_index_or before k d) (slice_index_or after k d)

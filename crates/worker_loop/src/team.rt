@@ -1,0 +1,137 @@
+ghost use Rattle.std.specs.Prelude.{◌≡◌, ◌<◌, All, IfOk, IsOk, Some, length, map};
+ghost use Rattle.worker_loop.specs.Progress.{IsAim, IsUnused};
+ghost use Rattle.worker_loop.specs.Slots.{AreSeated, HasRunIn, HaveRunIn, account_of, pass_of, segment_of, sight_of};
+
+use crate::aim::{Aim, SoundFor};
+use crate::gate::Gate;
+use crate::worker::Worker;
+use graph_store::Whole;
+use incumbent::BestSeat;
+use node_pool::Pass;
+use open_ledger::LedgerSeat;
+use search_core::Segment;
+use std::alloc::{AllocError, Global};
+use std::sync::Wait;
+use std::thread;
+use std::thread::Threads;
+
+/// A worker, and what it brought back, unless it was refused memory.
+#[derive(Drop)]
+pub struct Slot<Q: Aim> {
+    pub worker: Worker<Q>,
+    pub segment: Option<Segment>,
+}
+
+/// What a team hands back: its passes, its seats, and what each worker brought.
+#[derive(Drop)]
+pub struct Returned<Q: Aim> {
+    pub passes: Vec<Pass<SoundFor<Q>>>,
+    pub accounts: Vec<LedgerSeat>,
+    pub sights: Vec<BestSeat>,
+    pub segments: Vec<Segment>,
+}
+
+impl<Q: Aim> Slot<Q> {
+    fn run<R: Wait, G: Gate>(&mut self, rt: &R, alloc: Global, whole: &Whole, gate: &G)
+        requires whole { whole.now.instance ≡ Q.instance }
+        requires aim { IsAim Q.instance Q.gone Q.start }
+        requires unused { IsUnused Q.start self.old.worker }
+        ensures { HasRunIn Q.instance Q.gone Q.start self.old self.new }
+    {
+        self.segment = self.worker.run(rt, alloc, whole, gate).ok();
+    }
+}
+
+/// The workers with these passes and seats, the first in seat 0.
+pub fn team_of<Q: Aim>(
+    alloc: Global,
+    workers: u32,
+    passes: Vec<Pass<SoundFor<Q>>>,
+    accounts: Vec<LedgerSeat>,
+    sights: Vec<BestSeat>,
+) -> Result<Vec<Slot<Q>>, AllocError>
+    requires passes { length passes.items ≡ workers }
+    requires accounts { length accounts.items ≡ workers }
+    requires sights { length sights.items ≡ workers }
+    ensures seats { IfOk result (λ team. AreSeated workers 0 team.items) }
+    ensures passes { IfOk result (λ team. map pass_of team.items ≡ passes.items) }
+    ensures accounts { IfOk result (λ team. map account_of team.items ≡ accounts.items) }
+    ensures sights { IfOk result (λ team. map sight_of team.items ≡ sights.items) }
+{
+    let mut team = Vec::new(alloc);
+    let mut passes = passes.into_iter();
+    let mut accounts = accounts.into_iter();
+    let mut sights = sights.into_iter();
+    for seat in 0..workers {
+        let Some(pass) = passes.next() else {
+            return Err(AllocError);
+        };
+        let Some(account) = accounts.next() else {
+            return Err(AllocError);
+        };
+        let Some(sight) = sights.next() else {
+            return Err(AllocError);
+        };
+        team.push(Slot {
+            worker: Worker::of(seat, workers, pass, account, sight),
+            segment: None,
+        })?;
+    }
+    Ok(team)
+}
+
+/// Runs each worker of a team, in a thread of its own where one can be made.
+pub fn run_team<Q: Aim + Send, R: Threads + Wait + Sync, G: Gate>(
+    rt: &R,
+    alloc: Global,
+    whole: &Whole,
+    team: &mut [Slot<Q>],
+    threads: usize,
+    gate: &G,
+)
+    requires threads { 0 < threads }
+    requires whole { whole.now.instance ≡ Q.instance }
+    requires aim { IsAim Q.instance Q.gone Q.start }
+    requires unused { All (λ s. IsUnused Q.start s.worker) team.old }
+    ensures { HaveRunIn Q.instance Q.gone Q.start team.old team.new }
+{
+    thread::for_each_mut(
+        rt,
+        team,
+        threads,
+        &|_, slot: &mut Slot<Q>|
+            requires { (whole.now.instance ≡ Q.instance) × IsAim Q.instance Q.gone Q.start × IsUnused Q.start slot.now.worker }
+            ensures { HasRunIn Q.instance Q.gone Q.start slot.entry.now slot.exit.now }
+        { slot.run(rt, alloc, whole, gate) },
+    );
+}
+
+/// What a team hands back that has run. Err: a worker was refused memory.
+pub fn handed_back<Q: Aim>(alloc: Global, team: Vec<Slot<Q>>) -> Result<Returned<Q>, AllocError>
+    ensures passes { IfOk result (λ r. r.passes.items ≡ map pass_of team.items) }
+    ensures accounts { IfOk result (λ r. r.accounts.items ≡ map account_of team.items) }
+    ensures sights { IfOk result (λ r. r.sights.items ≡ map sight_of team.items) }
+    ensures segments { IfOk result (λ r. map Some r.segments.items ≡ map segment_of team.items) }
+{
+    let mut passes = Vec::new(alloc);
+    let mut accounts = Vec::new(alloc);
+    let mut sights = Vec::new(alloc);
+    let mut segments = Vec::new(alloc);
+    for slot in team {
+        let Slot { worker, segment } = slot;
+        let Some(segment) = segment else {
+            return Err(AllocError);
+        };
+        let (pass, account, sight) = worker.back();
+        passes.push(pass)?;
+        accounts.push(account)?;
+        sights.push(sight)?;
+        segments.push(segment)?;
+    }
+    Ok(Returned {
+        passes,
+        accounts,
+        sights,
+        segments,
+    })
+}

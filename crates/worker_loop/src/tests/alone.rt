@@ -1,0 +1,68 @@
+ghost use Rattle.std.specs.Prelude.{◌≡◌, ℕ, IsFalse, IsTrue};
+ghost use Rattle.st_model.specs.Branch.{IsVertexSet};
+ghost use Rattle.st_model.specs.Lists.{has};
+ghost use Rattle.st_model.specs.Network.{is_required};
+ghost use Rattle.worker_loop.specs.Progress.{IsAim};
+
+use super::starting::first_required;
+use crate::aim::{Aim, SoundFor};
+use crate::node::root_of;
+use crate::{OpenGate, Worker};
+use graph_store::Whole;
+use incumbent::Incumbent;
+use node_pool::begin;
+use open_ledger::Ledger;
+use search_core::Segment;
+use st_model::{Branch, Need};
+use std::alloc::{AllocError, Global};
+use std::marker::Brand;
+use std::sync::Wait;
+
+// What the only worker of a team brings back of a whole instance in which somebody is required, from
+// a tree of this cost.
+pub fn brought_alone<R: Wait>(
+    rt: &R,
+    alloc: Global,
+    whole: &Whole,
+    first: u64,
+) -> Result<Option<Segment>, AllocError> {
+    let Some(certain) = first_required(&whole.instance) else {
+        return Ok(None);
+    };
+    prove!(whole.instance.need(certain) == Need::Required);
+    let all = Branch::all(alloc);
+    let gone = all.outside.as_slice();
+    let segment = run_alone::<Brand, R>(rt, alloc, whole, gone, first)?;
+    Ok(segment)
+}
+
+fn run_alone<Q: Aim, R: Wait>(
+    rt: &R,
+    alloc: Global,
+    whole: &Whole,
+    gone: &[u32],
+    first: u64,
+) -> Result<Option<Segment>, AllocError>
+    requires whole { whole.now.instance ≡ Q.instance }
+    requires gone { gone.now ≡ Q.gone }
+    requires first { first ≡ Q.start }
+    requires aim { IsAim Q.instance Q.gone Q.start }
+    requires set { IsVertexSet Q.instance.n Q.gone }
+    requires leaves { (v : ℕ) → IsTrue (has Q.gone v) → IsFalse (is_required Q.instance v) }
+{
+    let root = root_of(alloc, gone)?;
+    let mut passes = begin::<SoundFor<Q>>(alloc, 1, root)?;
+    let (_ledger, mut accounts) = Ledger::begin(alloc, 100, 1)?;
+    let (_incumbent, mut sights) = Incumbent::begin(alloc, first, 1)?;
+    let Some(pass) = passes.pop() else {
+        return Ok(None);
+    };
+    let Some(account) = accounts.pop() else {
+        return Ok(None);
+    };
+    let Some(sight) = sights.pop() else {
+        return Ok(None);
+    };
+    let mut worker = Worker::of(0, 1, pass, account, sight);
+    Ok(Some(worker.run(rt, alloc, whole, &OpenGate)?))
+}

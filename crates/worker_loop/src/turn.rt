@@ -1,0 +1,149 @@
+ghost use Rattle.std.specs.Prelude.{◌≡◌, ◌≤◌, ◌∷◌, [], IfOk, OnOk};
+ghost use Rattle.std.specs.Option.{option_to_list};
+ghost use Rattle.cut_packing.specs.ProofTree.{IsSplit};
+ghost use Rattle.node_pool.specs.Pool.{Station};
+ghost use Rattle.search_core.specs.declared.done.Done.{Done};
+ghost use Rattle.worker_loop.specs.Progress.{Adopts, HasTurned, HasWorked, IsAim, IsClosed, IsHalved, IsWorkedOn, SameWorker, moment};
+ghost use Rattle.worker_loop.specs.Sound.{IsSound};
+
+use crate::aim::Aim;
+use crate::expanding::expand;
+use crate::gate::Gate;
+use crate::step::{End, Priced, Step};
+use crate::work::Work;
+use crate::worker::Worker;
+use branching::{Node, halves};
+use cut_packing::Packing;
+use graph_store::Whole;
+use open_ledger::Why;
+use search_core::{Done, End as Ending};
+use std::alloc::{AllocError, Global};
+
+/// How a turn ends.
+#[derive(Drop)]
+pub enum Turn {
+    /// The worker goes on, with this node in hand if there is one.
+    Next(Option<Node>),
+    /// The worker ends, and leaves this node undone.
+    Left(Node, Ending),
+}
+
+impl<Q: Aim> Worker<Q> {
+    // One turn with a node in hand.
+    pub(crate) fn turn<G: Gate>(
+        &mut self,
+        alloc: Global,
+        whole: &Whole,
+        gate: &G,
+        node: Node,
+        work: &mut Work,
+    ) -> Result<Turn, AllocError>
+        requires whole { whole.now.instance ≡ Q.instance }
+        requires aim { IsAim Q.instance Q.gone Q.start }
+        requires node { IsSound Q.instance Q.gone node }
+        requires low { self.old.best.lowest ≤ Q.start }
+        requires unrefused { self.old.ledger.tally.refused ≡ 0 }
+        ensures same { SameWorker self.old self.new }
+        ensures turned { IfOk result (λ t. (p : Station)
+            → HasWorked Q.instance Q.gone Q.start self.old.seat self.old.workers p (moment self.old work.old) (node ∷ [])
+            → HasTurned Q.instance Q.gone Q.start self.old.seat self.old.workers p (moment self.new work.new) t) }
+    {
+        if self.ledger.see_halt() {
+            return Ok(Turn::Left(node, Ending::HaltSeen));
+        }
+        if !self.ledger.claim() {
+            self.ledger.halt(Why::Refused);
+            return Ok(Turn::Left(node, Ending::ClaimRefused));
+        }
+        gate.at(self.seat, node.id);
+        let half = self.work_on(alloc, whole, node, work)?;
+        Ok(Turn::Next(half))
+    }
+
+    // Works on a node that was claimed: the half to go on with, if it was split.
+    fn work_on(
+        &mut self,
+        alloc: Global,
+        whole: &Whole,
+        node: Node,
+        work: &mut Work,
+    ) -> Result<Option<Node>, AllocError>
+        requires whole { whole.now.instance ≡ Q.instance }
+        requires aim { IsAim Q.instance Q.gone Q.start }
+        requires node { IsSound Q.instance Q.gone node }
+        requires low { self.old.best.lowest ≤ Q.start }
+        ensures same { SameWorker self.old self.new }
+        ensures worked { IfOk result (λ half. (d : Done) × IsWorkedOn Q.instance Q.gone Q.start self.old.seat
+            self.old.workers node (moment self.old work.old) (moment self.new work.new) (option_to_list half) d) }
+    {
+        let id = node.id;
+        work.seen = self.best.see();
+        let Step { better, end } = expand(alloc, whole, node, work.seen)?;
+        self.adopt(better, work);
+        match end {
+            End::Close(packing) => {
+                self.close(id, packing, work)?;
+                Ok(None)
+            }
+            End::Split(node, vertex) => {
+                let inside = self.split(alloc, id, node, vertex, work)?;
+                Ok(Some(inside))
+            }
+        }
+    }
+
+    // Keeps a better tree, if there is one, and then offers what it costs.
+    fn adopt(&mut self, better: Option<Priced>, work: &mut Work)
+        ensures same { (self.new.seat ≡ self.old.seat) × (self.new.workers ≡ self.old.workers)
+            × (self.new.next ≡ self.old.next) × (self.new.pass ≡ self.old.pass) × (self.new.ledger ≡ self.old.ledger) }
+        ensures adopts { Adopts better self.old.best self.new.best work.old work.new }
+    {
+        if let Some(Priced { tree, price }) = better {
+            work.best = Some(tree);
+            work.seen = self.best.offer(price);
+        }
+    }
+
+    // Records that the node under an id was closed, after which one less is open.
+    fn close(&mut self, id: u64, packing: Packing, work: &mut Work) -> Result<(), AllocError>
+        ensures same { SameWorker self.old self.new }
+        ensures closed { OnOk result (IsClosed id packing (moment self.old work.old) (moment self.new work.new)) }
+    {
+        work.done.push(Done::Close { id, packing })?;
+        self.ledger.down();
+        Ok(())
+    }
+
+    // Splits the node under an id, with the packing with which its halves begin: gives the half
+    // outside to the pool, and answers the one inside.
+    fn split(
+        &mut self,
+        alloc: Global,
+        id: u64,
+        node: Node,
+        vertex: u32,
+        work: &mut Work,
+    ) -> Result<Node, AllocError>
+        requires node { IsSound Q.instance Q.gone node }
+        requires vertex { IsSplit Q.instance node.branch vertex }
+        ensures same { SameWorker self.old self.new }
+        ensures halved { IfOk result (IsHalved self.old.workers id node vertex
+            (moment self.old work.old) (moment self.new work.new)) }
+    {
+        self.ledger.up();
+        let (first, second) = self.draw()?;
+        let packing = node.packing.shared(alloc)?;
+        let Ok((inside, outside)) = halves(alloc, node, vertex, first, second) else {
+            return Err(AllocError);
+        };
+        work.done.push(Done::Split {
+            id,
+            v: vertex,
+            inside: first,
+            outside: second,
+            packing,
+        })?;
+        self.give(outside)?;
+        Ok(inside)
+    }
+}
