@@ -8,6 +8,8 @@ use st_edge::{DiskShelf, MemorySink, Shelf, Sink, StdSink, send_all};
 use std::alloc::{AllocError, Global};
 use std::env;
 use std::process::ExitCode;
+use std::sync::Wait;
+use std::thread::Threads;
 use steiner_top::{OpenGate, Status, run};
 
 /// More bytes than any of the solutions has.
@@ -26,7 +28,7 @@ fn main(rt: HostRuntime) -> ExitCode {
     let mut out = StdSink::new(&rt);
     for name in names.skip(1) {
         for words in [REDUCED, PLAIN] {
-            if tell(rt.alloc(), &name, words, &mut shelf, &mut out).is_err() {
+            if tell(&rt, rt.alloc(), &name, words, &mut shelf, &mut out).is_err() {
                 return ExitCode::from(Status::NoMemory.code());
             }
         }
@@ -36,7 +38,8 @@ fn main(rt: HostRuntime) -> ExitCode {
 
 // Writes a line on a file: its name, the status of solving it by these words, and the verdict on the
 // log.
-fn tell<F: Shelf, K: Sink>(
+fn tell<R: Threads + Wait + Sync, F: Shelf, K: Sink>(
+    rt: &R,
     alloc: Global,
     name: &str,
     words: &[&str],
@@ -46,11 +49,11 @@ fn tell<F: Shelf, K: Sink>(
     let mut solution = MemorySink::of(alloc, ROOM, ROOM, Vec::new(alloc))?;
     let mut solve = words_of(alloc, &["solve", name])?;
     solve.append(&mut words_of(alloc, words)?)?;
-    let solved = run(alloc, &solve, shelf, &mut solution, &OpenGate).status;
+    let solved = run(rt, alloc, &solve, shelf, &mut solution, &OpenGate).status;
     let head = format!(in alloc; "{name} {} ", solved.code())?;
     let _ = send_all(out, head.as_bytes());
     let check = words_of(alloc, &["check", name, "log"])?;
-    let _ = run(alloc, &check, shelf, out, &OpenGate);
+    let _ = run(rt, alloc, &check, shelf, out, &OpenGate);
     Ok(())
 }
 

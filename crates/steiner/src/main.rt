@@ -16,7 +16,7 @@ fn main(rt: HostRuntime) -> ExitCode {
         Ok(words) => {
             let mut shelf = DiskShelf::new(&rt);
             let mut out = StdSink::new(&rt);
-            run(rt.alloc(), &words, &mut shelf, &mut out, &OpenGate).status
+            run(&rt, rt.alloc(), &words, &mut shelf, &mut out, &OpenGate).status
         }
         Err(_) => Status::NoMemory,
     };

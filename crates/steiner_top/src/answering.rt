@@ -16,11 +16,14 @@ use crate::trial_command::trial_command;
 use command_line::{Cmd, read_words};
 use st_edge::Shelf;
 use std::alloc::Global;
+use std::sync::Wait;
+use std::thread::Threads;
 use worker_loop::Gate;
 
 /// Does what the words ask for, up to the sending: what there is to send, or how the run ends
 /// without an answer.
-pub fn answer<F: Shelf, G: Gate>(
+pub fn answer<R: Threads + Wait + Sync, F: Shelf, G: Gate>(
+    rt: &R,
     alloc: Global,
     words: &[String],
     shelf: &mut F,
@@ -47,10 +50,10 @@ pub fn answer<F: Shelf, G: Gate>(
         (IsErrOf result Status.WriteFault) }
 {
     match read_words(alloc, words) {
-        Ok(Cmd::Solve(words)) => solve_command(alloc, &words, shelf, gate),
+        Ok(Cmd::Solve(words)) => solve_command(rt, alloc, &words, shelf, gate),
         Ok(Cmd::Check(words)) => check_command(alloc, &words, shelf),
         Ok(Cmd::Gen(words)) => Ok(gen_command(alloc, &words)?),
-        Ok(Cmd::Trial(words)) => Ok(trial_command(alloc, &words, gate)?),
+        Ok(Cmd::Trial(words)) => Ok(trial_command(rt, alloc, &words, gate)?),
         Err(fault) => Err(Status::from(fault)),
     }
 }

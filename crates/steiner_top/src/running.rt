@@ -13,6 +13,8 @@ use crate::answering::answer;
 use crate::{Outcome, Status};
 use st_edge::{Failed, Shelf, Sink, send_all};
 use std::alloc::Global;
+use std::sync::Wait;
+use std::thread::Threads;
 use worker_loop::Gate;
 
 /// How a run ended.
@@ -31,7 +33,8 @@ pub struct Ended {
 /// `check FILE LOG` loads both, and sends what may be concluded of the file from the log.
 /// `gen SEED N M T` draws an instance and sends its text. `trial SEED N M T` draws one and solves it within a budget of
 /// 1,000,000 nodes, and sends the cost of its tree and a bound; where they are equal the words say which cost that is.
-pub fn run<F: Shelf, K: Sink, G: Gate>(
+pub fn run<R: Threads + Wait + Sync, F: Shelf, K: Sink, G: Gate>(
+    rt: &R,
     alloc: Global,
     words: &[String],
     shelf: &mut F,
@@ -69,7 +72,7 @@ pub fn run<F: Shelf, K: Sink, G: Gate>(
     ensures counts { (F.write_faults shelf.old ≤ F.write_faults shelf.new) × (K.faults out.old ≤ K.faults out.new) }
 {
     stp_reader::refused_exactly();
-    match answer(alloc, words, shelf, gate) {
+    match answer(rt, alloc, words, shelf, gate) {
         Ok(answer) => send(out, answer.status, answer.outcome, &answer.text),
         Err(status) => send(out, status, None, status.line().as_bytes()),
     }

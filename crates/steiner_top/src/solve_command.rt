@@ -22,6 +22,8 @@ use dimacs_writer::solution_text;
 use log_format::write_log;
 use st_edge::Shelf;
 use std::alloc::{AllocError, Global};
+use std::sync::Wait;
+use std::thread::Threads;
 use worker_loop::Gate;
 
 // The text of what solving a file gave.
@@ -55,7 +57,8 @@ pub fn outcome_status(outcome: &Outcome) -> Status
 }
 
 // How the bytes of a file are answered.
-fn answer_bytes<G: Gate>(
+fn answer_bytes<R: Threads + Wait + Sync, G: Gate>(
+    rt: &R,
     alloc: Global,
     words: &SolveWords<'_>,
     bytes: &[u8],
@@ -64,7 +67,15 @@ fn answer_bytes<G: Gate>(
     ensures { IfOk result (λ a.
         SolveAnswer (solve_words words.now) bytes.now a.status a.outcome a.text.items) }
 {
-    match solve_bytes(alloc, bytes, words.workers, words.nodes, words.plain, gate) {
+    match solve_bytes(
+        rt,
+        alloc,
+        bytes,
+        words.workers,
+        words.nodes,
+        words.plain,
+        gate,
+    ) {
         Ok(outcome) => {
             let text = outcome_text(alloc, words, &outcome)?;
             let status = outcome_status(&outcome);
@@ -115,7 +126,8 @@ fn save<F: Shelf>(
 
 /// Loads the file, solves it and saves the log, if the words ask for it: what there is to send
 /// then, or how the run ends without it.
-pub fn solve_command<F: Shelf, G: Gate>(
+pub fn solve_command<R: Threads + Wait + Sync, F: Shelf, G: Gate>(
+    rt: &R,
     alloc: Global,
     words: &SolveWords<'_>,
     shelf: &mut F,
@@ -143,7 +155,7 @@ pub fn solve_command<F: Shelf, G: Gate>(
         Ok(bytes) => bytes,
         Err(status) => return Err(status),
     };
-    let answer = answer_bytes(alloc, words, &bytes, gate)?;
+    let answer = answer_bytes(rt, alloc, words, &bytes, gate)?;
     save(alloc, words, &answer.outcome, shelf)?;
     Ok(answer)
 }

@@ -22,14 +22,17 @@ use log_format::{Claim, Log};
 use search_core::Searched;
 use st_model::{Instance, Listed, Sides, Tree, tree_cost};
 use std::alloc::{AllocError, Global};
+use std::sync::Wait;
+use std::thread::Threads;
 use stp_reader::read_stp;
 use worker_loop::{Gate, run_all};
 
 /// Solves an STP file, all of the bytes, expanding so many nodes at most: a tree and a bound with
 /// a certificate, the bound being the tree's cost unless the budget was spent; or a certificate
 /// that there is no tree. Unless it is to be plain, the search is over what a reduction leaves. The
-/// gate learns of seat 0 alone.
-pub fn solve_bytes<G: Gate>(
+/// gate learns of each node that is worked on.
+pub fn solve_bytes<R: Threads + Wait + Sync, G: Gate>(
+    rt: &R,
     alloc: Global,
     stp: &[u8],
     workers: u32,
@@ -44,11 +47,12 @@ pub fn solve_bytes<G: Gate>(
         → (result ≡ Err (Stp (record { line = line; reason = reason }))) ⊎ (result ≡ Err NoMemory) }
 {
     stp_reader::refused_exactly();
-    solve(alloc, stp, workers, nodes, plain, gate)
+    solve(rt, alloc, stp, workers, nodes, plain, gate)
 }
 
 // Reads the file and solves its instance.
-fn solve<G: Gate>(
+fn solve<R: Threads + Wait + Sync, G: Gate>(
+    rt: &R,
     alloc: Global,
     stp: &[u8],
     workers: u32,
@@ -59,12 +63,13 @@ fn solve<G: Gate>(
     ensures { Solves nodes plain stp.now result }
 {
     let instance = read_stp(alloc, stp)?;
-    let outcome = solve_instance(alloc, &instance, workers, nodes, plain, gate)?;
+    let outcome = solve_instance(rt, alloc, &instance, workers, nodes, plain, gate)?;
     Ok(outcome)
 }
 
 /// Solves an instance, expanding so many nodes at most.
-pub fn solve_instance<G: Gate>(
+pub fn solve_instance<R: Threads + Wait + Sync, G: Gate>(
+    rt: &R,
     alloc: Global,
     instance: &Instance,
     workers: u32,
@@ -76,12 +81,13 @@ pub fn solve_instance<G: Gate>(
 {
     match wall_of(alloc, instance)? {
         Some(wall) => Ok(without_tree(instance, wall)),
-        None => find(alloc, instance, workers, nodes, plain, gate),
+        None => find(rt, alloc, instance, workers, nodes, plain, gate),
     }
 }
 
 // Takes steps of an instance that has a tree, and searches for a least tree of what they leave.
-fn find<G: Gate>(
+fn find<R: Threads + Wait + Sync, G: Gate>(
+    rt: &R,
     alloc: Global,
     instance: &Instance,
     workers: u32,
@@ -94,12 +100,13 @@ fn find<G: Gate>(
 {
     prove!(1 <= instance.vertices());
     let left = left_of(alloc, instance, plain)?;
-    let best = search_left(alloc, &left.reduced, workers, nodes, gate)?;
+    let best = search_left(rt, alloc, &left.reduced, workers, nodes, gate)?;
     found(alloc, instance, nodes, plain, left, best)
 }
 
 // Searches for a least tree of what is left.
-fn search_left<G: Gate>(
+fn search_left<R: Threads + Wait + Sync, G: Gate>(
+    rt: &R,
     alloc: Global,
     reduced: &Reduced,
     workers: u32,
@@ -117,7 +124,7 @@ fn search_left<G: Gate>(
     let start = start_tree(alloc, &whole, &sides)?;
     let gone = sides.branch().outside.as_slice();
     let first = tree_cost(&whole.instance, &start);
-    let gathered = run_all(alloc, &whole, gone, &start, workers, nodes, gate)?;
+    let gathered = run_all(rt, alloc, &whole, gone, &start, workers, nodes, gate)?;
     let tree = cheapest(
         alloc,
         &whole.instance,

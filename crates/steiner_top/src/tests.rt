@@ -2,7 +2,9 @@ use crate::{OpenGate, Status, run};
 use st_edge::{MemoryShelf, MemorySink, Shelf};
 use std::alloc::{AllocError, Global};
 use std::process::Abort;
+use std::sync::Wait;
 use std::test::Fail;
+use std::thread::Threads;
 
 mod checks;
 mod drawn;
@@ -72,22 +74,27 @@ fn sink_of(alloc: Global) -> Result<MemorySink, AllocError> {
 }
 
 /// The status of a run with these words over this shelf.
-fn status_of<F: Shelf>(alloc: Global, line: &str, shelf: &mut F) -> Result<Status, AllocError> {
+fn status_of<R: Threads + Wait + Sync, F: Shelf>(
+    rt: &R,
+    alloc: Global,
+    line: &str,
+    shelf: &mut F,
+) -> Result<Status, AllocError> {
     let words = words_of(alloc, line)?;
     let mut out = sink_of(alloc)?;
-    Ok(run(alloc, &words, shelf, &mut out, &OpenGate).status)
+    Ok(run(rt, alloc, &words, shelf, &mut out, &OpenGate).status)
 }
 
 /// How a run with these words over this shelf ends, and what it sends, in so many words.
 fn ends<F: Shelf>(
-    rt: &(impl Abort + AllocGlobal),
+    rt: &(impl Abort + AllocGlobal + Threads + Wait + Sync),
     line: &str,
     shelf: &mut F,
     want: (Status, u8, &str),
 ) -> Result<(), Fail> {
     let words = words_of(rt.alloc(), line)?;
     let mut out = sink_of(rt.alloc())?;
-    let ended = run(rt.alloc(), &words, shelf, &mut out, &OpenGate);
+    let ended = run(rt, rt.alloc(), &words, shelf, &mut out, &OpenGate);
     assert_eq!(rt; ended.status, want.0, "after {line}");
     assert_eq!(rt; ended.status.code(), want.1, "after {line}");
     assert_eq!(rt; out.bytes(), want.2.as_bytes(), "after {line}");

@@ -11,6 +11,8 @@ use command_line::TrialWords;
 use instance_gen::{generate, generated_are_connected};
 use st_model::Instance;
 use std::alloc::{AllocError, Global};
+use std::sync::Wait;
+use std::thread::Threads;
 use worker_loop::Gate;
 
 // How many nodes may be expanded.
@@ -36,7 +38,8 @@ fn summary_of(alloc: Global, outcome: &Outcome) -> Result<Vec<u8>, AllocError>
 }
 
 /// Draws an instance and solves it: what solving it gave is what there is to send, as a summary.
-pub fn trial_command<G: Gate>(
+pub fn trial_command<R: Threads + Wait + Sync, G: Gate>(
+    rt: &R,
     alloc: Global,
     words: &TrialWords,
     gate: &G,
@@ -45,7 +48,7 @@ pub fn trial_command<G: Gate>(
 {
     generated_are_connected();
     let instance = draw(alloc, words)?;
-    let outcome = solve_instance(alloc, &instance, words.workers, NODES, false, gate)?;
+    let outcome = solve_instance(rt, alloc, &instance, words.workers, NODES, false, gate)?;
     let text = summary_of(alloc, &outcome)?;
     Ok(Answer {
         status: outcome_status(&outcome),

@@ -71,7 +71,7 @@ fn accepts_what_solving_saves(rt: HostRuntime) -> Result<(), Fail> {
         let mut shelf = shelf_of(rt.alloc(), lines, &[])?;
         let words = words_of(rt.alloc(), "solve a.stp --log b")?;
         let mut out = sink_of(rt.alloc())?;
-        let ended = run(rt.alloc(), &words, &mut shelf, &mut out, &OpenGate);
+        let ended = run(&rt, rt.alloc(), &words, &mut shelf, &mut out, &OpenGate);
         assert_eq!(rt; ended.status, *status);
         assert!(rt; ended.outcome.is_some());
         ends(&rt, "check a.stp b", &mut shelf, (*status, *code, line))?;

@@ -3,7 +3,9 @@ use crate::{OpenGate, Outcome, Status, run};
 use st_edge::MemoryShelf;
 use std::alloc::{AllocError, Global};
 use std::process::Abort;
+use std::sync::Wait;
 use std::test::Fail;
+use std::thread::Threads;
 
 /// The next of some numbers that look random (Park and Miller 1988).
 fn draw(state: &mut u64, below: u64) -> u64 {
@@ -38,14 +40,18 @@ fn file_of(alloc: Global, seed: u64) -> Result<String, AllocError> {
 }
 
 /// Solves a drawn file by these words, and checks the log that is saved: it shows the same cost.
-fn is_accepted(rt: &(impl Abort + AllocGlobal), seed: u64, line: &str) -> Result<(), Fail> {
+fn is_accepted(
+    rt: &(impl Abort + AllocGlobal + Threads + Wait + Sync),
+    seed: u64,
+    line: &str,
+) -> Result<(), Fail> {
     let text = file_of(rt.alloc(), seed)?;
     let mut texts = Vec::new(rt.alloc());
     texts.push((String::from_str(rt.alloc(), "a.stp")?, text.into_bytes()))?;
     let mut shelf = MemoryShelf::of(rt.alloc(), texts, Vec::new(rt.alloc()));
     let words = words_of(rt.alloc(), line)?;
     let mut out = sink_of(rt.alloc())?;
-    let ended = run(rt.alloc(), &words, &mut shelf, &mut out, &OpenGate);
+    let ended = run(&rt, rt.alloc(), &words, &mut shelf, &mut out, &OpenGate);
     let Some(Outcome::Found { primal, dual, .. }) = ended.outcome else {
         return Err(Fail::new("no tree"));
     };

@@ -3,7 +3,9 @@ use super::{TRIANGLE, ends, shelf_of, sink_of, words_of};
 use crate::{OpenGate, Outcome, Status, run};
 use std::alloc::Global;
 use std::process::Abort;
+use std::sync::Wait;
 use std::test::Fail;
+use std::thread::Threads;
 
 /// What is sent for `gen 1 3 3 2`.
 const DRAWN: &str =
@@ -48,11 +50,15 @@ fn tries_what_is_drawn(rt: HostRuntime) -> Result<(), Fail> {
 }
 
 /// What a line gives, and what is sent.
-fn sent_for(alloc: Global, line: &str) -> Result<(Status, Option<Outcome>, Vec<u8>), Fail> {
+fn sent_for<R: Threads + Wait + Sync>(
+    rt: &R,
+    alloc: Global,
+    line: &str,
+) -> Result<(Status, Option<Outcome>, Vec<u8>), Fail> {
     let words = words_of(alloc, line)?;
     let mut shelf = shelf_of(alloc, TRIANGLE, &[])?;
     let mut out = sink_of(alloc)?;
-    let ended = run(alloc, &words, &mut shelf, &mut out, &OpenGate);
+    let ended = run(rt, alloc, &words, &mut shelf, &mut out, &OpenGate);
     let sent = Vec::from_slice(alloc, out.bytes())?;
     Ok((ended.status, ended.outcome, sent))
 }
@@ -60,8 +66,8 @@ fn sent_for(alloc: Global, line: &str) -> Result<(Status, Option<Outcome>, Vec<u
 /// Where one worker and four of them prove a cost the least, it is the same.
 #[test]
 fn tries_alike_with_four_workers(rt: HostRuntime) -> Result<(), Fail> {
-    let (one, first, lines) = sent_for(rt.alloc(), "trial 20 300 600 12")?;
-    let (four, second, others) = sent_for(rt.alloc(), "trial 20 300 600 12 --workers 4")?;
+    let (one, first, lines) = sent_for(&rt, rt.alloc(), "trial 20 300 600 12")?;
+    let (four, second, others) = sent_for(&rt, rt.alloc(), "trial 20 300 600 12 --workers 4")?;
     assert!(rt; matches!(first, Some(Outcome::Found { .. })));
     assert!(rt; matches!(second, Some(Outcome::Found { .. })));
     if one == Status::Optimal && four == Status::Optimal {

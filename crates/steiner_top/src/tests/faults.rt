@@ -4,7 +4,9 @@ use crate::{OpenGate, Status, run};
 use st_edge::{LoadFault, MemorySink, SaveFault, Shelf};
 use std::alloc::Global;
 use std::process::Abort;
+use std::sync::Wait;
 use std::test::Fail;
+use std::thread::Threads;
 
 /// A name that the shelf doesn't hold, and calls of the shelf that fail.
 const READ_FAULTS: &[(&str, u64)] = &[
@@ -33,7 +35,7 @@ fn ends_at_each_write_that_fails(rt: HostRuntime) -> Result<(), Fail> {
         let failing = Vec::from_slice(rt.alloc(), &[write])?;
         let mut out = MemorySink::of(rt.alloc(), 1_000, 1, failing)?;
         let words = words_of(rt.alloc(), "solve a.stp --log b")?;
-        let ended = run(rt.alloc(), &words, &mut shelf, &mut out, &OpenGate);
+        let ended = run(&rt, rt.alloc(), &words, &mut shelf, &mut out, &OpenGate);
         assert_eq!(rt; ended.status, Status::WriteFault);
         assert!(rt; ended.outcome.is_none());
         assert_eq!(rt;
@@ -96,12 +98,12 @@ const ROWS: &[Row] = &[
 ];
 
 /// Whether a run ends as its row says.
-fn ends_as(alloc: Global, row: &Row) -> Result<bool, Fail> {
+fn ends_as<R: Threads + Wait + Sync>(rt: &R, alloc: Global, row: &Row) -> Result<bool, Fail> {
     let mut shelf = shelf_of(alloc, TRIANGLE, row.calls)?;
     let failing = Vec::from_slice(alloc, row.writes)?;
     let mut out = MemorySink::of(alloc, row.room, 1, failing)?;
     let words = words_of(alloc, "solve a.stp --log b")?;
-    let code = run(alloc, &words, &mut shelf, &mut out, &OpenGate)
+    let code = run(rt, alloc, &words, &mut shelf, &mut out, &OpenGate)
         .status
         .code();
     let is_saved = shelf.text_of("b").is_some();
@@ -111,7 +113,7 @@ fn ends_as(alloc: Global, row: &Row) -> Result<bool, Fail> {
 #[test]
 fn ends_where_devices_fail(rt: HostRuntime) -> Result<(), Fail> {
     for row in ROWS {
-        assert!(rt; ends_as(rt.alloc(), row)?, "where {}", row.name);
+        assert!(rt; ends_as(&rt, rt.alloc(), row)?, "where {}", row.name);
     }
     Ok(())
 }

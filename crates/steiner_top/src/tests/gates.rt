@@ -3,8 +3,10 @@ use crate::{Gate, Outcome, solve_bytes};
 use log_format::{Claim, Log};
 use std::alloc::Global;
 use std::process::Abort;
+use std::sync::Wait;
 use std::sync::atomic::{AtomicU64, Ordering};
 use std::test::Fail;
+use std::thread::Threads;
 
 /// Counts the nodes that it is shown, as long as each is a new one below 64 and from seat 0.
 #[derive(Drop)]
@@ -49,10 +51,16 @@ fn lines_of(log: &Log) -> u64 {
 }
 
 /// Whether as many nodes are shown as the proof has lines, each once.
-fn shows_each_line(alloc: Global, lines: &str, nodes: u64, plain: bool) -> Result<bool, Fail> {
+fn shows_each_line<R: Threads + Wait + Sync>(
+    rt: &R,
+    alloc: Global,
+    lines: &str,
+    nodes: u64,
+    plain: bool,
+) -> Result<bool, Fail> {
     let text = text_of(alloc, lines)?;
     let gate = CountingGate::new();
-    let Ok(outcome) = solve_bytes(alloc, &text, 1, nodes, plain, &gate) else {
+    let Ok(outcome) = solve_bytes(rt, alloc, &text, 1, nodes, plain, &gate) else {
         return Ok(false);
     };
     let expanded = gate.nodes.load(Ordering::SeqCst);
@@ -67,7 +75,7 @@ const FILES: &[(&str, u64)] = &[(TRIANGLE, 16), (WHEEL, 16), (PRIZES, 8)];
 fn shows_each_node_to_the_gate_once(rt: HostRuntime) -> Result<(), Fail> {
     for (lines, nodes) in FILES {
         for plain in [true, false] {
-            let shown = shows_each_line(rt.alloc(), lines, *nodes, plain)?;
+            let shown = shows_each_line(&rt, rt.alloc(), lines, *nodes, plain)?;
             assert!(rt; shown, "for {lines}");
         }
     }
@@ -80,7 +88,7 @@ fn shows_no_more_nodes_than_the_budget(rt: HostRuntime) -> Result<(), Fail> {
     let text = text_of(rt.alloc(), WHEEL)?;
     for budget in [0, 1] {
         let gate = CountingGate::new();
-        let found = solve_bytes(rt.alloc(), &text, 1, budget, false, &gate);
+        let found = solve_bytes(&rt, rt.alloc(), &text, 1, budget, false, &gate);
         let Ok(Outcome::Found { primal, dual, .. }) = found else {
             return Err(Fail::new("no tree"));
         };

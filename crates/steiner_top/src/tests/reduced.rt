@@ -6,7 +6,9 @@ use log_format::{Claim, Log};
 use reductions::{MANY_LINKS, reduce};
 use std::alloc::{AllocError, Global};
 use std::process::Abort;
+use std::sync::Wait;
 use std::test::Fail;
+use std::thread::Threads;
 
 /// A path of three vertices that pay nothing.
 const IDLE: &str =
@@ -25,14 +27,15 @@ fn counts_of(log: &Log) -> Option<(usize, usize)> {
 }
 
 /// The same of the log of a file.
-fn solved(
+fn solved<R: Threads + Wait + Sync>(
+    rt: &R,
     alloc: Global,
     lines: &str,
     nodes: u64,
     plain: bool,
 ) -> Result<Option<(usize, usize)>, Fail> {
     let text = text_of(alloc, lines)?;
-    let Ok(outcome) = solve_bytes(alloc, &text, 1, nodes, plain, &OpenGate) else {
+    let Ok(outcome) = solve_bytes(rt, alloc, &text, 1, nodes, plain, &OpenGate) else {
         return Ok(None);
     };
     Ok(counts_of(outcome.certificate()))
@@ -43,7 +46,7 @@ fn solved(
 #[test]
 fn takes_steps_unless_it_is_plain(rt: HostRuntime) -> Result<(), Fail> {
     for lines in [TRIANGLE, WHEEL, PRIZES, IDLE, ALONE] {
-        let (steps, _) = solved(rt.alloc(), lines, 16, true)?.ok_or("no tree")?;
+        let (steps, _) = solved(&rt, rt.alloc(), lines, 16, true)?.ok_or("no tree")?;
         assert_eq!(rt; steps, 0, "for {lines}");
     }
     for (lines, want) in [
@@ -53,7 +56,7 @@ fn takes_steps_unless_it_is_plain(rt: HostRuntime) -> Result<(), Fail> {
         (IDLE, 2),
         (ALONE, 0),
     ] {
-        let (steps, _) = solved(rt.alloc(), lines, 16, false)?.ok_or("no tree")?;
+        let (steps, _) = solved(&rt, rt.alloc(), lines, 16, false)?.ok_or("no tree")?;
         assert_eq!(rt; steps, want, "for {lines}");
     }
     Ok(())
@@ -64,7 +67,7 @@ fn takes_steps_unless_it_is_plain(rt: HostRuntime) -> Result<(), Fail> {
 fn needs_no_node_where_all_is_gone(rt: HostRuntime) -> Result<(), Fail> {
     for (lines, cost) in [(TRIANGLE, 6), (IDLE, 0), (ALONE, 0)] {
         let text = text_of(rt.alloc(), lines)?;
-        let outcome = solve_bytes(rt.alloc(), &text, 1, 0, false, &OpenGate);
+        let outcome = solve_bytes(&rt, rt.alloc(), &text, 1, 0, false, &OpenGate);
         let is_cost =
             matches!(outcome, Ok(Outcome::Found { primal, dual, .. }) if primal == cost && dual == cost);
         assert!(rt; is_cost, "for {lines}");
@@ -86,7 +89,7 @@ fn accepts_logs_with_steps_and_without(rt: HostRuntime) -> Result<(), Fail> {
     for (lines, line) in CHECKED {
         for words in ["solve a.stp --log b", "solve a.stp --log b --plain"] {
             let mut shelf = shelf_of(rt.alloc(), lines, &[])?;
-            let solving = super::status_of(rt.alloc(), words, &mut shelf)?;
+            let solving = super::status_of(&rt, rt.alloc(), words, &mut shelf)?;
             assert_eq!(rt; solving, Status::Optimal, "for {lines}");
             ends(&rt, "check a.stp b", &mut shelf, (Status::Optimal, 0, line))?;
         }

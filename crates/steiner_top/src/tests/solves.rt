@@ -3,21 +3,24 @@ use crate::{OpenGate, Outcome, Status, run, solve_bytes};
 use log_format::{Claim, read_log, write_log};
 use std::alloc::Global;
 use std::process::Abort;
+use std::sync::Wait;
 use std::test::Fail;
+use std::thread::Threads;
 
 /// The solution of the triangle: its centre and the three spokes.
 pub const STAR: &str =
     "33D32945 STP File, STP Format Version 1.0\nSECTION Comment\nName \"a.stp\"\nProgram \"steiner\"\nRemark \"optimal\"\nEND\nSECTION Solutions\nSolution 0 6\nEND\nSECTION Run\nThreads 1\nTime 0\nDual 6\nPrimal 6\nEND\nSECTION Finalsolution\nVertices 4\nV 1\nV 2\nV 3\nV 4\nEdges 3\nE 1 4\nE 2 4\nE 3 4\nEND\nEOF\n";
 
 /// The dual and the primal of a file, where so many nodes may be expanded, and it is to be plain or not.
-fn numbers_of(
+fn numbers_of<R: Threads + Wait + Sync>(
+    rt: &R,
     alloc: Global,
     lines: &str,
     nodes: u64,
     plain: bool,
 ) -> Result<Option<(u64, u64)>, Fail> {
     let text = text_of(alloc, lines)?;
-    let Ok(outcome) = solve_bytes(alloc, &text, 1, nodes, plain, &OpenGate) else {
+    let Ok(outcome) = solve_bytes(rt, alloc, &text, 1, nodes, plain, &OpenGate) else {
         return Ok(None);
     };
     match outcome {
@@ -87,7 +90,7 @@ const BEST: &[(&str, u64)] = &[
 fn finds_the_best_cost(rt: HostRuntime) -> Result<(), Fail> {
     for (lines, cost) in BEST {
         for plain in [true, false] {
-            let found = numbers_of(rt.alloc(), lines, 1_000_000, plain)?;
+            let found = numbers_of(&rt, rt.alloc(), lines, 1_000_000, plain)?;
             assert_eq!(rt; found, Some((*cost, *cost)), "for {lines}");
         }
     }
@@ -110,7 +113,7 @@ fn tells_that_there_is_no_tree(rt: HostRuntime) -> Result<(), Fail> {
 /// Without a budget nothing is proved of the whole instance; the tree is that from which the search starts.
 #[test]
 fn proves_nothing_without_a_budget(rt: HostRuntime) -> Result<(), Fail> {
-    let (dual, primal) = numbers_of(rt.alloc(), TRIANGLE, 0, true)?.ok_or("no tree")?;
+    let (dual, primal) = numbers_of(&rt, rt.alloc(), TRIANGLE, 0, true)?.ok_or("no tree")?;
     assert!(rt; dual == 0 && 6 <= primal && primal <= 8, "{dual} {primal}");
     Ok(())
 }
@@ -121,7 +124,7 @@ fn proves_nothing_without_a_budget(rt: HostRuntime) -> Result<(), Fail> {
 fn starts_from_an_improved_tree(rt: HostRuntime) -> Result<(), Fail> {
     let lines =
         "H / SECTION Graph / Nodes 4 / Edges 6 / E 1 4 4 / E 2 4 4 / E 3 4 4 / E 1 2 7 / E 2 3 7 / E 1 3 7 / END / SECTION Terminals / Terminals 3 / T 1 / T 2 / T 3 / END / EOF";
-    assert_eq!(rt; numbers_of(rt.alloc(), lines, 0, true)?, Some((0, 12)));
+    assert_eq!(rt; numbers_of(&rt, rt.alloc(), lines, 0, true)?, Some((0, 12)));
     Ok(())
 }
 
@@ -131,12 +134,12 @@ fn proves_the_triangle_by_one_node(rt: HostRuntime) -> Result<(), Fail> {
     let mut shelf = shelf_of(rt.alloc(), TRIANGLE, &[])?;
     let words = words_of(rt.alloc(), "solve a.stp --nodes 1 --plain")?;
     let mut out = sink_of(rt.alloc())?;
-    let ended = run(rt.alloc(), &words, &mut shelf, &mut out, &OpenGate);
+    let ended = run(&rt, rt.alloc(), &words, &mut shelf, &mut out, &OpenGate);
     let Some(Outcome::Found { primal, dual, .. }) = ended.outcome else {
         return Err(Fail::new("no tree"));
     };
     assert!(rt; dual == 6 && 6 <= primal && primal <= 8, "{dual} {primal}");
-    let (dual, _) = numbers_of(rt.alloc(), WHEEL, 1, false)?.ok_or("no tree")?;
+    let (dual, _) = numbers_of(&rt, rt.alloc(), WHEEL, 1, false)?.ok_or("no tree")?;
     assert!(rt; dual < 10, "{dual}");
     Ok(())
 }
@@ -145,12 +148,18 @@ fn proves_the_triangle_by_one_node(rt: HostRuntime) -> Result<(), Fail> {
 #[test]
 fn spends_a_budget_on_the_wheel(rt: HostRuntime) -> Result<(), Fail> {
     for nodes in [0, 1, 2] {
-        let (dual, primal) = numbers_of(rt.alloc(), WHEEL, nodes, true)?.ok_or("no tree")?;
+        let (dual, primal) = numbers_of(&rt, rt.alloc(), WHEEL, nodes, true)?.ok_or("no tree")?;
         assert!(rt; dual <= 10 && 10 <= primal, "{nodes}: {dual} {primal}");
     }
     // Three vertices aren't required.
-    assert_eq!(rt; numbers_of(rt.alloc(), WHEEL, 16, true)?, Some((10, 10)));
-    assert_eq!(rt; numbers_of(rt.alloc(), WHEEL, 16, false)?, Some((10, 10)));
+    assert_eq!(rt;
+        numbers_of(&rt, rt.alloc(), WHEEL, 16, true)?,
+        Some((10, 10))
+    );
+    assert_eq!(rt;
+        numbers_of(&rt, rt.alloc(), WHEEL, 16, false)?,
+        Some((10, 10))
+    );
     Ok(())
 }
 

@@ -2,7 +2,9 @@ use super::{PRIZES, TRIANGLE, shelf_of, sink_of, words_of};
 use crate::{OpenGate, Status, run};
 use std::alloc::{AllocError, Global};
 use std::process::Abort;
+use std::sync::Wait;
 use std::test::Fail;
+use std::thread::Threads;
 
 /// The vertices and the edges of a tree.
 pub type Shape = (&'static [u32], &'static [(u32, u32)]);
@@ -121,7 +123,8 @@ fn is_one_of(
 }
 
 /// Whether a line sends one of these solutions of a file, as an optimal one.
-fn sends_one_of(
+fn sends_one_of<R: Threads + Wait + Sync>(
+    rt: &R,
     alloc: Global,
     line: &str,
     lines: &str,
@@ -131,7 +134,7 @@ fn sends_one_of(
     let words = words_of(alloc, line)?;
     let mut shelf = shelf_of(alloc, lines, &[])?;
     let mut out = sink_of(alloc)?;
-    let ended = run(alloc, &words, &mut shelf, &mut out, &OpenGate);
+    let ended = run(rt, alloc, &words, &mut shelf, &mut out, &OpenGate);
     let is_best = is_one_of(alloc, out.bytes(), "optimal", cost, cost, trees)?;
     Ok(is_best && ended.status == Status::Optimal)
 }
@@ -141,7 +144,7 @@ fn sends_a_best_tree(rt: HostRuntime) -> Result<(), Fail> {
     let alloc = rt.alloc();
     for (lines, cost, trees) in BEST {
         for line in ["solve a.stp", "solve a.stp --plain"] {
-            let is_best = sends_one_of(alloc, line, lines, *cost, trees)?;
+            let is_best = sends_one_of(&rt, alloc, line, lines, *cost, trees)?;
             assert!(rt; is_best, "for {lines}");
         }
     }
@@ -163,7 +166,7 @@ fn sends_a_tree_without_a_budget(rt: HostRuntime) -> Result<(), Fail> {
     let words = words_of(alloc, "solve a.stp --nodes 0 --plain")?;
     let mut shelf = shelf_of(alloc, TRIANGLE, &[])?;
     let mut out = sink_of(alloc)?;
-    let ended = run(alloc, &words, &mut shelf, &mut out, &OpenGate);
+    let ended = run(&rt, alloc, &words, &mut shelf, &mut out, &OpenGate);
     assert_eq!(rt; ended.status, Status::Budget);
     assert_eq!(rt; ended.status.code(), 3);
     let is_best = is_one_of(alloc, out.bytes(), "budget", 0, 6, SPOKES)?;
