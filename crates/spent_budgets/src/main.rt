@@ -1,0 +1,161 @@
+//! The program `spent_budgets`: solves each file that its words name with a budget of 0 nodes, of 1,
+//! of 2 and so on, until the answer is optimal; and once more plainly, without reduction steps. Each
+//! log has to be accepted, with a bound below the cost where the answer isn't optimal, and there the
+//! whole budget has to be spent. It writes the file's name and its cost, or the first budget at which
+//! that fails.
+#![tactic(auto)]
+
+use st_edge::{DiskShelf, MemorySink, Shelf, Sink, StdSink, send_all};
+use std::alloc::{AllocError, Global};
+use std::env;
+use std::process::ExitCode;
+use steiner_top::{OpenGate, Outcome, Status, run};
+
+/// More bytes than any of the solutions has.
+const ROOM: u64 = 1_000_000;
+
+/// A budget that is enough for each of the program's files.
+const ENOUGH: u64 = 200;
+
+/// How solving and checking went.
+enum Trial {
+    /// The log shows that this cost is least.
+    Optimal(u64),
+    /// The log shows a bound below the cost, and the whole budget was spent.
+    Spent,
+    /// Neither.
+    Wrong,
+}
+
+fn main(rt: HostRuntime) -> ExitCode {
+    let Ok(names) = env::args(&rt) else {
+        return ExitCode::from(Status::NoMemory.code());
+    };
+    let mut shelf = DiskShelf::new(&rt);
+    let mut out = StdSink::new(&rt);
+    for name in names.skip(1) {
+        for plain in [false, true] {
+            if tell(rt.alloc(), &name, plain, &mut shelf, &mut out).is_err() {
+                return ExitCode::from(Status::NoMemory.code());
+            }
+        }
+    }
+    ExitCode::SUCCESS
+}
+
+// Writes a line on a file.
+fn tell<F: Shelf, K: Sink>(
+    alloc: Global,
+    name: &str,
+    plain: bool,
+    shelf: &mut F,
+    out: &mut K,
+) -> Result<(), AllocError> {
+    let line = line_on(alloc, name, plain, shelf)?;
+    let _ = send_all(out, line.as_bytes());
+    Ok(())
+}
+
+// What is to be written of a file.
+fn line_on<F: Shelf>(
+    alloc: Global,
+    name: &str,
+    plain: bool,
+    shelf: &mut F,
+) -> Result<String, AllocError> {
+    for budget in 0..ENOUGH {
+        match try_budget(alloc, name, plain, budget, shelf)? {
+            Trial::Spent => {}
+            Trial::Optimal(cost) if budget == 0 => {
+                return format!(in alloc; "{name} optimal {cost} without a budget\n");
+            }
+            Trial::Optimal(cost) => {
+                return format!(in alloc; "{name} optimal {cost}, and less was spent whole\n");
+            }
+            Trial::Wrong => {
+                return format!(in alloc; "{name} wrong with a budget of {budget}\n");
+            }
+        }
+    }
+    format!(in alloc; "{name} not optimal with a budget below {ENOUGH}\n")
+}
+
+// Solves a file within a budget, and checks the log.
+fn try_budget<F: Shelf>(
+    alloc: Global,
+    name: &str,
+    plain: bool,
+    budget: u64,
+    shelf: &mut F,
+) -> Result<Trial, AllocError> {
+    let outcome = solve(alloc, name, plain, budget, shelf)?;
+    let verdict = check(alloc, name, shelf)?;
+    judge(alloc, outcome, budget, verdict.bytes())
+}
+
+// What solving a file gives, whose log is saved.
+fn solve<F: Shelf>(
+    alloc: Global,
+    name: &str,
+    plain: bool,
+    budget: u64,
+    shelf: &mut F,
+) -> Result<Option<Outcome>, AllocError> {
+    let mut words = words_of(alloc, &["solve", name, "--log", "log", "--nodes"])?;
+    words.push(format!(in alloc; "{budget}")?)?;
+    if plain {
+        words.push(String::from_str(alloc, "--plain")?)?;
+    }
+    let mut sent = MemorySink::of(alloc, ROOM, ROOM, Vec::new(alloc))?;
+    Ok(run(alloc, &words, shelf, &mut sent, &OpenGate).outcome)
+}
+
+// What is sent where the log is checked.
+fn check<F: Shelf>(alloc: Global, name: &str, shelf: &mut F) -> Result<MemorySink, AllocError> {
+    let words = words_of(alloc, &["check", name, "log"])?;
+    let mut sent = MemorySink::of(alloc, ROOM, ROOM, Vec::new(alloc))?;
+    let _ = run(alloc, &words, shelf, &mut sent, &OpenGate);
+    Ok(sent)
+}
+
+// What an outcome within a budget is, where checking its log sent this.
+fn judge(
+    alloc: Global,
+    outcome: Option<Outcome>,
+    budget: u64,
+    verdict: &[u8],
+) -> Result<Trial, AllocError> {
+    let Some(
+        Outcome::Found {
+            primal,
+            dual,
+            expanded,
+            ..
+        },
+    ) = outcome
+    else {
+        return Ok(Trial::Wrong);
+    };
+    let line = if dual == primal {
+        format!(in alloc; "optimal {primal}\n")?
+    } else {
+        format!(in alloc; "bound {dual} {primal}\n")?
+    };
+    if verdict != line.as_bytes() {
+        Ok(Trial::Wrong)
+    } else if dual == primal {
+        Ok(Trial::Optimal(primal))
+    } else if expanded == budget {
+        Ok(Trial::Spent)
+    } else {
+        Ok(Trial::Wrong)
+    }
+}
+
+fn words_of(alloc: Global, words: &[&str]) -> Result<Vec<String>, AllocError> {
+    let mut owned = Vec::new(alloc);
+    for word in words {
+        owned.push(String::from_str(alloc, word)?)?;
+    }
+    Ok(owned)
+}
