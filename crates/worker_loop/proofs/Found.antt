@@ -66,18 +66,16 @@ full_start I N P root target h e = record { branch = h.node.branch; required = h
 pub full_root : (I : Network) (N : Node) (P : Packing) (root target : ℕ) → IsRootFor I N.branch N.packing root → IsExtension I N.branch N.packing root target (Full P) → IsRootFor I N.branch P root
 full_root I N P root target rooted e = record { vertex = rooted.vertex; certain = rooted.certain; same = inr e.0.rooted }
 
+-- a better tree that was found, and the one found after it, if there is one: the later is better too
+pub found_later : (I : Network) (B : Branch) (least : ℕ) (better more : Option Priced) → IfSome better (IsBetter I B least) → IfSome more (IsBetter I B (least_after least better)) → IfSome (later better more) (IsBetter I B least)
+found_later I B least better None first h = first
+found_later I B least None (Some p) first h = record { is_tree = h.is_tree; belongs = h.belongs; is_price = h.is_price; cheaper = h.cheaper }
+found_later I B least (Some b) (Some p) first h = record { is_tree = h.is_tree; belongs = h.belongs; is_price = h.is_price; cheaper = omega (arith, h.cheaper, first.cheaper) }
+
 -- what is found after a better tree is found beside the packing
 pub found_together : (I : Network) (B : Branch) (least : ℕ) (better : Option Priced) (f : Finding) → IfSome better (IsBetter I B least) → IsFinding I B (least_after least better) f → IsFinding I B least (together better f)
-found_together I B least better f first h = record { tree = tree f.better h.tree; closes = closes f.better h.closes }
+found_together I B least better f first h = record { tree = found_later I B least better f.better first h.tree; closes = closes f.better h.closes }
   where
-    below : (b : Option Priced) → IfSome b (IsBetter I B least) → least_after least b ≤ least
-    below None better = omega arith
-    below (Some p) better = omega (arith, better.cheaper)
-
-    tree : (more : Option Priced) → IfSome more (IsBetter I B (least_after least better)) → IfSome (later better more) (IsBetter I B least)
-    tree None more = first
-    tree (Some p) more = record { is_tree = more.is_tree; belongs = more.belongs; is_price = more.is_price; cheaper = omega (arith, more.cheaper, below better first) }
-
     closes : (more : Option Priced) → IfSome f.closing (IsClosedBy I B (least_after (least_after least better) more)) → IfSome f.closing (IsClosedBy I B (least_after least (later better more)))
     closes None h = h
     closes (Some p) h = h

@@ -4,8 +4,9 @@ ghost use Rattle.st_model.specs.Arborescence.{IsTree, cost};
 ghost use Rattle.st_model.specs.Branch.{AreThose, Belongs, IsBranch, LeavesRequired};
 ghost use Rattle.st_model.specs.Network.{IsVertex};
 ghost use Rattle.worker_loop.specs.Deciding.{is_left_out};
+ghost use Rattle.worker_loop.specs.Finding.{later};
 ghost use Rattle.worker_loop.specs.Node.{IsPartOf};
-ghost use Rattle.worker_loop.specs.Step.{IsBetter};
+ghost use Rattle.worker_loop.specs.Step.{IsBetter, least_after};
 
 use crate::step::Priced;
 use crate::used_up::used_up;
@@ -17,10 +18,7 @@ use st_model::{Branch, Instance, Listed, Sides, Tree, VertexSet, tree_cost, walk
 use std::alloc::{AllocError, Global};
 use tree_heuristic::{first_tree, prune};
 
-/// A tree of the branch that costs less than the least cost known, if one is found: a first tree,
-/// pruned, over the vertices to which arcs with nothing left lead from the root, and those that have
-/// to be reached. One that costs more than the least cost known by over twice the gap hardly becomes
-/// the cheapest, and isn't improved. The gap is what the bound is below that cost.
+/// A tree of the branch that costs less than the least cost known, if `tree_near` is one.
 pub fn better_tree(
     alloc: Global,
     whole: &Whole,
@@ -32,17 +30,59 @@ pub fn better_tree(
     requires branch { IsBranch whole.now.instance branch.now }
     ensures { IfOk result (λ better. IfSome better (IsBetter whole.now.instance branch.now least)) }
 {
+    let tree = tree_near(alloc, whole, branch, arcs, least, gap)?;
+    Ok(cheaper(&whole.instance, tree, least))
+}
+
+/// A tree of the branch over the vertices to which arcs with nothing left lead from the root, if one is
+/// found. One that costs more than the least cost known by over twice the gap hardly becomes the
+/// cheapest, and isn't improved. The gap is what the bound is below that cost.
+pub fn tree_near(
+    alloc: Global,
+    whole: &Whole,
+    branch: &Sides,
+    arcs: &Arcs,
+    least: u64,
+    gap: u64,
+) -> Result<Option<Tree>, AllocError>
+    requires branch { IsBranch whole.now.instance branch.now }
+    ensures tree { IfOk result (λ tree. IfSome tree (IsTree whole.now.instance)) }
+    ensures belongs { IfOk result (λ tree. IfSome tree (Belongs branch.now)) }
+{
     let heads = used_up(alloc, arcs)?;
     let reached = walk(alloc, &heads, arcs.root())?;
-    let narrow = narrowed(alloc, &whole.instance, branch, &reached)?;
+    let limit = least.saturating_add(gap.saturating_mul(2));
+    tree_over(alloc, whole, branch, &reached, limit)
+}
+
+/// A tree of the branch, if one is found: a first tree, pruned, over the vertices of a set and those
+/// that have to be reached; improved, where it costs no more than a limit.
+pub fn tree_over(
+    alloc: Global,
+    whole: &Whole,
+    branch: &Sides,
+    vertices: &VertexSet,
+    limit: u64,
+) -> Result<Option<Tree>, AllocError>
+    requires branch { IsBranch whole.now.instance branch.now }
+    ensures tree { IfOk result (λ tree. IfSome tree (IsTree whole.now.instance)) }
+    ensures belongs { IfOk result (λ tree. IfSome tree (Belongs branch.now)) }
+{
+    let narrow = narrowed(alloc, &whole.instance, branch, vertices)?;
     let narrow = Sides::of(alloc, narrow)?;
     let Some(tree) = first_tree(alloc, &whole.store, &narrow)? else {
         return Ok(None);
     };
     let tree = prune(alloc, &whole.instance, &narrow, tree)?;
-    let limit = least.saturating_add(gap.saturating_mul(2));
-    let tree = improved(alloc, whole, branch, tree, limit)?;
-    Ok(priced(&whole.instance, tree, least))
+    Ok(Some(improved(alloc, whole, branch, tree, limit)?))
+}
+
+/// The tree with its price, if there is one that costs less than the least cost known.
+pub fn cheaper(instance: &Instance, tree: Option<Tree>, least: u64) -> Option<Priced>
+    requires { IfSome tree (IsTree instance.now) }
+    ensures { (B : Part) → IfSome tree (Belongs B) → IfSome result (IsBetter instance.now B least) }
+{
+    priced(instance, tree?, least)
 }
 
 // The tree, or where it costs no more than a limit one that local search makes of it.
@@ -74,6 +114,26 @@ pub fn gap(instance: &Instance, branch: &Sides, packing: &Packing, least: u64) -
         least.saturating_sub(weighs as u64)
     } else {
         0
+    }
+}
+
+/// The least cost known once a better tree is, if there is one.
+pub fn least_after(least: u64, better: &Option<Priced>) -> u64
+    ensures { result ≡ least_after least better.now }
+{
+    match better {
+        Some(found) => found.price,
+        None => least,
+    }
+}
+
+/// Of a better tree and the one found after it, if there is one, the later.
+pub fn later(better: Option<Priced>, more: Option<Priced>) -> Option<Priced>
+    ensures { result ≡ later better more }
+{
+    match more {
+        Some(found) => Some(found),
+        None => better,
     }
 }
 

@@ -10,26 +10,34 @@ ghost use Rattle.worker_loop.specs.Finding.{IsFinding};
 ghost use Rattle.worker_loop.specs.Node.{IsWritableNode};
 ghost use Rattle.worker_loop.specs.Step.{IsBetter, IsStep, least_after};
 
-use crate::bettering::{better_tree, gap, priced};
+use crate::bettering::{gap, least_after, priced};
 use crate::deciding::root_of;
 use crate::distances::near_root;
 use crate::guessing::{guess, together};
 use crate::picking::pick;
 use crate::raising::raise;
 use crate::step::{End, Finding, Priced, Step};
+use crate::trees::{Trees, trees_at};
 use branching::{Node, choose};
 use cut_packing::{Packing, weight};
 use dual_ascent::{Ascent, Extension};
 use graph_store::Whole;
 use level_packing::{Leaf, close_all};
-use st_model::{Instance, Sides};
+use st_model::{Instance, Sides, Tree};
 use std::alloc::{AllocError, Global};
 
 /// Works on a node. It closes where its packing weighs as much as `least`, the least cost known of
 /// a tree, or where nothing is left to decide. Else its packing is extended until it weighs so
 /// much, or is full; a full one leads to a tree, which may be cheaper, and unless it weighs as much
-/// as the cheapest one known the node splits.
-pub fn expand(alloc: Global, whole: &Whole, node: Node, least: u64) -> Result<Step, AllocError>
+/// as the cheapest one known the node splits. `known` is the best tree that is known: where it
+/// branches a split tells most.
+pub fn expand(
+    alloc: Global,
+    whole: &Whole,
+    node: Node,
+    least: u64,
+    known: &Tree,
+) -> Result<Step, AllocError>
     requires instance { IsInstance whole.now.instance }
     requires node { IsWritableNode whole.now.instance node }
     requires cheap { NoneIsCertain whole.now.instance node.branch
@@ -40,7 +48,7 @@ pub fn expand(alloc: Global, whole: &Whole, node: Node, least: u64) -> Result<St
         return Ok(closed(node.packing));
     }
     match choose(&node, &whole.instance) {
-        Some(vertex) => work_on(alloc, whole, node, vertex, least),
+        Some(vertex) => work_on(alloc, whole, node, vertex, least, known),
         None => close(alloc, &whole.instance, node, least),
     }
 }
@@ -84,6 +92,7 @@ fn work_on(
     node: Node,
     given: u32,
     least: u64,
+    known: &Tree,
 ) -> Result<Step, AllocError>
     requires instance { IsInstance whole.now.instance }
     requires node { IsWritableNode whole.now.instance node }
@@ -96,6 +105,7 @@ fn work_on(
         branch,
         packing,
     } = node;
+    let is_bare = packing.cuts.as_slice().is_empty();
     let branch = Sides::of(alloc, branch)?;
     let Some(root) = root_of(&whole.instance, &branch, &packing) else {
         let branch = branch.into_branch();
@@ -112,12 +122,18 @@ fn work_on(
     match ascent {
         Ascent::Reached(packing) => Ok(closed(packing)),
         Ascent::Full(packing) => {
-            let below = gap(&whole.instance, &branch, &packing, least);
-            let better = better_tree(alloc, whole, &branch, &arcs, least, below)?;
-            let known = least_after(least, &better);
-            let near = near_root(alloc, &arcs, gap(&whole.instance, &branch, &packing, known))?;
-            let more = guess(alloc, whole, &branch, &packing, &near, root, known)?;
-            let vertex = pick(&arcs, &whole.instance, &branch, &near, given);
+            let seed = if is_bare { Some(id) } else { None };
+            let Trees { better, joints } = trees_at(
+                alloc, whole, &branch, &arcs, &packing, known, least, seed,
+            )?;
+            let least_now = least_after(least, &better);
+            let near = near_root(
+                alloc,
+                &arcs,
+                gap(&whole.instance, &branch, &packing, least_now),
+            )?;
+            let more = guess(alloc, whole, &branch, &packing, &near, root, least_now)?;
+            let vertex = pick(&arcs, &whole.instance, &branch, &near, &joints, given);
             let branch = branch.into_branch();
             let node = Node {
                 id,
@@ -177,15 +193,5 @@ fn ended(instance: &Instance, node: Node, vertex: u32, better: Option<Priced>, l
     Step {
         better,
         end: End::Split(node, vertex),
-    }
-}
-
-// The least cost known once a better tree is, if there is one.
-fn least_after(least: u64, better: &Option<Priced>) -> u64
-    ensures { result ≡ least_after least better.now }
-{
-    match better {
-        Some(found) => found.price,
-        None => least,
     }
 }

@@ -3,7 +3,7 @@ ghost use Rattle.st_model.specs.Network.{IsInstance};
 ghost use Rattle.dual_ascent.specs.Extension.{IsRootFor, IsStart};
 ghost use Rattle.worker_loop.specs.Finding.{IsFinding, together};
 
-use crate::bettering::{better_tree, gap, narrowed};
+use crate::bettering::{better_tree, gap, later, narrowed};
 use crate::node::no_cuts;
 use crate::raising::raise;
 use crate::repairing::repaired;
@@ -94,14 +94,11 @@ pub fn together(better: Option<Priced>, more: Finding) -> Finding
     ensures { result ≡ together better more }
 {
     let Finding {
-        better: later,
+        better: found,
         closing,
     } = more;
-    match later {
-        Some(found) => Finding {
-            better: Some(found),
-            closing,
-        },
-        None => Finding { better, closing },
+    Finding {
+        better: later(better, found),
+        closing,
     }
 }

@@ -14,6 +14,7 @@ use branching::Node;
 use graph_store::Whole;
 use open_ledger::Why;
 use search_core::{End, Segment};
+use st_model::Tree;
 use std::alloc::{AllocError, Global};
 use std::sync::Wait;
 
@@ -25,6 +26,7 @@ impl<Q: Aim> Worker<Q> {
         rt: &R,
         alloc: Global,
         whole: &Whole,
+        start: &Tree,
         gate: &G,
     ) -> Result<Segment, AllocError>
         requires whole { whole.now.instance ≡ Q.instance }
@@ -34,7 +36,7 @@ impl<Q: Aim> Worker<Q> {
         ensures run { IfOk result (λ s. (tasks : List Task) × HasRun Q.instance Q.gone Q.start self.old.seat
             self.old.workers self.old.pass self.new.pass self.new.ledger self.new.best tasks s) }
     {
-        match self.search(rt, alloc, whole, gate) {
+        match self.search(rt, alloc, whole, start, gate) {
             Ok(segment) => Ok(segment),
             Err(error) => {
                 self.ledger.halt(Why::Memory);
@@ -49,6 +51,7 @@ impl<Q: Aim> Worker<Q> {
         rt: &R,
         alloc: Global,
         whole: &Whole,
+        start: &Tree,
         gate: &G,
     ) -> Result<Segment, AllocError>
         requires whole { whole.now.instance ≡ Q.instance }
@@ -62,7 +65,7 @@ impl<Q: Aim> Worker<Q> {
         let mut hand = None;
         for _ in rt.forever() {
             match self.taken_up(rt, hand) {
-                Ok(node) => match self.turn(alloc, whole, gate, node, &mut work)? {
+                Ok(node) => match self.turn(alloc, whole, start, gate, node, &mut work)? {
                     Turn::Next(half) => hand = half,
                     Turn::Left(node, end) => return Ok(work.ended(vec![in alloc; node]?, end)),
                 },

@@ -23,11 +23,14 @@ use std::marker::Brand;
 use std::sync::Wait;
 use std::thread::Threads;
 
+// As many seats as there can be.
+const MOST_WORKERS: u32 = 64;
+
 // The most claims that a ledger counts. No memory holds so many records.
 const MOST_CLAIMS: u64 = (1 << 63) - 1;
 
 /// Searches for a least tree of the instance among those that reach nobody gone, from a first one,
-/// the start, by 1 to 64 workers. What is gathered is *complete*: its records and the nodes that
+/// the start, by as many workers as are asked for, at least 1 and at most 64. What is gathered is *complete*: its records and the nodes that
 /// wait are a proof tree. It is *finished*: the trees in it are such trees, the least value is the
 /// least of the start's cost and of theirs, and nodes wait only where the whole budget was spent. A
 /// tree is found only where it is cheaper than the start, and every packing can be written in a
@@ -52,7 +55,6 @@ pub fn run_all<R: Threads + Wait + Sync, G: Gate>(
     // Where nobody has to be reached, the start is no dearer than leaving everybody out.
     requires cheap { NoneIsCertain whole.now.instance (without_gone gone.now)
         → cost whole.now.instance start.now ≤ sum_to (pays whole.now.instance) whole.now.instance.n }
-    requires few { (0 < workers) × (workers ≤ 64) }
     ensures complete { IfOk result (λ G. IsComplete G whole.now.instance gone.now
         (cost whole.now.instance start.now) budget) }
     ensures finished { IfOk result (λ G. IsFinished G whole.now.instance gone.now
@@ -64,7 +66,10 @@ pub fn run_all<R: Threads + Wait + Sync, G: Gate>(
     // So that each vertex can be written.
     prove!(whole.instance.vertices() <= MAX_VERTICES);
     let first = tree_cost(&whole.instance, start);
-    let gathered = searched::<Brand, R, G>(rt, alloc, whole, gone, first, workers, budget, gate)?;
+    let seats = workers.clamp(1, MOST_WORKERS);
+    let gathered = searched::<Brand, R, G>(
+        rt, alloc, whole, gone, start, first, seats, budget, gate,
+    )?;
     Ok(gathered)
 }
 
@@ -74,6 +79,7 @@ fn searched<Q: Aim + Send, R: Threads + Wait + Sync, G: Gate>(
     alloc: Global,
     whole: &Whole,
     gone: &[u32],
+    start: &Tree,
     first: u64,
     workers: u32,
     budget: u64,
@@ -98,6 +104,7 @@ fn searched<Q: Aim + Send, R: Threads + Wait + Sync, G: Gate>(
         rt,
         alloc,
         whole,
+        start,
         team.as_mut_slice(),
         workers as usize,
         gate,

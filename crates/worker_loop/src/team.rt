@@ -10,6 +10,7 @@ use incumbent::BestSeat;
 use node_pool::Pass;
 use open_ledger::LedgerSeat;
 use search_core::Segment;
+use st_model::Tree;
 use std::alloc::{AllocError, Global};
 use std::sync::Wait;
 use std::thread;
@@ -32,13 +33,20 @@ pub struct Returned<Q: Aim> {
 }
 
 impl<Q: Aim> Slot<Q> {
-    fn run<R: Wait, G: Gate>(&mut self, rt: &R, alloc: Global, whole: &Whole, gate: &G)
+    fn run<R: Wait, G: Gate>(
+        &mut self,
+        rt: &R,
+        alloc: Global,
+        whole: &Whole,
+        start: &Tree,
+        gate: &G,
+    )
         requires whole { whole.now.instance ≡ Q.instance }
         requires aim { IsAim Q.instance Q.gone Q.start }
         requires unused { IsUnused Q.start self.old.worker }
         ensures { HasRunIn Q.instance Q.gone Q.start self.old self.new }
     {
-        self.segment = self.worker.run(rt, alloc, whole, gate).ok();
+        self.segment = self.worker.run(rt, alloc, whole, start, gate).ok();
     }
 }
 
@@ -85,6 +93,7 @@ pub fn run_team<Q: Aim + Send, R: Threads + Wait + Sync, G: Gate>(
     rt: &R,
     alloc: Global,
     whole: &Whole,
+    start: &Tree,
     team: &mut [Slot<Q>],
     threads: usize,
     gate: &G,
@@ -102,7 +111,7 @@ pub fn run_team<Q: Aim + Send, R: Threads + Wait + Sync, G: Gate>(
         &|_, slot: &mut Slot<Q>|
             requires { (whole.now.instance ≡ Q.instance) × IsAim Q.instance Q.gone Q.start × IsUnused Q.start slot.now.worker }
             ensures { HasRunIn Q.instance Q.gone Q.start slot.entry.now slot.exit.now }
-        { slot.run(rt, alloc, whole, gate) },
+        { slot.run(rt, alloc, whole, start, gate) },
     );
 }
 

@@ -17,6 +17,7 @@ use cut_packing::Packing;
 use graph_store::Whole;
 use open_ledger::Why;
 use search_core::{Done, End as Ending};
+use st_model::Tree;
 use std::alloc::{AllocError, Global};
 
 /// How a turn ends.
@@ -34,6 +35,7 @@ impl<Q: Aim> Worker<Q> {
         &mut self,
         alloc: Global,
         whole: &Whole,
+        start: &Tree,
         gate: &G,
         node: Node,
         work: &mut Work,
@@ -56,7 +58,7 @@ impl<Q: Aim> Worker<Q> {
             return Ok(Turn::Left(node, Ending::ClaimRefused));
         }
         gate.at(self.seat, node.id);
-        let half = self.work_on(alloc, whole, node, work)?;
+        let half = self.work_on(alloc, whole, start, node, work)?;
         Ok(Turn::Next(half))
     }
 
@@ -65,6 +67,7 @@ impl<Q: Aim> Worker<Q> {
         &mut self,
         alloc: Global,
         whole: &Whole,
+        start: &Tree,
         node: Node,
         work: &mut Work,
     ) -> Result<Option<Node>, AllocError>
@@ -78,7 +81,8 @@ impl<Q: Aim> Worker<Q> {
     {
         let id = node.id;
         work.seen = self.best.see();
-        let Step { better, end } = expand(alloc, whole, node, work.seen)?;
+        let known = work.best.as_ref().unwrap_or(start);
+        let Step { better, end } = expand(alloc, whole, node, work.seen, known)?;
         self.adopt(better, work);
         match end {
             End::Close(packing) => {

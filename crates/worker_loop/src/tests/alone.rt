@@ -13,7 +13,7 @@ use incumbent::Incumbent;
 use node_pool::begin;
 use open_ledger::Ledger;
 use search_core::Segment;
-use st_model::{Branch, Need};
+use st_model::{Branch, Listed, Need, Tree};
 use std::alloc::{AllocError, Global};
 use std::marker::Brand;
 use std::sync::Wait;
@@ -32,7 +32,11 @@ pub fn brought_alone<R: Wait>(
     prove!(whole.instance.need(certain) == Need::Required);
     let all = Branch::all(alloc);
     let gone = all.outside.as_slice();
-    let segment = run_alone::<Brand, R>(rt, alloc, whole, gone, first)?;
+    let start = Tree {
+        start: certain,
+        arcs: Listed::of(Vec::new(alloc)),
+    };
+    let segment = run_alone::<Brand, R>(rt, alloc, whole, gone, &start, first)?;
     Ok(segment)
 }
 
@@ -41,6 +45,7 @@ fn run_alone<Q: Aim, R: Wait>(
     alloc: Global,
     whole: &Whole,
     gone: &[u32],
+    start: &Tree,
     first: u64,
 ) -> Result<Option<Segment>, AllocError>
     requires whole { whole.now.instance ≡ Q.instance }
@@ -64,5 +69,5 @@ fn run_alone<Q: Aim, R: Wait>(
         return Ok(None);
     };
     let mut worker = Worker::of(0, 1, pass, account, sight);
-    Ok(Some(worker.run(rt, alloc, whole, &OpenGate)?))
+    Ok(Some(worker.run(rt, alloc, whole, start, &OpenGate)?))
 }

@@ -39,9 +39,9 @@ concluded-requires-clause-node c =
 pub concluded-requires-clause-finding : goal.concluded-requires-clause-finding
 concluded-requires-clause-finding c =
     let first = rw c.in_ok-branch.ensures at c.in_ok-better-in-Full.ensures in
-    let more = rw (c.in_ok-branch.ensures, c.least_after-known.ensures) at c.in_ok-more-in-Full.ensures in
+    let more = rw (c.in_ok-branch.ensures, c.least_after-least_now.ensures) at c.in_ok-more-in-Full.ensures in
     rw (c.into_branch-branch-in-Full.ensures, c.in_ok-branch.ensures, c.together.ensures)
-    (found_together c.args.whole.now.instance c.args.node.branch c.args.least c.in_ok-better-in-Full.better c.in_ok-more-in-Full.more first more)
+    (found_together c.args.whole.now.instance c.args.node.branch c.args.least c.in_ok-better-in-Full.field-0.better c.in_ok-more-in-Full.more first more)
 
 pub returns-in_ok-more-in-Full : goal.returns-in_ok-more-in-Full
 returns-in_ok-more-in-Full c =

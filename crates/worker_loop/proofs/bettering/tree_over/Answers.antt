@@ -1,5 +1,5 @@
 use Rattle.worker_loop.proofs.Parts.{belongs_to_whole}
-use Rattle.worker_loop.proofs.bettering.better_tree.Goals as goal
+use Rattle.worker_loop.proofs.bettering.tree_over.Goals as goal
 
 pub improved-requires-clause-belongs : goal.improved-requires-clause-belongs
 improved-requires-clause-belongs c =
