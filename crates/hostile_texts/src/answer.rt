@@ -1,19 +1,22 @@
 use st_edge::{MemorySink, Shelf, Sink, send_all};
 use std::alloc::{AllocError, Global};
+use std::sync::Wait;
+use std::thread::Threads;
 use steiner_top::{OpenGate, run};
 
 /// More bytes than any run here sends.
 const ROOM: u64 = 1 << 22;
 
 /// Writes a title, the code with which a run by these words ends, and what it sends.
-pub fn tell<F: Shelf, K: Sink>(
+pub fn tell<R: Threads + Wait + Sync, F: Shelf, K: Sink>(
+    rt: &R,
     alloc: Global,
     title: &str,
     words: &[&str],
     shelf: &mut F,
     out: &mut K,
 ) -> Result<(), AllocError> {
-    let (code, sent) = answer(alloc, words, shelf)?;
+    let (code, sent) = answer(rt, alloc, words, shelf)?;
     let head = format!(in alloc; "{title}: {code} ")?;
     let _ = send_all(out, head.as_bytes());
     let _ = send_all(out, sent.bytes());
@@ -21,14 +24,15 @@ pub fn tell<F: Shelf, K: Sink>(
 }
 
 /// Writes a title, the code with which a run by these words ends, and how many bytes it sends.
-pub fn tell_length<F: Shelf, K: Sink>(
+pub fn tell_length<R: Threads + Wait + Sync, F: Shelf, K: Sink>(
+    rt: &R,
     alloc: Global,
     title: &str,
     words: &[&str],
     shelf: &mut F,
     out: &mut K,
 ) -> Result<(), AllocError> {
-    let (code, sent) = answer(alloc, words, shelf)?;
+    let (code, sent) = answer(rt, alloc, words, shelf)?;
     let length = sent.bytes().len();
     let line = format!(in alloc; "{title}: {code} and {length} bytes\n")?;
     let _ = send_all(out, line.as_bytes());
@@ -36,7 +40,8 @@ pub fn tell_length<F: Shelf, K: Sink>(
 }
 
 // The code with which a run by these words ends, and the sink that it sent to.
-fn answer<F: Shelf>(
+fn answer<R: Threads + Wait + Sync, F: Shelf>(
+    rt: &R,
     alloc: Global,
     words: &[&str],
     shelf: &mut F,
@@ -46,7 +51,7 @@ fn answer<F: Shelf>(
         owned.push(String::from_str(alloc, word)?)?;
     }
     let mut sent = MemorySink::of(alloc, ROOM, ROOM, Vec::new(alloc))?;
-    let code = run(alloc, &owned, shelf, &mut sent, &OpenGate)
+    let code = run(rt, alloc, &owned, shelf, &mut sent, &OpenGate)
         .status
         .code();
     Ok((code, sent))

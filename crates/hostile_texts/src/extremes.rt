@@ -1,6 +1,8 @@
 use crate::answer::{tell, tell_length};
 use st_edge::{MemoryShelf, Shelf, Sink};
 use std::alloc::{AllocError, Global};
+use std::sync::Wait;
+use std::thread::Threads;
 
 /// The words of a line, or the bytes of a name, that is far too long.
 const MANY: usize = 1 << 20;
@@ -80,16 +82,17 @@ const WALL: &str = "STEINERLOG 1\nCLAIM NONE\nWALL 18446744073709551615 1 2\nEND
 
 /// Tells how texts are answered that are far too long, or say that they are, some of them beside
 /// the triangle's file.
-pub fn tell_extremes<K: Sink>(
+pub fn tell_extremes<R: Threads + Wait + Sync, K: Sink>(
+    rt: &R,
     alloc: Global,
     triangle: &[u8],
     out: &mut K,
 ) -> Result<(), AllocError> {
-    tell_lines(alloc, triangle, out)?;
-    tell_names(alloc, triangle, out)?;
-    tell_counts(alloc, triangle, out)?;
-    tell_prizes(alloc, out)?;
-    tell_sizes(alloc, out)
+    tell_lines(rt, alloc, triangle, out)?;
+    tell_names(rt, alloc, triangle, out)?;
+    tell_counts(rt, alloc, triangle, out)?;
+    tell_prizes(rt, alloc, out)?;
+    tell_sizes(rt, alloc, out)
 }
 
 // A shelf with a text under a name.
@@ -110,26 +113,37 @@ fn shelf_with_log(alloc: Global, file: &[u8], log: &str) -> Result<MemoryShelf, 
 }
 
 // One line of many words, as a file and as a log.
-fn tell_lines<K: Sink>(alloc: Global, triangle: &[u8], out: &mut K) -> Result<(), AllocError> {
+fn tell_lines<R: Threads + Wait + Sync, K: Sink>(
+    rt: &R,
+    alloc: Global,
+    triangle: &[u8],
+    out: &mut K,
+) -> Result<(), AllocError> {
     let mut line = "w ".repeat(alloc, MANY)?;
     line.push('\n')?;
     let mut shelf = shelf_with_log(alloc, triangle, &line)?;
     let title = "a file of one line of 1048576 words";
-    tell(alloc, title, &["solve", "b"], &mut shelf, out)?;
+    tell(rt, alloc, title, &["solve", "b"], &mut shelf, out)?;
     let title = "a log of one line of 1048576 words";
-    tell(alloc, title, &["check", "a.stp", "b"], &mut shelf, out)
+    tell(rt, alloc, title, &["check", "a.stp", "b"], &mut shelf, out)
 }
 
 // A long name under which there is a file, and one under which there is none until its log is saved.
-fn tell_names<K: Sink>(alloc: Global, triangle: &[u8], out: &mut K) -> Result<(), AllocError> {
+fn tell_names<R: Threads + Wait + Sync, K: Sink>(
+    rt: &R,
+    alloc: Global,
+    triangle: &[u8],
+    out: &mut K,
+) -> Result<(), AllocError> {
     let name = "n".repeat(alloc, MANY)?;
     let log = "l".repeat(alloc, MANY)?;
     let mut shelf = shelf_of(alloc, &name, triangle)?;
-    tell_pair(alloc, &name, &log, &mut shelf, out)
+    tell_pair(rt, alloc, &name, &log, &mut shelf, out)
 }
 
 // The same once the names are made.
-fn tell_pair<F: Shelf, K: Sink>(
+fn tell_pair<R: Threads + Wait + Sync, F: Shelf, K: Sink>(
+    rt: &R,
     alloc: Global,
     name: &str,
     log: &str,
@@ -137,11 +151,11 @@ fn tell_pair<F: Shelf, K: Sink>(
     out: &mut K,
 ) -> Result<(), AllocError> {
     let title = "no file under a name of 1048576 bytes";
-    tell(alloc, title, &["solve", log], shelf, out)?;
+    tell(rt, alloc, title, &["solve", log], shelf, out)?;
     let title = "a file under a name of 1048576 bytes";
-    tell_length(alloc, title, &["solve", name, "--log", log], shelf, out)?;
+    tell_length(rt, alloc, title, &["solve", name, "--log", log], shelf, out)?;
     let title = "a log under a name of 1048576 bytes";
-    tell(alloc, title, &["check", name, log], shelf, out)
+    tell(rt, alloc, title, &["check", name, log], shelf, out)
 }
 
 fn log_of(alloc: Global, counts: &Counts) -> Result<String, AllocError> {
@@ -153,16 +167,22 @@ fn log_of(alloc: Global, counts: &Counts) -> Result<String, AllocError> {
 }
 
 // Logs of the triangle with these counts, and the wall's.
-fn tell_counts<K: Sink>(alloc: Global, triangle: &[u8], out: &mut K) -> Result<(), AllocError> {
+fn tell_counts<R: Threads + Wait + Sync, K: Sink>(
+    rt: &R,
+    alloc: Global,
+    triangle: &[u8],
+    out: &mut K,
+) -> Result<(), AllocError> {
     for counts in COUNTS {
         let log = log_of(alloc, counts)?;
-        tell_log(alloc, counts.title, triangle, &log, out)?;
+        tell_log(rt, alloc, counts.title, triangle, &log, out)?;
     }
     let title = "a log that counts 2^64 - 1 vertices of a wall";
-    tell_log(alloc, title, triangle, WALL, out)
+    tell_log(rt, alloc, title, triangle, WALL, out)
 }
 
-fn tell_log<K: Sink>(
+fn tell_log<R: Threads + Wait + Sync, K: Sink>(
+    rt: &R,
     alloc: Global,
     title: &str,
     file: &[u8],
@@ -170,30 +190,39 @@ fn tell_log<K: Sink>(
     out: &mut K,
 ) -> Result<(), AllocError> {
     let mut shelf = shelf_with_log(alloc, file, log)?;
-    tell(alloc, title, &["check", "a.stp", "b"], &mut shelf, out)
+    tell(rt, alloc, title, &["check", "a.stp", "b"], &mut shelf, out)
 }
 
 // Many lines of what one vertex pays.
-fn tell_prizes<K: Sink>(alloc: Global, out: &mut K) -> Result<(), AllocError> {
+fn tell_prizes<R: Threads + Wait + Sync, K: Sink>(
+    rt: &R,
+    alloc: Global,
+    out: &mut K,
+) -> Result<(), AllocError> {
     let mut text = String::from_str(alloc, BEFORE_PRIZES)?;
     text.push_str(&"TP 1 3\n".repeat(alloc, MILLION)?)?;
     text.push_str("END\nEOF\n")?;
-    tell_file(alloc, "a million prizes of one vertex", &text, out)
+    tell_file(rt, alloc, "a million prizes of one vertex", &text, out)
 }
 
-fn tell_file<K: Sink>(
+fn tell_file<R: Threads + Wait + Sync, K: Sink>(
+    rt: &R,
     alloc: Global,
     title: &str,
     file: &str,
     out: &mut K,
 ) -> Result<(), AllocError> {
     let mut shelf = shelf_of(alloc, "a.stp", file.as_bytes())?;
-    tell(alloc, title, &["solve", "a.stp"], &mut shelf, out)
+    tell(rt, alloc, title, &["solve", "a.stp"], &mut shelf, out)
 }
 
-fn tell_sizes<K: Sink>(alloc: Global, out: &mut K) -> Result<(), AllocError> {
+fn tell_sizes<R: Threads + Wait + Sync, K: Sink>(
+    rt: &R,
+    alloc: Global,
+    out: &mut K,
+) -> Result<(), AllocError> {
     for (title, text) in SIZES {
-        tell_file(alloc, title, text, out)?;
+        tell_file(rt, alloc, title, text, out)?;
     }
     Ok(())
 }

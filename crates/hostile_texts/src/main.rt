@@ -17,6 +17,8 @@ use st_edge::{DiskShelf, LoadFault, Shelf, Sink, StdSink};
 use std::alloc::{AllocError, Global};
 use std::env;
 use std::process::ExitCode;
+use std::sync::Wait;
+use std::thread::Threads;
 use steiner_top::Status;
 
 /// The file that the logs are of.
@@ -32,11 +34,11 @@ fn main(rt: HostRuntime) -> ExitCode {
     let mut shelf = DiskShelf::new(&rt);
     let mut out = StdSink::new(&rt);
     for name in names.skip(1) {
-        if tell_file(rt.alloc(), &name, &mut shelf, &mut out).is_err() {
+        if tell_file(&rt, rt.alloc(), &name, &mut shelf, &mut out).is_err() {
             return ExitCode::from(Status::NoMemory.code());
         }
     }
-    match tell_others(rt.alloc(), &mut shelf, &mut out) {
+    match tell_others(&rt, rt.alloc(), &mut shelf, &mut out) {
         Ok(()) => ExitCode::SUCCESS,
         Err(fault) => ExitCode::from(code_of(fault)),
     }
@@ -51,27 +53,29 @@ fn code_of(fault: LoadFault) -> u8 {
 }
 
 // Tells how a file is answered.
-fn tell_file<F: Shelf, K: Sink>(
+fn tell_file<R: Threads + Wait + Sync, F: Shelf, K: Sink>(
+    rt: &R,
     alloc: Global,
     name: &str,
     shelf: &mut F,
     out: &mut K,
 ) -> Result<(), AllocError> {
     if name.ends_with(".log") {
-        tell(alloc, name, &["check", TRIANGLE, name], shelf, out)
+        tell(rt, alloc, name, &["check", TRIANGLE, name], shelf, out)
     } else {
-        tell(alloc, name, &["solve", name], shelf, out)
+        tell(rt, alloc, name, &["solve", name], shelf, out)
     }
 }
 
 // Tells how the texts are answered that are made here.
-fn tell_others<F: Shelf, K: Sink>(
+fn tell_others<R: Threads + Wait + Sync, F: Shelf, K: Sink>(
+    rt: &R,
     alloc: Global,
     shelf: &mut F,
     out: &mut K,
 ) -> Result<(), LoadFault> {
     let triangle = shelf.load(alloc, TRIANGLE, ROOM)?;
-    match tell_extremes(alloc, &triangle, out) {
+    match tell_extremes(rt, alloc, &triangle, out) {
         Ok(()) => Ok(()),
         Err(AllocError) => Err(LoadFault::NoMemory),
     }

@@ -1,5 +1,5 @@
 //! The program `known_optima`: solves each file that its words name, with a log, and checks the
-//! log; and once more plainly, without reduction steps. It writes the file's name, how each solving
+//! log; once more plainly, without reduction steps, and once more by four workers. It writes the file's name, how each solving
 //! ended, and what each check says. Its own data are files whose optimum programs apart from this
 //! project found.
 #![tactic(auto)]
@@ -20,6 +20,8 @@ const REDUCED: &[&str] = &["--log", "log"];
 
 const PLAIN: &[&str] = &["--log", "log", "--plain"];
 
+const BY_FOUR: &[&str] = &["--log", "log", "--workers", "4"];
+
 fn main(rt: HostRuntime) -> ExitCode {
     let Ok(names) = env::args(&rt) else {
         return ExitCode::from(Status::NoMemory.code());
@@ -27,7 +29,7 @@ fn main(rt: HostRuntime) -> ExitCode {
     let mut shelf = DiskShelf::new(&rt);
     let mut out = StdSink::new(&rt);
     for name in names.skip(1) {
-        for words in [REDUCED, PLAIN] {
+        for words in [REDUCED, PLAIN, BY_FOUR] {
             if tell(&rt, rt.alloc(), &name, words, &mut shelf, &mut out).is_err() {
                 return ExitCode::from(Status::NoMemory.code());
             }

@@ -1,5 +1,6 @@
 //! The program `spent_budgets`: solves each file that its words name with a budget of 0 nodes, of 1,
-//! of 2 and so on, until the answer is optimal; and once more plainly, without reduction steps. Each
+//! of 2 and so on, until the answer is optimal: by one worker and by three, each with reduction steps
+//! and without. Each
 //! log has to be accepted, with a bound below the cost where the answer isn't optimal, and there the
 //! whole budget has to be spent. It writes the file's name and its cost, or the first budget at which
 //! that fails.
@@ -9,10 +10,21 @@ use st_edge::{DiskShelf, MemorySink, Shelf, Sink, StdSink, send_all};
 use std::alloc::{AllocError, Global};
 use std::env;
 use std::process::ExitCode;
+use std::sync::Wait;
+use std::thread::Threads;
 use steiner_top::{OpenGate, Outcome, Status, run};
 
 /// More bytes than any of the solutions has.
 const ROOM: u64 = 1_000_000;
+
+/// The words that stand after the budget.
+const REDUCED: &[&str] = &[];
+
+const PLAIN: &[&str] = &["--plain"];
+
+const REDUCED_BY_THREE: &[&str] = &["--workers", "3"];
+
+const PLAIN_BY_THREE: &[&str] = &["--plain", "--workers", "3"];
 
 /// A budget that is enough for each of the program's files.
 const ENOUGH: u64 = 200;
@@ -34,8 +46,8 @@ fn main(rt: HostRuntime) -> ExitCode {
     let mut shelf = DiskShelf::new(&rt);
     let mut out = StdSink::new(&rt);
     for name in names.skip(1) {
-        for plain in [false, true] {
-            if tell(rt.alloc(), &name, plain, &mut shelf, &mut out).is_err() {
+        for way in [REDUCED, PLAIN, REDUCED_BY_THREE, PLAIN_BY_THREE] {
+            if tell(&rt, rt.alloc(), &name, way, &mut shelf, &mut out).is_err() {
                 return ExitCode::from(Status::NoMemory.code());
             }
         }
@@ -44,27 +56,29 @@ fn main(rt: HostRuntime) -> ExitCode {
 }
 
 // Writes a line on a file.
-fn tell<F: Shelf, K: Sink>(
+fn tell<R: Threads + Wait + Sync, F: Shelf, K: Sink>(
+    rt: &R,
     alloc: Global,
     name: &str,
-    plain: bool,
+    way: &[&str],
     shelf: &mut F,
     out: &mut K,
 ) -> Result<(), AllocError> {
-    let line = line_on(alloc, name, plain, shelf)?;
+    let line = line_on(rt, alloc, name, way, shelf)?;
     let _ = send_all(out, line.as_bytes());
     Ok(())
 }
 
 // What is to be written of a file.
-fn line_on<F: Shelf>(
+fn line_on<R: Threads + Wait + Sync, F: Shelf>(
+    rt: &R,
     alloc: Global,
     name: &str,
-    plain: bool,
+    way: &[&str],
     shelf: &mut F,
 ) -> Result<String, AllocError> {
     for budget in 0..ENOUGH {
-        match try_budget(alloc, name, plain, budget, shelf)? {
+        match try_budget(rt, alloc, name, way, budget, shelf)? {
             Trial::Spent => {}
             Trial::Optimal(cost) if budget == 0 => {
                 return format!(in alloc; "{name} optimal {cost} without a budget\n");
@@ -81,40 +95,45 @@ fn line_on<F: Shelf>(
 }
 
 // Solves a file within a budget, and checks the log.
-fn try_budget<F: Shelf>(
+fn try_budget<R: Threads + Wait + Sync, F: Shelf>(
+    rt: &R,
     alloc: Global,
     name: &str,
-    plain: bool,
+    way: &[&str],
     budget: u64,
     shelf: &mut F,
 ) -> Result<Trial, AllocError> {
-    let outcome = solve(alloc, name, plain, budget, shelf)?;
-    let verdict = check(alloc, name, shelf)?;
+    let outcome = solve(rt, alloc, name, way, budget, shelf)?;
+    let verdict = check(rt, alloc, name, shelf)?;
     judge(alloc, outcome, budget, verdict.bytes())
 }
 
 // What solving a file gives, whose log is saved.
-fn solve<F: Shelf>(
+fn solve<R: Threads + Wait + Sync, F: Shelf>(
+    rt: &R,
     alloc: Global,
     name: &str,
-    plain: bool,
+    way: &[&str],
     budget: u64,
     shelf: &mut F,
 ) -> Result<Option<Outcome>, AllocError> {
     let mut words = words_of(alloc, &["solve", name, "--log", "log", "--nodes"])?;
     words.push(format!(in alloc; "{budget}")?)?;
-    if plain {
-        words.push(String::from_str(alloc, "--plain")?)?;
-    }
+    words.append(&mut words_of(alloc, way)?)?;
     let mut sent = MemorySink::of(alloc, ROOM, ROOM, Vec::new(alloc))?;
-    Ok(run(alloc, &words, shelf, &mut sent, &OpenGate).outcome)
+    Ok(run(rt, alloc, &words, shelf, &mut sent, &OpenGate).outcome)
 }
 
 // What is sent where the log is checked.
-fn check<F: Shelf>(alloc: Global, name: &str, shelf: &mut F) -> Result<MemorySink, AllocError> {
+fn check<R: Threads + Wait + Sync, F: Shelf>(
+    rt: &R,
+    alloc: Global,
+    name: &str,
+    shelf: &mut F,
+) -> Result<MemorySink, AllocError> {
     let words = words_of(alloc, &["check", name, "log"])?;
     let mut sent = MemorySink::of(alloc, ROOM, ROOM, Vec::new(alloc))?;
-    let _ = run(alloc, &words, shelf, &mut sent, &OpenGate);
+    let _ = run(rt, alloc, &words, shelf, &mut sent, &OpenGate);
     Ok(sent)
 }
 
