@@ -18,7 +18,8 @@ one a x = cond (a == x) 1 0
 
 pub drawn_pushed : (done : List Done) (d : Done) (x : ℕ) → times x (drawn_ids (done ++ d ∷ [])) ≡ times x (drawn_ids done) + times x (half_ids d)
 drawn_pushed done d x =
-    ap (times x) (flat_map-append half_ids done (d ∷ [])) ∙ (times-append x (flat_map half_ids done) (half_ids d ++ []) ∙ ap (λ (xs : List ℕ). times x (flat_map half_ids done) + times x xs) (append-nil (half_ids d)))
+    ap (times x) (flat_map-append half_ids done (d ∷ []))
+    ∙ (times-append x (flat_map half_ids done) (half_ids d ++ []) ∙ ap (λ (xs : List ℕ). times x (flat_map half_ids done) + times x xs) (append-nil (half_ids d)))
 
 -- a close draws none
 pub drawn_close : (seat workers next id : ℕ) (done : List Done) (P : Packing) → AreDrawnBelow seat workers next done → AreDrawnBelow seat workers next (done ++ Close id P ∷ [])

@@ -30,12 +30,15 @@ written (x ∷ xs) rest zero e = absurd (omega arith)
 written (x ∷ xs) rest (suc n) e = ap (λ ys. x ∷ ys) (written xs rest n (omega arith))
 
 -- one more is made of what comes next
-pub made_of_next : {A B : Type 0} (f : A → B) (made after : List A) (x : A) (rest now all : List B) (y : B) → after ≡ made ++ x ∷ [] → rest ≡ y ∷ now → f x ≡ y → map f made ++ rest ≡ all → map f after ++ now ≡ all
+pub made_of_next : {A B : Type 0} (f : A → B) (made after : List A) (x : A) (rest now all : List B) (y : B) → after ≡ made ++ x ∷ [] → rest ≡ y ∷ now → f x ≡ y → map f made ++ rest ≡ all
+    → map f after ++ now ≡ all
 made_of_next f made after x rest now all y grown next same before =
-    ap (λ xs. map f xs ++ now) grown ∙ (ap (λ xs. xs ++ now) (map-append f made (x ∷ [])) ∙ (append_assoc (map f made) (f x ∷ []) now ∙ (ap (λ z. map f made ++ z ∷ now) same ∙ (ap (λ xs. map f made ++ xs) (sym next) ∙ before))))
+    ap (λ xs. map f xs ++ now) grown
+    ∙ (ap (λ xs. xs ++ now) (map-append f made (x ∷ [])) ∙ (append_assoc (map f made) (f x ∷ []) now ∙ (ap (λ z. map f made ++ z ∷ now) same ∙ (ap (λ xs. map f made ++ xs) (sym next) ∙ before))))
 
 -- and one more is taken apart
-pub taken_of_next : {A B : Type 0} (f : A → B) (made after all : List B) (y : B) (x : A) (rest now : List A) → after ≡ made ++ y ∷ [] → rest ≡ x ∷ now → y ≡ f x → made ++ map f rest ≡ all → after ++ map f now ≡ all
+pub taken_of_next : {A B : Type 0} (f : A → B) (made after all : List B) (y : B) (x : A) (rest now : List A) → after ≡ made ++ y ∷ [] → rest ≡ x ∷ now → y ≡ f x → made ++ map f rest ≡ all
+    → after ++ map f now ≡ all
 taken_of_next f made after all y x rest now grown next same before =
     ap (λ xs. xs ++ map f now) grown ∙ (append_assoc made (y ∷ []) (map f now) ∙ (ap (λ z. made ++ z ∷ map f now) same ∙ (ap (λ xs. made ++ map f xs) (sym next) ∙ before)))
 
@@ -72,11 +75,13 @@ rest_of (x ∷ xs) = xs
 has_run : {Q : Type 0} (I : Network) (gone : List ℕ) (start workers seat : ℕ) (b a : Slot Q) (s : Segment) → IsSeated workers seat b → HasRunIn I gone start b a → Some s ≡ a.segment
     → (tasks : List Task) × HasRun I gone start seat workers b.worker.pass a.worker.pass a.worker.ledger a.worker.best tasks s
 has_run I gone start workers seat b a s seated ran here =
-    let r = subst (λ (o : Option Segment). IfSome o (λ s. (tasks : List Task) × HasRun I gone start b.worker.seat b.worker.workers b.worker.pass a.worker.pass a.worker.ledger a.worker.best tasks s)) (sym here) ran.run in
+    let r = subst (λ (o : Option Segment). IfSome o
+    (λ s. (tasks : List Task) × HasRun I gone start b.worker.seat b.worker.workers b.worker.pass a.worker.pass a.worker.ledger a.worker.best tasks s)) (sym here) ran.run in
     subst (λ (k : ℕ). (tasks : List Task) × HasRun I gone start k workers b.worker.pass a.worker.pass a.worker.ledger a.worker.best tasks s) seated.seat_is
     (subst (λ (n : ℕ). (tasks : List Task) × HasRun I gone start b.worker.seat n b.worker.pass a.worker.pass a.worker.ledger a.worker.best tasks s) seated.workers_are r)
 
-pub are_members : {Q : Type 0} (I : Network) (gone : List ℕ) (start workers seat : ℕ) (bs as' : List (Slot Q)) (ss : List Segment) → AreSeated workers seat bs → length as' ≡ length bs → HaveRunIn I gone start bs as'
+pub are_members : {Q : Type 0} (I : Network) (gone : List ℕ) (start workers seat : ℕ) (bs as' : List (Slot Q)) (ss : List Segment) → AreSeated workers seat bs → length as' ≡ length bs
+    → HaveRunIn I gone start bs as'
     → map Some ss ≡ map segment_of as' → AreMembers I gone start workers seat bs as' ss
 are_members I gone start workers seat [] [] [] seated same ran found = record { run = tt; before = refl; after = refl; accounts_are = refl; sights_are = refl; segments_are = refl; count = refl }
 are_members I gone start workers seat [] [] (s ∷ ss) seated same ran found = absurd (omega (arith, ap (λ (xs : List (Option Segment)). length xs) found))

@@ -55,7 +55,8 @@ looked I gone start seat workers p q u u' s next k held l (tasks, h) = (
 )
 
 -- a claim was refused, and the worker halted
-pub refused : (I : Network) (gone : List ℕ) (start seat workers : ℕ) (p q : Station) (u u' : Account) (s : Sight) (next : ℕ) (k : Work) (held : List Node) → u'.tally.ups ≡ u.tally.ups → u'.tally.downs ≡ u.tally.downs
+pub refused : (I : Network) (gone : List ℕ) (start seat workers : ℕ) (p q : Station) (u u' : Account) (s : Sight) (next : ℕ) (k : Work) (held : List Node) → u'.tally.ups ≡ u.tally.ups
+    → u'.tally.downs ≡ u.tally.downs
     → u'.tally.granted ≡ u.tally.granted → 0 < u'.tally.refused
     → HasWorked I gone start seat workers p (as_of q u s next k) held → HasWorked I gone start seat workers p (as_of q u' s next k) held
 refused I gone start seat workers p q u u' s next k held ups downs granted some (tasks, h) = (
@@ -80,7 +81,8 @@ took_up I gone start seat workers p q q' u s next k N sound moves (tasks, h) = (
     records = h.records;
     tasks_right = h.tasks_right;
     held_sound = All-cons (IsSound I gone) N [] sound (All-nil (IsSound I gone));
-    nodes = λ w. balance (gave w q) (gave w q') (gave w p) (took w q) (took w q') (took w p) (sum_by w (map node_of tasks)) (sum_by w (flat_map halves_of tasks)) (sum_by w (N ∷ [])) (h.nodes w) (moves w);
+    nodes = λ w. balance (gave w q) (gave w q') (gave w p) (took w q) (took w q') (took w p) (sum_by w (map node_of tasks)) (sum_by w (flat_map halves_of tasks)) (sum_by w (N ∷ [])) (h.nodes w)
+        (moves w);
     drawn = h.drawn;
     seen = h.seen;
     counts = h.counts;
@@ -95,7 +97,8 @@ nodes_pushed w tasks T = ap (sum_by w) (map-append node_of tasks (T ∷ [])) ∙
 
 halves_pushed : (w : Node → ℕ) (tasks : List Task) (T : Task) → sum_by w (flat_map halves_of (tasks ++ T ∷ [])) ≡ sum_by w (flat_map halves_of tasks) + sum_by w (halves_of T)
 halves_pushed w tasks T =
-    ap (sum_by w) (flat_map-append halves_of tasks (T ∷ [])) ∙ (sum_by-append w (flat_map halves_of tasks) (halves_of T ++ []) ∙ ap (λ (Ns : List Node). sum_by w (flat_map halves_of tasks) + sum_by w Ns) (append-nil (halves_of T)))
+    ap (sum_by w) (flat_map-append halves_of tasks (T ∷ []))
+    ∙ (sum_by-append w (flat_map halves_of tasks) (halves_of T ++ []) ∙ ap (λ (Ns : List Node). sum_by w (flat_map halves_of tasks) + sum_by w Ns) (append-nil (halves_of T)))
 
 -- a count of records grows by that of the new one
 counted : (f : Done → ℕ) (before after : List Done) (d : Done) (was was' is : ℕ) → after ≡ before ++ d ∷ [] → was ≡ sum_by f before → was' ≡ was → is ≡ was' + f d → is ≡ sum_by f after
@@ -107,7 +110,8 @@ counted f before after d was was' is grown counts same more =
     sum_of a b n was was' is e f g h = omega arith
 
 -- a node in hand was claimed and worked on
-pub worked : (I : Network) (gone : List ℕ) (start seat workers : ℕ) (p q : Station) (u u' : Account) (s : Sight) (next : ℕ) (k : Work) (N : Node) (m : Moment) (held : List Node) (d : Done) → IsGranted u u'
+pub worked : (I : Network) (gone : List ℕ) (start seat workers : ℕ) (p q : Station) (u u' : Account) (s : Sight) (next : ℕ) (k : Work) (N : Node) (m : Moment) (held : List Node) (d : Done)
+    → IsGranted u u'
     → IsWorkedOn I gone start seat workers N (as_of q u' s next k) m held d
     → HasWorked I gone start seat workers p (as_of q u s next k) (N ∷ []) → HasWorked I gone start seat workers p m held
 worked I gone start seat workers p q u u' s next k N m held d claim on (tasks, h) =
@@ -116,10 +120,12 @@ worked I gone start seat workers p q u u' s next k N m held d claim on (tasks, h
       tasks ++ T ∷ [],
       record {
         records = on.records ∙ (ap (λ (ds : List Done). ds ++ d ∷ []) h.records ∙ sym (map-append done_of tasks (T ∷ [])));
-        tasks_right = All-push (IsTask I gone start m.work.seen) tasks T (All-weaker (IsTask I gone start k.seen) (IsTask I gone start m.work.seen) (lower_task I gone start k.seen m.work.seen lower) tasks h.tasks_right) on.task;
+        tasks_right = All-push (IsTask I gone start m.work.seen) tasks T
+            (All-weaker (IsTask I gone start k.seen) (IsTask I gone start m.work.seen) (lower_task I gone start k.seen m.work.seen lower) tasks h.tasks_right) on.task;
         held_sound = on.held_sound;
         nodes = λ w.
-            balance (gave w q) (gave w m.pass) (gave w p) (took w q) (took w m.pass) (took w p) _ _ _ _ (sum_by w (N ∷ [])) (sum_by w (halves_of T)) (sum_by w held) (nodes_pushed w tasks T) (halves_pushed w tasks T) (h.nodes w) (on.nodes w);
+            balance (gave w q) (gave w m.pass) (gave w p) (took w q) (took w m.pass) (took w p) _ _ _ _ (sum_by w (N ∷ [])) (sum_by w (halves_of T)) (sum_by w held) (nodes_pushed w tasks T)
+            (halves_pushed w tasks T) (h.nodes w) (on.nodes w);
         drawn = on.drawn h.drawn;
         seen = on.seen h.seen;
         counts = record {
@@ -136,10 +142,12 @@ worked I gone start seat workers p q u u' s next k N m held d claim on (tasks, h
 
     longer : (before after : List Done) (d : Done) (was was' is : ℕ) → after ≡ before ++ d ∷ [] → was ≡ length before → was' ≡ was + 1 → is ≡ was' → is ≡ length after
     longer before after d was was' is grown counts same more =
-        let pushed : length (before ++ d ∷ []) ≡ length before + 1 = length-append before (d ∷ []) in let long : length after ≡ length (before ++ d ∷ []) = ap (λ (ds : List Done). length ds) grown in omega arith
+        let pushed : length (before ++ d ∷ []) ≡ length before + 1 = length-append before (d ∷ []) in let long : length after ≡ length (before ++ d ∷ []) = ap (λ (ds : List Done). length ds)
+        grown in omega arith
 
 -- a worker with new seats has done nothing
-pub begun : (I : Network) (gone : List ℕ) (start seat workers next r : ℕ) (p : Station) (u : Account) (s s' : Sight) (k : Work) → 0 < workers → next ≡ 1 + seat → u ≡ new_account u.ledger u.tally.budget
+pub begun : (I : Network) (gone : List ℕ) (start seat workers next r : ℕ) (p : Station) (u : Account) (s s' : Sight) (k : Work) → 0 < workers → next ≡ 1 + seat
+    → u ≡ new_account u.ledger u.tally.budget
     → s ≡ new_sight s.incumbent start → r ≤ s.lowest → s' ≡ having_seen s r → k.done.items ≡ [] → k.best ≡ None → k.seen ≡ r
     → HasWorked I gone start seat workers p (as_of p u s' next k) []
 begun I gone start seat workers next r p u s s' k some first account sight low look none no_tree last =
@@ -163,7 +171,8 @@ begun I gone start seat workers next r p u s s' k some first account sight low l
         seen = record {
           last = now ∙ sym last;
           low = subst (λ (xs : List ℕ). s'.lowest ≤ least_of start xs) (sym no_offer) (omega (arith, now, low, at_start));
-          offered = subst (λ (xs : List ℕ). IsOffered I gone start k.best xs) (sym no_offer) (subst (λ (t : Option Tree). IsOffered I gone start t []) (sym no_tree) (record { found = tt; least = refl }));
+          offered = subst (λ (xs : List ℕ). IsOffered I gone start k.best xs) (sym no_offer)
+              (subst (λ (t : Option Tree). IsOffered I gone start t []) (sym no_tree) (record { found = tt; least = refl }));
         };
         counts = subst (λ (ds : List Done). CountsOf ds u) (sym none) (record {
           ups = ap (λ (v : Account). v.tally.ups) account;
@@ -203,7 +212,8 @@ ran_so I gone start seat workers p q u s next k left end segment is few ending (
     )
 
 -- the account of a worker whose claim was granted
-pub granted_so : (u u' v : Account) (more : ℕ) (b : Bool) → u' ≡ counting u (with_sights u.tally more) → b ≡ true → v ≡ counting u' (if b then with_grant u'.tally else with_refusal u'.tally) → IsGranted u v
+pub granted_so : (u u' v : Account) (more : ℕ) (b : Bool) → u' ≡ counting u (with_sights u.tally more) → b ≡ true → v ≡ counting u' (if b then with_grant u'.tally else with_refusal u'.tally)
+    → IsGranted u v
 granted_so u u' v more b looks is_true claimed =
     let is : v ≡ counting u' (with_grant u'.tally) = subst (λ (c : Bool). v ≡ counting u' (if c then with_grant u'.tally else with_refusal u'.tally)) is_true claimed in
     let all : v ≡ counting (counting u (with_sights u.tally more)) (with_grant (with_sights u.tally more)) = subst (λ (x : Account). v ≡ counting x (with_grant x.tally)) looks is in
@@ -219,14 +229,17 @@ same_worker a b c h k = record {
 }
 
 -- the same in the seat of the same worker
-pub reseated : {Q : Type 0} (I : Network) (gone : List ℕ) (start : ℕ) (a b : Worker Q) (p : Station) (m : Moment) (held : List Node) → SameWorker a b → HasWorked I gone start a.seat a.workers p m held → HasWorked I gone start b.seat b.workers p m held
+pub reseated : {Q : Type 0} (I : Network) (gone : List ℕ) (start : ℕ) (a b : Worker Q) (p : Station) (m : Moment) (held : List Node) → SameWorker a b
+    → HasWorked I gone start a.seat a.workers p m held → HasWorked I gone start b.seat b.workers p m held
 reseated I gone start a b p m held same h =
     subst (λ (k : ℕ). HasWorked I gone start k b.workers p m held) (sym same.seat) (subst (λ (n : ℕ). HasWorked I gone start a.seat n p m held) (sym same.workers) h)
 
-pub seated_back : {Q : Type 0} (I : Network) (gone : List ℕ) (start : ℕ) (a b : Worker Q) (p : Station) (m : Moment) (held : List Node) → SameWorker a b → HasWorked I gone start b.seat b.workers p m held → HasWorked I gone start a.seat a.workers p m held
+pub seated_back : {Q : Type 0} (I : Network) (gone : List ℕ) (start : ℕ) (a b : Worker Q) (p : Station) (m : Moment) (held : List Node) → SameWorker a b
+    → HasWorked I gone start b.seat b.workers p m held → HasWorked I gone start a.seat a.workers p m held
 seated_back I gone start a b p m held same h =
     subst (λ (k : ℕ). HasWorked I gone start k a.workers p m held) same.seat (subst (λ (n : ℕ). HasWorked I gone start b.seat n p m held) same.workers h)
 
 -- what holds of a node in hand
-pub in_hand : (I : Network) (gone : List ℕ) (start seat workers : ℕ) (p : Station) (m : Moment) (N : Node) → HasWorked I gone start seat workers p m (N ∷ []) → IsSound I gone N × (m.sight.lowest ≤ start)
+pub in_hand : (I : Network) (gone : List ℕ) (start seat workers : ℕ) (p : Station) (m : Moment) (N : Node) → HasWorked I gone start seat workers p m (N ∷ [])
+    → IsSound I gone N × (m.sight.lowest ≤ start)
 in_hand I gone start seat workers p m N (tasks, h) = (All-head (IsSound I gone) N [] h.held_sound, let first = least_at_start start m.sight.offers in omega (arith, h.seen.low, first))

@@ -22,7 +22,8 @@ use Rattle.worker_loop.proofs.Members.{are_members, members}
 use Rattle.worker_loop.proofs.TeamSearch.{team_searches}
 
 -- a worker with new seats is unused
-unused_one : {Q : Type 0} (L M : _) (allowed start workers seat : ℕ) (s : Slot Q) → 0 < workers → IsSeated workers seat s → account_of s ≡ new_account L allowed → sight_of s ≡ new_sight M start → IsUnused start s.worker
+pub unused_one : {Q : Type 0} (L M : _) (allowed start workers seat : ℕ) (s : Slot Q) → 0 < workers → IsSeated workers seat s → account_of s ≡ new_account L allowed → sight_of s ≡ new_sight M start
+    → IsUnused start s.worker
 unused_one L M allowed start workers seat s some seated account sight = record {
   some = subst (λ (n : ℕ). 0 < n) (sym seated.workers_are) some;
   next = seated.next ∙ ap (λ (k : ℕ). 1 + k) (sym seated.seat_is);
@@ -36,7 +37,8 @@ all_unused L M allowed start workers seat [] some seated accounts sights = All-n
 all_unused {Q} L M allowed start workers seat (b ∷ bs) some seated accounts sights =
     let F : Account → Type 0 = λ u. u ≡ new_account L allowed in
     let G : Sight → Type 0 = λ m. m ≡ new_sight M start in
-    All-cons (λ (s : Slot Q). IsUnused start s.worker) b bs (unused_one L M allowed start workers seat b some seated.0 (All-head F (account_of b) (map account_of bs) accounts) (All-head G (sight_of b) (map sight_of bs) sights))
+    All-cons (λ (s : Slot Q). IsUnused start s.worker) b bs
+    (unused_one L M allowed start workers seat b some seated.0 (All-head F (account_of b) (map account_of bs) accounts) (All-head G (sight_of b) (map sight_of bs) sights))
     (all_unused L M allowed start workers (seat + 1) bs some seated.1 (All-tail F (account_of b) (map account_of bs) accounts) (All-tail G (sight_of b) (map sight_of bs) sights))
 
 -- they are of the same ledger and the same incumbent when they have run
@@ -69,10 +71,12 @@ same_passes I gone start (b ∷ bs) (a ∷ as') same ran zero d lt = let one : H
 same_passes I gone start (b ∷ bs) (a ∷ as') same ran (suc k) d lt = same_passes I gone start bs as' (omega arith) (λ j e less. ran (suc j) e (omega arith)) k d (omega arith)
 
 -- so they are all passes of the pool still
-pub still_a_pool : {Q : Type 0} (I : Network) (gone : List ℕ) (start : ℕ) (bs as' : List (Slot Q)) (before after : List Station) → PassesStayAPool → length as' ≡ length bs → HaveRunIn I gone start bs as'
+pub still_a_pool : {Q : Type 0} (I : Network) (gone : List ℕ) (start : ℕ) (bs as' : List (Slot Q)) (before after : List Station) → PassesStayAPool → length as' ≡ length bs
+    → HaveRunIn I gone start bs as'
     → map pass_of bs ≡ before → after ≡ map pass_of as' → AreAllPasses before → AreAllPasses after
 still_a_pool I gone start bs as' before after law same ran was is all =
-    subst AreAllPasses (sym is) (law (map pass_of bs) (map pass_of as') (subst AreAllPasses (sym was) all) (map_long pass_of as' ∙ (same ∙ sym (map_long pass_of bs))) (same_passes I gone start bs as' same ran))
+    subst AreAllPasses (sym is)
+    (law (map pass_of bs) (map pass_of as') (subst AreAllPasses (sym was) all) (map_long pass_of as' ∙ (same ∙ sym (map_long pass_of bs))) (same_passes I gone start bs as' same ran))
 
 -- what a ledger came to, which allowed so many claims
 pub record IsTotal (allowed : ℕ) (us : List Account) (opened claimed : ℕ) : Type 0 where

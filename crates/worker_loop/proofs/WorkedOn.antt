@@ -50,7 +50,8 @@ seen_same I gone start r s s' k k' low same kept h =
     subst (λ (w : Work). HasSeen I gone start s' w.best w.seen) (sym kept) (subst (λ (m : Sight). HasSeen I gone start m k.best r) (sym same) here)
 
 -- what was seen and offered with a better tree
-seen_better : (I : Network) (gone : List ℕ) (start r : ℕ) (N : Node) (p : Priced) (s : Sight) (best : Option Tree) (seen seen' : ℕ) → IsSound I gone N → r ≤ s.lowest → IsBetter I N.branch r p → seen' ≤ min r p.price
+seen_better : (I : Network) (gone : List ℕ) (start r : ℕ) (N : Node) (p : Priced) (s : Sight) (best : Option Tree) (seen seen' : ℕ) → IsSound I gone N → r ≤ s.lowest → IsBetter I N.branch r p
+    → seen' ≤ min r p.price
     → HasSeen I gone start s best seen → HasSeen I gone start (record { incumbent = s.incumbent; start = s.start; offers = s.offers ++ p.price ∷ []; lowest = seen' }) (Some p.tree) seen'
 seen_better I gone start r N p s best seen seen' sound low b under h =
     let pushed : least_of start (s.offers ++ p.price ∷ []) ≡ min (least_of start s.offers) (min p.price start) = least_append start s.offers (p.price ∷ []) in
@@ -87,15 +88,18 @@ adopted I gone start r N s s' k k' (Some p) sound low h (offer, under, best, don
   lower = omega (arith, under);
   done = ap (λ w. w.items) done;
   seen = λ had.
-      subst (λ (t : Option Tree). HasSeen I gone start s' t k'.seen) (sym best) (subst (λ (m : Sight). HasSeen I gone start m (Some p.tree) k'.seen) (sym offer) (seen_better I gone start r N p s k.best k.seen k'.seen sound low h under had));
+      subst (λ (t : Option Tree). HasSeen I gone start s' t k'.seen) (sym best)
+      (subst (λ (m : Sight). HasSeen I gone start m (Some p.tree) k'.seen) (sym offer) (seen_better I gone start r N p s k.best k.seen k'.seen sound low h under had));
 }
 
 -- what was seen stays so where the seat and the work are the same
-still_seen : (I : Network) (gone : List ℕ) (start : ℕ) (s s' : Sight) (best best' : Option Tree) (seen seen' : ℕ) → s' ≡ s → best' ≡ best → seen' ≡ seen → HasSeen I gone start s best seen → HasSeen I gone start s' best' seen'
+still_seen : (I : Network) (gone : List ℕ) (start : ℕ) (s s' : Sight) (best best' : Option Tree) (seen seen' : ℕ) → s' ≡ s → best' ≡ best → seen' ≡ seen → HasSeen I gone start s best seen
+    → HasSeen I gone start s' best' seen'
 still_seen I gone start s s' best best' seen seen' a b c h = rw (a, b, c) h
 
 -- a node was closed by what a step found
-pub closed_on : (I : Network) (gone : List ℕ) (start seat workers r : ℕ) (N : Node) (q : Station) (u : Account) (s s' : Sight) (next : ℕ) (k k' : Work) (m : Moment) (better : Option Priced) (P : Packing) → IsSound I gone N
+pub closed_on : (I : Network) (gone : List ℕ) (start seat workers r : ℕ) (N : Node) (q : Station) (u : Account) (s s' : Sight) (next : ℕ) (k k' : Work) (m : Moment) (better : Option Priced)
+    (P : Packing) → IsSound I gone N
     → r ≤ s.lowest → IfSome better (IsBetter I N.branch r) → IsEnd I N (least_after r better) (Close P)
     → Adopts better (having_seen s r) s' (record { done = k.done; best = k.best; seen = r }) k' → IsClosed N.id P (as_of q u s' next k') m
     → IsWorkedOn I gone start seat workers N (as_of q u s next k) m [] (recorded.Close N.id P)
@@ -110,7 +114,8 @@ closed_on I gone start seat workers r N q u s s' next k k' m better P sound low 
       };
       records = grown;
       held_sound = All-nil (IsSound I gone);
-      nodes = λ w. let same : gave w m.pass ≡ gave w q = ap (gave w) closed.pass in let taken : took w m.pass ≡ took w q = ap (took w) closed.pass in balance (gave w q) (gave w m.pass) (took w q) (took w m.pass) same taken;
+      nodes = λ w. let same : gave w m.pass ≡ gave w q = ap (gave w) closed.pass in let taken : took w m.pass ≡ took w q = ap (took w) closed.pass in balance (gave w q) (gave w m.pass) (took w q)
+          (took w m.pass) same taken;
       drawn = λ h.
           subst (λ (n : ℕ). AreDrawnBelow seat workers n m.work.done.items) (sym closed.next)
           (subst (λ (ds : List Done). AreDrawnBelow seat workers next ds) (sym grown) (drawn_close seat workers next N.id k.done.items P h));
@@ -147,7 +152,8 @@ split_task I N M least start v low h = record {
   no_lighter = subst (λ (B : Branch). weight I N.branch N.packing ≤ weight I B M.packing) h.same h.no_lighter;
 }
   where
-    by_bound : ((NoneIsCertain I N.branch × IsChoice I N.branch v) ⊎ (IsFull I M.branch M.packing × (weight I M.branch M.packing < least))) → IsFullBelow I N.branch M.packing start ⊎ NoneIsCertain I N.branch
+    by_bound : ((NoneIsCertain I N.branch × IsChoice I N.branch v) ⊎ (IsFull I M.branch M.packing × (weight I M.branch M.packing < least)))
+        → IsFullBelow I N.branch M.packing start ⊎ NoneIsCertain I N.branch
     by_bound (inl none) = inr none.0
     by_bound (inr full) = inl (subst (λ (B : Branch). IsFullBelow I B M.packing start) h.same (record { full = full.0; below = omega (arith, full.1, low) }))
 
@@ -174,7 +180,8 @@ least_low r None I B h = omega arith
 least_low r (Some p) I B h = omega (arith, h.cheaper)
 
 -- a node was split as a step says
-pub split_on : (I : Network) (gone : List ℕ) (start seat workers r : ℕ) (N M inside : Node) (v : ℕ) (q : Station) (u : Account) (s s' : Sight) (next : ℕ) (k k' : Work) (m : Moment) (better : Option Priced) → IsSound I gone N
+pub split_on : (I : Network) (gone : List ℕ) (start seat workers r : ℕ) (N M inside : Node) (v : ℕ) (q : Station) (u : Account) (s s' : Sight) (next : ℕ) (k k' : Work) (m : Moment)
+    (better : Option Priced) → IsSound I gone N
     → r ≤ s.lowest → s.lowest ≤ start → IfSome better (IsBetter I N.branch r) → IsEnd I N (least_after r better) (Split M v)
     → Adopts better (having_seen s r) s' (record { done = k.done; best = k.best; seen = r }) k' → IsHalved workers N.id M v (as_of q u s' next k') m inside
     → IsWorkedOn I gone start seat workers N (as_of q u s next k) m (inside ∷ []) (recorded.Split N.id v next (next + workers) M.packing)
@@ -189,7 +196,8 @@ split_on I gone start seat workers r N M inside v q u s s' next k k' m better so
       records = grown;
       held_sound = All-cons (IsSound I gone) inside [] (subst (IsSound I gone) (sym halved.inside_is) inner) (All-nil (IsSound I gone));
       nodes = λ w.
-          let halves : sum_by w (halves_by N.branch d) ≡ sum_by w (inside_half M v next ∷ outside_half M v (next + workers) ∷ []) = ap (sum_by w) (same_halves N.branch M N.id v next (next + workers) end.same) in
+          let halves : sum_by w (halves_by N.branch d) ≡ sum_by w (inside_half M v next ∷ outside_half M v (next + workers) ∷ []) = ap (sum_by w)
+          (same_halves N.branch M N.id v next (next + workers) end.same) in
           let one : sum_by w (inside ∷ []) ≡ sum_by w (inside_half M v next ∷ []) = ap (λ (n : Node). sum_by w (n ∷ [])) halved.inside_is in
           balance (gave w q) (gave w m.pass) (took w q) (took w m.pass) _ (w (inside_half M v next)) (w (outside_half M v (next + workers))) _ (halved.pass w) one halves;
       drawn = λ h.

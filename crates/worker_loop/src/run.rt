@@ -81,10 +81,12 @@ impl<Q: Aim> Worker<Q> {
         ensures refused { self.new.ledger.tally.refused ≡ self.old.ledger.tally.refused }
         ensures next { MatchResult result
             (λ node. (p : Station) (k : Work)
-            → HasWorked Q.instance Q.gone Q.start self.old.seat self.old.workers p (moment self.old k) (option_to_list hand)
+            → HasWorked Q.instance Q.gone Q.start self.old.seat self.old.workers p (moment self.old k)
+            (option_to_list hand)
             → HasWorked Q.instance Q.gone Q.start self.old.seat self.old.workers p (moment self.new k) (node ∷ []))
             (λ end. IsEnding end self.new.ledger × ((p : Station) (k : Work)
-            → HasWorked Q.instance Q.gone Q.start self.old.seat self.old.workers p (moment self.old k) (option_to_list hand)
+            → HasWorked Q.instance Q.gone Q.start self.old.seat self.old.workers p (moment self.old k)
+            (option_to_list hand)
             → HasWorked Q.instance Q.gone Q.start self.old.seat self.old.workers p (moment self.new k) [])) }
     {
         match hand {

@@ -109,7 +109,8 @@ pub fn run_team<Q: Aim + Send, R: Threads + Wait + Sync, G: Gate>(
         team,
         threads,
         &|_, slot: &mut Slot<Q>|
-            requires { (whole.now.instance ≡ Q.instance) × IsAim Q.instance Q.gone Q.start × IsUnused Q.start slot.now.worker }
+            requires { (whole.now.instance ≡ Q.instance) × IsAim Q.instance Q.gone Q.start
+                × IsUnused Q.start slot.now.worker }
             ensures { HasRunIn Q.instance Q.gone Q.start slot.entry.now slot.exit.now }
         { slot.run(rt, alloc, whole, start, gate) },
     );

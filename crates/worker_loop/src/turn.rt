@@ -47,7 +47,8 @@ impl<Q: Aim> Worker<Q> {
         requires unrefused { self.old.ledger.tally.refused ≡ 0 }
         ensures same { SameWorker self.old self.new }
         ensures turned { IfOk result (λ t. (p : Station)
-            → HasWorked Q.instance Q.gone Q.start self.old.seat self.old.workers p (moment self.old work.old) (node ∷ [])
+            → HasWorked Q.instance Q.gone Q.start self.old.seat self.old.workers p (moment self.old work.old)
+            (node ∷ [])
             → HasTurned Q.instance Q.gone Q.start self.old.seat self.old.workers p (moment self.new work.new) t) }
     {
         if self.ledger.see_halt() {

@@ -30,6 +30,7 @@ pub fn brought_alone<R: Wait>(
         return Ok(None);
     };
     prove!(whole.instance.need(certain) == Need::Required);
+    prove!(1 <= whole.instance.vertices());
     let all = Branch::all(alloc);
     let gone = all.outside.as_slice();
     let start = Tree {

@@ -27,7 +27,8 @@ run_team-requires-clause-unused g c κs within =
     let allowed = c.min-allowed.result in
     let same : c.as_mut_slice.result.now ≡ team = search rules in
     let accounts = subst (All (λ (u : Account). u ≡ new_account L allowed)) (sym c.in_ok-team.ensures.accounts) c.in_ok-ledger.ensures.seats in
-    let sights = subst (λ (n : ℕ). All (λ (m : Sight). m ≡ new_sight M n) (map sight_of team)) c.requires.first (subst (All (λ (m : Sight). m ≡ new_sight M c.args.first)) (sym c.in_ok-team.ensures.sights) c.in_ok-incumbent.ensures.seats) in
+    let sights = subst (λ (n : ℕ). All (λ (m : Sight). m ≡ new_sight M n) (map sight_of team)) c.requires.first
+    (subst (All (λ (m : Sight). m ≡ new_sight M c.args.first)) (sym c.in_ok-team.ensures.sights) c.in_ok-incumbent.ensures.seats) in
     subst (All (λ (s : Slot Q). IsUnused start s.worker)) (sym same) (all_unused L M allowed start c.args.workers 0 team c.requires.few.0 c.in_ok-team.ensures.seats accounts sights)
 
 pub close-requires : goal.close-requires
@@ -36,9 +37,11 @@ close-requires g c =
     let after = c.run_team.new.team in
     let passes : map pass_of before ≡ c.in_ok-passes.passes.items = search rules in
     let long : length after ≡ length before = search rules in
-    let all : take c.in_ok-team.team.len (after ++ drop (length after) c.in_ok-team.team.items) ≡ after = written after (drop (length after) c.in_ok-team.team.items) c.in_ok-team.team.len (sym (long ∙ c.as_mut_slice.ensures.len)) in
+    let all : take c.in_ok-team.team.len (after ++ drop (length after) c.in_ok-team.team.items) ≡ after = written after (drop (length after) c.in_ok-team.team.items) c.in_ok-team.team.len
+    (sym (long ∙ c.as_mut_slice.ensures.len)) in
     let back : c.in_ok-returned.returned.passes.items ≡ map pass_of after = c.in_ok-returned.ensures.passes ∙ ap (λ (ss : List (Slot g.row.Q.Denot)). map pass_of ss) all in
-    still_a_pool g.Q.Aim.instance g.Q.Aim.gone g.Q.Aim.start before after c.in_ok-passes.passes.items c.in_ok-returned.returned.passes.items c.passes_stay_a_pool.ensures long c.run_team.ensures passes back c.in_ok-passes.ensures.all
+    still_a_pool g.Q.Aim.instance g.Q.Aim.gone g.Q.Aim.start before after c.in_ok-passes.passes.items c.in_ok-returned.returned.passes.items c.passes_stay_a_pool.ensures long c.run_team.ensures
+    passes back c.in_ok-passes.ensures.all
 
 pub close-totals-requires-clause-own : goal.close-totals-requires-clause-own
 close-totals-requires-clause-own g c =
@@ -47,7 +50,8 @@ close-totals-requires-clause-own g c =
     let L = c.in_ok-ledger.ledger.ledger in
     let allowed = c.min-allowed.result in
     let long : length after ≡ length before = search rules in
-    let all : take c.in_ok-team.team.len (after ++ drop (length after) c.in_ok-team.team.items) ≡ after = written after (drop (length after) c.in_ok-team.team.items) c.in_ok-team.team.len (sym (long ∙ c.as_mut_slice.ensures.len)) in
+    let all : take c.in_ok-team.team.len (after ++ drop (length after) c.in_ok-team.team.items) ≡ after = written after (drop (length after) c.in_ok-team.team.items) c.in_ok-team.team.len
+    (sym (long ∙ c.as_mut_slice.ensures.len)) in
     let was : map account_of before ≡ c.in_ok-ledger.accounts.items = search rules in
     let back : c.in_ok-returned.returned.accounts.items ≡ map account_of after = c.in_ok-returned.ensures.accounts ∙ ap (λ (ss : List (Slot g.row.Q.Denot)). map account_of ss) all in
     let new = subst (All (λ (u : Account). u ≡ new_account L allowed)) (sym was) c.in_ok-ledger.ensures.seats in
@@ -59,10 +63,12 @@ close-least-requires-clause-own g c =
     let after = c.run_team.new.team in
     let M = c.in_ok-incumbent.incumbent.incumbent in
     let long : length after ≡ length before = search rules in
-    let all : take c.in_ok-team.team.len (after ++ drop (length after) c.in_ok-team.team.items) ≡ after = written after (drop (length after) c.in_ok-team.team.items) c.in_ok-team.team.len (sym (long ∙ c.as_mut_slice.ensures.len)) in
+    let all : take c.in_ok-team.team.len (after ++ drop (length after) c.in_ok-team.team.items) ≡ after = written after (drop (length after) c.in_ok-team.team.items) c.in_ok-team.team.len
+    (sym (long ∙ c.as_mut_slice.ensures.len)) in
     let was : map sight_of before ≡ c.in_ok-incumbent.sights.items = search rules in
     let back : c.in_ok-returned.returned.sights.items ≡ map sight_of after = c.in_ok-returned.ensures.sights ∙ ap (λ (ss : List (Slot g.row.Q.Denot)). map sight_of ss) all in
-    let new = subst (λ (n : ℕ). All (λ (m : Sight). m ≡ new_sight M n) (map sight_of before)) c.requires.first (subst (All (λ (m : Sight). m ≡ new_sight M c.args.first)) (sym was) c.in_ok-incumbent.ensures.seats) in
+    let new = subst (λ (n : ℕ). All (λ (m : Sight). m ≡ new_sight M n) (map sight_of before)) c.requires.first
+    (subst (All (λ (m : Sight). m ≡ new_sight M c.args.first)) (sym was) c.in_ok-incumbent.ensures.seats) in
     subst (All (λ (m : Sight). m.incumbent ≡ M)) (sym back) (same_incumbents g.Q.Aim.instance g.Q.Aim.gone g.Q.Aim.start M before after long c.run_team.ensures new)
 
 pub returns : goal.returns
@@ -79,7 +85,8 @@ returns g c =
     let back = c.in_ok-returned.returned in
     let same : before ≡ c.in_ok-team.team.items = search rules in
     let long : length after ≡ length before = search rules in
-    let all : take c.in_ok-team.team.len (after ++ drop (length after) c.in_ok-team.team.items) ≡ after = written after (drop (length after) c.in_ok-team.team.items) c.in_ok-team.team.len (sym (long ∙ c.as_mut_slice.ensures.len)) in
+    let all : take c.in_ok-team.team.len (after ++ drop (length after) c.in_ok-team.team.items) ≡ after = written after (drop (length after) c.in_ok-team.team.items) c.in_ok-team.team.len
+    (sym (long ∙ c.as_mut_slice.ensures.len)) in
     let seated = subst (AreSeated c.args.workers 0) (sym same) c.in_ok-team.ensures.seats in
     let passes : map pass_of before ≡ c.in_ok-passes.passes.items = search rules in
     let count : length before ≡ c.args.workers = sym (map_long pass_of before) ∙ (ap (λ (ps : List Station). length ps) passes ∙ c.in_ok-passes.ensures.count) in
@@ -102,15 +109,18 @@ returns g c =
     } in
     let closed : IsClosedTeam I gone start allowed c.args.workers before after queued least totals.opened totals.claimed = record {
       root = λ h.
-          subst (λ (ps : List Station). all_gave h ps ≡ all_took h ps + h (root_of gone)) (sym passes) (subst (λ (n : Node). all_gave h c.in_ok-passes.passes.items ≡ all_took h c.in_ok-passes.passes.items + h n) root (c.in_ok-passes.ensures.root h));
+          subst (λ (ps : List Station). all_gave h ps ≡ all_took h ps + h (root_of gone)) (sym passes)
+          (subst (λ (n : Node). all_gave h c.in_ok-passes.passes.items ≡ all_took h c.in_ok-passes.passes.items + h n) root (c.in_ok-passes.ensures.root h));
       left = λ h. subst (λ (ps : List Station). all_gave h ps ≡ all_took h ps + sum_by h queued) passes_back (c.in_ok-queued.ensures.left h);
       sound = c.in_ok-queued.ensures.sound;
       few = small;
       total = subst (λ (us : List Account). IsTotal allowed us totals.opened totals.claimed) accounts_back total;
-      is_least = subst (λ (ms : List Sight). least ≡ least_of start (all_offers ms)) sights_back (subst (λ (n : ℕ). least ≡ least_of n (all_offers back.sights.items)) start_is c.close-least.ensures.least);
+      is_least = subst (λ (ms : List Sight). least ≡ least_of start (all_offers ms)) sights_back
+          (subst (λ (n : ℕ). least ≡ least_of n (all_offers back.sights.items)) start_is c.close-least.ensures.least);
       seen = subst (All (λ (m : Sight). least ≤ m.lowest)) sights_back c.close-least.ensures.seen;
     } in
-    let so = searched_so I gone start c.args.budget allowed c.args.workers before after back.segments.items queued least totals.opened totals.claimed c.requires.few.1 count long seated c.run_team.ensures found is_allowed
+    let so = searched_so I gone start c.args.budget allowed c.args.workers before after back.segments.items queued least totals.opened totals.claimed c.requires.few.1 count long seated
+    c.run_team.ensures found is_allowed
     (λ e. c.if-totals-eq-MOST_CLAIMS.false e) closed in
     subst (λ (Ns : List Node). IsSearched (record { segments = c.of.result; queued = Ns; least = least; claimed = totals.claimed }) I gone start c.args.budget) (sym c.of-2.ensures)
     (subst (λ (ss : List Segment). IsSearched (record { segments = ss; queued = queued; least = least; claimed = totals.claimed }) I gone start c.args.budget) (sym c.of.ensures) so)

@@ -26,8 +26,10 @@ loop-seat-preserved g c =
       count = ap (λ (ss : List (Slot g.row.Q.Denot)). length ss) more ∙ (length-append team (s ∷ []) ∙ ap (λ (k : ℕ). k + 1) i.count);
       seats = subst (AreSeated c.args.workers 0) (sym more) (seated_push c.args.workers 0 team s i.seats one);
       pass_items = made_of_next pass_of team c.push.new.self.items s c.loop-seat.passes.rest.items c.next.new.self.rest.items c.args.passes.items c.in-Some.pass more passes pass i.pass_items;
-      account_items = made_of_next account_of team c.push.new.self.items s c.loop-seat.accounts.rest.items c.next-in-loop-seat.new.self.rest.items c.args.accounts.items c.in-Some-next.account more accounts account i.account_items;
-      sight_items = made_of_next sight_of team c.push.new.self.items s c.loop-seat.sights.rest.items c.next-in-loop-seat-2.new.self.rest.items c.args.sights.items c.in-Some-next-2.sight more sights sight i.sight_items;
+      account_items = made_of_next account_of team c.push.new.self.items s c.loop-seat.accounts.rest.items c.next-in-loop-seat.new.self.rest.items c.args.accounts.items c.in-Some-next.account more
+          accounts account i.account_items;
+      sight_items = made_of_next sight_of team c.push.new.self.items s c.loop-seat.sights.rest.items c.next-in-loop-seat-2.new.self.rest.items c.args.sights.items c.in-Some-next-2.sight more sights
+          sight i.sight_items;
     }
 
 pub returns-clause-passes : goal.returns-clause-passes

@@ -16,7 +16,8 @@ loop-init g c =
       tt,
       record { seat = refl; workers = refl; pass = (refl, refl); ledger = refl; best = ap (λ (m : Sight). m.incumbent) c.see.ensures.seen },
       ap (λ (u : Account). u.tally.refused) new.account,
-      begun g.Q.Aim.instance g.Q.Aim.gone g.Q.Aim.start w.seat w.workers w.next c.see.result w.pass w.ledger w.best c.see.new.self k.result new.some new.next new.account new.sight c.see.ensures.at_most c.see.ensures.seen k.ensures.done k.ensures.best
+      begun g.Q.Aim.instance g.Q.Aim.gone g.Q.Aim.start w.seat w.workers w.next c.see.result w.pass w.ledger w.best c.see.new.self k.result new.some new.next new.account new.sight
+          c.see.ensures.at_most c.see.ensures.seen k.ensures.done k.ensures.best
           k.ensures.seen,
     )
 
@@ -25,14 +26,16 @@ turn-requires-clause-node g c κs within =
     let i = c.loop.invariant in
     let w = c.args.self.now in
     let had = reseated g.Q.Aim.instance g.Q.Aim.gone g.Q.Aim.start w c.loop.self w.pass (moment c.loop.self c.loop.work) (option_to_list c.loop.hand) i.2 i.4 in
-    (in_hand g.Q.Aim.instance g.Q.Aim.gone g.Q.Aim.start c.loop.self.seat c.loop.self.workers w.pass (moment c.taken_up.new.self c.loop.work) c.in-Ok.node (c.in-Ok.ensures.next w.pass c.loop.work had)).0
+    (in_hand g.Q.Aim.instance g.Q.Aim.gone g.Q.Aim.start c.loop.self.seat c.loop.self.workers w.pass (moment c.taken_up.new.self c.loop.work) c.in-Ok.node
+    (c.in-Ok.ensures.next w.pass c.loop.work had)).0
 
 pub turn-requires-clause-low : goal.turn-requires-clause-low
 turn-requires-clause-low g c κs within =
     let i = c.loop.invariant in
     let w = c.args.self.now in
     let had = reseated g.Q.Aim.instance g.Q.Aim.gone g.Q.Aim.start w c.loop.self w.pass (moment c.loop.self c.loop.work) (option_to_list c.loop.hand) i.2 i.4 in
-    (in_hand g.Q.Aim.instance g.Q.Aim.gone g.Q.Aim.start c.loop.self.seat c.loop.self.workers w.pass (moment c.taken_up.new.self c.loop.work) c.in-Ok.node (c.in-Ok.ensures.next w.pass c.loop.work had)).1
+    (in_hand g.Q.Aim.instance g.Q.Aim.gone g.Q.Aim.start c.loop.self.seat c.loop.self.workers w.pass (moment c.taken_up.new.self c.loop.work) c.in-Ok.node
+    (c.in-Ok.ensures.next w.pass c.loop.work had)).1
 
 pub loop-preserved : goal.loop-preserved
 loop-preserved g c =
@@ -90,4 +93,5 @@ returns-in-Err-clause-run g c =
     let up = seated_back I gone start w c.loop.self w.pass m [] i.2 (c.in-Err.ensures.next.1 w.pass c.loop.work had) in
     let done = subst (HasWorked I gone start w.seat w.workers w.pass m) (sym none) up in
     let few : length left ≤ 1 = subst (λ (Ns : List Node). length Ns ≤ 1) (sym none) (omega arith) in
-    ran_so I gone start w.seat w.workers w.pass taken.pass taken.ledger taken.best taken.next c.loop.work left c.in-Err.end c.ended-in-Err.result c.ended-in-Err.ensures few c.in-Err.ensures.next.0 done
+    ran_so I gone start w.seat w.workers w.pass taken.pass taken.ledger taken.best taken.next c.loop.work left c.in-Err.end c.ended-in-Err.result c.ended-in-Err.ensures few c.in-Err.ensures.next.0
+    done

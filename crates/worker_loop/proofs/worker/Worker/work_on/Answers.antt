@@ -31,8 +31,11 @@ returns-in_ok-close-in-Close-clause-worked g c =
     let m = moment c.close.new.self c.close.new.work in
     let closed = subst (λ (n : ℕ). IsClosed c.args.node.id P (as_of w.pass w.ledger v.best n k') m) same.2
     (subst (λ (q : Station). IsClosed c.args.node.id P (as_of q w.ledger v.best v.next k') m) same.3
-    (subst (λ (u : Account). IsClosed c.args.node.id P (as_of v.pass u v.best v.next k') m) same.4 c.in_ok-close-in-Close.ensures.closed)) in
-    (recorded.Close c.args.node.id P, closed_on I g.Q.Aim.gone g.Q.Aim.start w.seat w.workers r c.args.node w.pass w.ledger w.best v.best w.next k k' m better P c.requires.node c.see-work.ensures.at_most step.tree end adopts closed)
+    (subst (λ (u : Account). IsClosed c.args.node.id P (as_of v.pass u v.best v.next k') m) same.4 c.in_ok-close-in-Close.ensures.closed)) in (
+      recorded.Close c.args.node.id P,
+      closed_on I g.Q.Aim.gone g.Q.Aim.start w.seat w.workers r c.args.node w.pass w.ledger w.best v.best w.next k k' m better P c.requires.node
+          c.see-work.ensures.at_most step.tree end adopts closed,
+    )
 
 pub returns-in_ok-inside-in-Split-clause-worked : goal.returns-in_ok-inside-in-Split-clause-worked
 returns-in_ok-inside-in-Split-clause-worked g c =
@@ -59,5 +62,6 @@ returns-in_ok-inside-in-Split-clause-worked g c =
     (subst (λ (u : Account). IsHalved w.workers c.args.node.id M vertex (as_of v.pass u v.best v.next k') m inside) same.4
     (subst (λ (n : ℕ). IsHalved n c.args.node.id M vertex (as_of v.pass v.ledger v.best v.next k') m inside) same.1 c.in_ok-inside-in-Split.ensures.halved))) in (
       recorded.Split c.args.node.id vertex w.next (w.next + w.workers) M.packing,
-      split_on I g.Q.Aim.gone g.Q.Aim.start w.seat w.workers r c.args.node M inside vertex w.pass w.ledger w.best v.best w.next k k' m better c.requires.node c.see-work.ensures.at_most c.requires.low step.tree end adopts halved,
+      split_on I g.Q.Aim.gone g.Q.Aim.start w.seat w.workers r c.args.node M inside vertex w.pass w.ledger w.best v.best w.next k k' m better c.requires.node c.see-work.ensures.at_most
+          c.requires.low step.tree end adopts halved,
     )
