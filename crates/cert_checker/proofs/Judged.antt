@@ -53,13 +53,13 @@ at_start I x first lines root one splits alone = record {
 }
 
 -- the splits of the path after a half that is done with
-splits-next_path : (I : Network) (path next : List Turn) → next_path path ≡ Some next → AreSplits I path → AreSplits I next
+pub splits-next_path : (I : Network) (path next : List Turn) → next_path path ≡ Some next → AreSplits I path → AreSplits I next
 splits-next_path I [] next e splits = absurd cc
 splits-next_path I (Inside v ∷ path) next e splits = let same : Outside v ∷ path ≡ next = cc in subst (AreSplits I) same splits
 splits-next_path I (Outside v ∷ path) next e splits = splits-next_path I path next e splits.1
 
 -- what waits is what is open on the next path
-waiting_is : (path next : List Turn) → next_path path ≡ Some next → waiting path ≡ open_branches next
+pub waiting_is : (path next : List Turn) → next_path path ≡ Some next → waiting path ≡ open_branches next
 waiting_is path next e = waiting-next_path path ∙ ap opened e
 
 -- a right line is taken away

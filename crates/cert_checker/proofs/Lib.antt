@@ -6,5 +6,15 @@ pub mod Walls
 pub mod LeftOut
 pub mod Judged
 pub mod Judgements
+pub mod Texts
 pub mod Checks
 pub mod Taken
+pub mod Said
+pub mod GoingOn
+pub mod Keeping
+pub mod Unsaid
+pub mod Nexts
+pub mod Halves
+pub mod Pieces
+pub mod Hears
+pub mod Answering

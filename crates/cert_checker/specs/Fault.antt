@@ -1,10 +1,8 @@
--- The faults of a file and a log as those of a check.
+-- The faults of a file as those of a check.
+use Rattle.std.specs.Prelude.{ℕ, List}
+use Rattle.stp_reader.specs.Reads.{Refused}
 use Rattle.stp_reader.specs.declared.fault.ReadError as file
 use Rattle.stp_reader.specs.declared.fault.ReadError.TheVariants as file_error
-use Rattle.log_format.specs.declared.fault.ReadError as text
-use Rattle.log_format.specs.declared.fault.ReadError.TheVariants as text_error
-use Rattle.cert_checker.specs.declared.fault.JudgeError.{JudgeError}
-use Rattle.cert_checker.specs.declared.fault.JudgeError.TheVariants as judge_error
 use Rattle.cert_checker.specs.declared.fault.CheckFault.{CheckFault}
 use Rattle.cert_checker.specs.declared.fault.CheckFault.TheVariants.{Stp, Log, NoMemory}
 
@@ -13,12 +11,8 @@ abbrev pub fault_of_file : file.ReadError → CheckFault
 fault_of_file (file_error.Fault f) = Stp f
 fault_of_file file_error.NoMemory = NoMemory
 
--- the fault of a log whose text isn't read
-abbrev pub fault_of_text : text.ReadError → CheckFault
-fault_of_text (text_error.Fault f) = Log f
-fault_of_text text_error.NoMemory = NoMemory
-
--- the fault of a log that isn't right of the instance
-abbrev pub fault_of_log : JudgeError → CheckFault
-fault_of_log (judge_error.Fault f) = Log f
-fault_of_log judge_error.NoMemory = NoMemory
+-- where it isn't memory, this is the first fault of the file
+abbrev pub IsFaultOfFile : List ℕ → CheckFault → Type 0
+IsFaultOfFile stp (Stp f) = Refused stp f.line f.reason
+IsFaultOfFile stp (Log f) = ⊥
+IsFaultOfFile stp NoMemory = Unit {0}

@@ -3,3 +3,9 @@ pub mod Verdict
 pub mod Judging
 pub mod Fault
 pub mod Checking
+pub mod Pieces
+pub mod Held
+pub mod Following
+pub mod Lines
+pub mod Hearing
+pub mod Heard

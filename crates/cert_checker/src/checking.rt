@@ -8,10 +8,8 @@ ghost use Rattle.cert_checker.specs.declared.verdict.Verdict.{Verdict as Conclus
 ghost use Rattle.cert_checker.specs.Checking.{IsAcceptedText, IsWrongText, IsAnswer, Answers};
 ghost use Rattle.cert_checker.specs.Verdict.{Concludes};
 
-use crate::{CheckFault, Verdict, judge};
-use log_format::read_log;
+use crate::{CheckFault, Checker, Verdict};
 use std::alloc::Global;
-use stp_reader::read_stp;
 
 /// What may be concluded of the instance of an STP file from a log. The faults of the file come
 /// first, then those of the log's text, wherever they stand, and then those of what it says.
@@ -43,9 +41,8 @@ fn answer(alloc: Global, stp: &[u8], log: &[u8]) -> Result<Verdict, CheckFault>
     ensures exact { IsAnswer stp.now log.now result }
     ensures concludes { (I : Network) → Reads stp.now I → IfOk result (Concludes I) }
 {
-    stp_reader::refused_exactly();
-    let instance = read_stp(alloc, stp)?;
-    let log = read_log(alloc, log)?;
-    let verdict = judge(alloc, &instance, &log)?;
+    let checker = Checker::begin(alloc, stp)?;
+    let checker = checker.feed(log)?;
+    let verdict = checker.finish()?;
     Ok(verdict)
 }

@@ -1,6 +1,6 @@
 ghost use Rattle.std.specs.Prelude.{◌≡◌};
 ghost use Rattle.cert_checker.specs.declared.fault.JudgeError.TheVariants.{NoMemory};
-ghost use Rattle.cert_checker.specs.Fault.{fault_of_file, fault_of_text, fault_of_log};
+ghost use Rattle.cert_checker.specs.Fault.{fault_of_file};
 
 use log_format::{Kind, LogFault};
 use std::alloc::AllocError;
@@ -54,24 +54,12 @@ impl From<stp_reader::ReadError> for CheckFault {
     }
 }
 
-impl From<log_format::ReadError> for CheckFault {
-    ghost from_gives = { λ e fault. fault ≡ fault_of_text e };
+impl From<AllocError> for CheckFault {
+    ghost use Rattle.cert_checker.specs.declared.fault.CheckFault.TheVariants as check_fault;
 
-    fn from(e: log_format::ReadError) -> CheckFault {
-        match e {
-            log_format::ReadError::Fault(fault) => CheckFault::Log(fault),
-            log_format::ReadError::NoMemory => CheckFault::NoMemory,
-        }
-    }
-}
+    ghost from_gives = { λ _ fault. fault ≡ check_fault.NoMemory };
 
-impl From<JudgeError> for CheckFault {
-    ghost from_gives = { λ e fault. fault ≡ fault_of_log e };
-
-    fn from(e: JudgeError) -> CheckFault {
-        match e {
-            JudgeError::Fault(fault) => CheckFault::Log(fault),
-            JudgeError::NoMemory => CheckFault::NoMemory,
-        }
+    fn from(_e: AllocError) -> CheckFault {
+        CheckFault::NoMemory
     }
 }

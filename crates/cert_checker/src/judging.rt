@@ -71,7 +71,7 @@ fn judge_claim(alloc: Global, instance: &Instance, log: &Log) -> Result<(), Judg
 }
 
 // The line of the first step.
-fn steps_line(tree: &Tree) -> u64
+pub(crate) fn steps_line(tree: &Tree) -> u64
     ensures { result ≡ steps_line tree.now }
 {
     5 + tree.arcs.as_slice().len() as u64
@@ -85,7 +85,7 @@ fn proof_line(tree: &Tree, steps: &[Step]) -> u64
 }
 
 // Judges a tree and the two numbers that are claimed of it.
-fn judge_tree(
+pub(crate) fn judge_tree(
     alloc: Global,
     instance: &Instance,
     primal: u64,
@@ -109,7 +109,11 @@ fn judge_tree(
 }
 
 // Judges a wall.
-fn judge_wall(alloc: Global, instance: &Instance, wall: &Listed<u32>) -> Result<(), JudgeError>
+pub(crate) fn judge_wall(
+    alloc: Global,
+    instance: &Instance,
+    wall: &Listed<u32>,
+) -> Result<(), JudgeError>
     ensures right { OnOk result (AcceptsClaim instance.now (Claim.NoTree wall.now)) }
     ensures wrong { IfErr result (λ e. IfFault e
         (RejectsClaim instance.now (Claim.NoTree wall.now))) }

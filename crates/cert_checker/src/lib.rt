@@ -5,12 +5,19 @@
 //! the log is accepted and else the first fault, and on the verdict, which is true of all trees.
 #![tactic(auto)]
 
+mod checker;
 mod checking;
 mod fault;
+mod fed;
+mod following;
+mod hearing;
 mod judging;
 mod line;
 mod path;
 mod proof;
+mod proving;
+mod splits;
+mod stage;
 mod steps;
 #[cfg(test)]
 mod tests;
@@ -18,6 +25,7 @@ mod turn;
 mod verdict;
 mod wall;
 
+pub use checker::Checker;
 pub use checking::check;
 pub use fault::{CheckFault, JudgeError};
 pub use judging::judge;

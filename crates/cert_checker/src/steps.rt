@@ -30,7 +30,7 @@ pub fn reduced_by(
 }
 
 // Takes the step on this line.
-fn take(reduced: &mut Reduced, number: u64, step: &Step) -> Result<(), JudgeError>
+pub fn take(reduced: &mut Reduced, number: u64, step: &Step) -> Result<(), JudgeError>
     ensures taken { OnOk result (Takes step.now reduced.old.state reduced.new.state) }
     ensures state { IsState reduced.new.state }
     ensures wrong { IfErr result (λ e. IfFault e (IsBadStep reduced.old.state number step.now)) }

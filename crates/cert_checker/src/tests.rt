@@ -6,6 +6,7 @@ use stp_reader::{Reason, StpFault};
 
 mod drawn;
 mod hostile;
+mod pieces;
 mod plain;
 mod steps;
 

@@ -1,4 +1,8 @@
-ghost use Rattle.std.specs.Prelude.{◌≡◌};
+ghost use Rattle.std.specs.Prelude.{◌≡◌, List};
+ghost use Rattle.st_model.specs.declared.tree.Tree.{Tree};
+ghost use Rattle.lift_back.specs.declared.step.Step.{Step};
+ghost use Rattle.log_format.specs.declared.log.Claim.TheVariants.{Found};
+ghost use Rattle.log_format.specs.declared.proof_line.ProofLine.{ProofLine};
 ghost use Rattle.cert_checker.specs.Verdict.{verdict_of};
 
 use log_format::Claim;
@@ -15,16 +19,23 @@ pub enum Verdict {
 }
 
 impl Verdict {
+    // The verdict on a claim of a tree that is accepted.
+    pub(crate) fn of(primal: u64, dual: u64) -> Self
+        ensures { (tree : Tree) (steps : List Step) (proof : List ProofLine)
+            → result ≡ verdict_of (Found primal dual tree steps proof) }
+    {
+        if dual == primal {
+            return Verdict::Optimal(primal);
+        }
+        Verdict::Bound { dual, primal }
+    }
+
     // The verdict on a claim that is accepted.
     pub(crate) fn on(claim: &Claim) -> Self
         ensures { result ≡ verdict_of claim.now }
     {
         match claim {
-            Claim::Found { primal, dual, .. } if dual == primal => Verdict::Optimal(*primal),
-            Claim::Found { primal, dual, .. } => Verdict::Bound {
-                dual: *dual,
-                primal: *primal,
-            },
+            Claim::Found { primal, dual, .. } => Verdict::of(*primal, *dual),
             Claim::NoTree { .. } => Verdict::NoTree,
         }
     }

@@ -25,7 +25,7 @@ const SHORTENED: &str =
     "STEINERLOG 1\nCLAIM TREE 0 0\nTREE 1 0\nSTEPS 2\nH 2\nP 1\nPROOF\nC 0 0\nEND\n";
 
 /// A file, a log, a part of it and what stands there instead, and the verdict.
-const CONCLUDED: [(&str, &str, &str, &str, Verdict); 8] = [
+pub const CONCLUDED: [(&str, &str, &str, &str, Verdict); 8] = [
     (TRIANGLE, USED_UP, "END", "END", Verdict::Optimal(6)),
     (
         TRIANGLE,
@@ -82,7 +82,7 @@ fn concludes_after_steps(rt: HostRuntime) -> Result<(), Fail> {
 }
 
 /// A file, a log, a part of it and what stands there instead, and the fault.
-const CHANGES: [(&str, &str, &str, &str, u64, Kind); 33] = [
+pub const CHANGES: [(&str, &str, &str, &str, u64, Kind); 33] = [
     (NARROW, USED_UP, "END", "END", 8, Kind::BadStep),
     (
         TRIANGLE,

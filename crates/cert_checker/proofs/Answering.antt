@@ -1,0 +1,81 @@
+-- What is answered of a text that came in pieces.
+use Rattle.std.proofs.Common.{◌≡◌, ℕ, ◌+◌, ◌<◌, ◌^◌, Bool, true, false, List, [], ◌∷◌, ◌++◌, length, inl, inr, Result, Ok, Err, refl, sym, ap, subst, ◌∙◌, arith}
+use Rattle.std.specs.Prelude.{IfOk}
+use Rattle.std.proofs.lemmas.List.{append-nil}
+use Rattle.st_model.specs.Network.{Network, IsInstance}
+use Rattle.stp_reader.specs.Reads.{Reads}
+use Rattle.log_format.specs.declared.kind.Kind.TheVariants.{BadLine, EndsEarly}
+use Rattle.log_format.specs.declared.log.Log as log_type
+use Rattle.log_format.specs.Accepts.{AcceptedHolds}
+use Rattle.log_format.specs.Text.{AreWhole, Begins, whole_lines, unfinished}
+use Rattle.log_format.proofs.WholeLines.{is_text}
+use Rattle.cert_checker.specs.declared.fault.CheckFault.{CheckFault}
+use Rattle.cert_checker.specs.declared.fault.CheckFault.TheVariants.{Stp, Log, NoMemory}
+use Rattle.cert_checker.specs.declared.verdict.Verdict.{Verdict}
+use Rattle.cert_checker.specs.Checking.{IsTextOf, IsAcceptedText, IsWrongText, IsAnswer}
+use Rattle.cert_checker.specs.Fault.{IsFaultOfFile}
+use Rattle.cert_checker.specs.Hearing.{AreTaken, AreStopped, IsJudgementOf, AreJudged, IsFed}
+use Rattle.cert_checker.specs.Held.{AreGood, AreHeld, IsHeld}
+use Rattle.cert_checker.specs.Pieces.{IsAnswerTo}
+use Rattle.cert_checker.specs.Verdict.{Concludes, verdict_of}
+use Rattle.cert_checker.proofs.Judgements.{holds_concludes}
+
+-- ---- faults of the text
+
+-- a line may not stand at its place
+pub stopped_wrong : (I : Network) (lines : List (List ℕ)) (text : List ℕ) → AreStopped lines text → IsWrongText I text (length lines + 1) BadLine
+stopped_wrong I lines text read = inl (inl (record { before = lines; bad = read.bad; after = read.after; lines = read.whole; place = refl; begun = read.begun; stops = read.stops }))
+
+-- the lines are all of no log
+pub short_wrong : (I : Network) (lines : List (List ℕ)) (part text : List ℕ) → AreTaken lines part text → (AreWhole lines → ⊥) → IsWrongText I text (length lines + 1) EndsEarly
+short_wrong I lines part text read no_log =
+    inl (record { begun = subst Begins (sym read.whole) read.begun; part = λ whole. no_log (subst AreWhole read.whole whole); place = ap (λ (r : List (List ℕ)). length r + 1) (sym read.whole) })
+
+-- bytes stand after the lines of a log
+pub more_wrong : (I : Network) (lines : List (List ℕ)) (part text : List ℕ) → AreTaken lines part text → AreWhole lines → (part ≡ [] → ⊥) → IsWrongText I text (length lines + 1) BadLine
+more_wrong I lines part text read whole some =
+    inl (inr (record { whole = subst AreWhole (sym read.whole) whole; after = λ none. some (sym read.rest ∙ none); place = ap (λ (r : List (List ℕ)). length r + 1) (sym read.whole) }))
+
+-- ---- the judgement
+
+-- what is judged of the lines of a log is answered of its text
+pub judged_answers : (I : Network) (lines : List (List ℕ)) (part text : List ℕ) (result : Result Verdict CheckFault) → AreTaken lines part text → part ≡ [] → AreWhole lines → AreJudged I lines result → IsAnswerTo I text result
+judged_answers I lines part text result read none (log, is, same) judged = by_result result (judged log is same)
+  where
+    is_of : IsTextOf text log
+    is_of = record { is_log = is; text = is_text text log (same ∙ sym read.whole) (read.rest ∙ none) }
+
+    by_result : (r : Result Verdict CheckFault) → IsJudgementOf I log r → IsAnswerTo I text r
+    by_result (Ok verdict) j = (log, is_of, j.0, j.1)
+    by_result (Err (Log f)) j = inr (log, is_of, j)
+    by_result (Err e) j = j
+
+-- and concludes
+pub answer_concludes : (I : Network) (text : List ℕ) (result : Result Verdict CheckFault) → AcceptedHolds → IsInstance I → IsAnswerTo I text result → IfOk result (Concludes I)
+answer_concludes I text (Ok verdict) law instance (log, is, accepts, same) = subst (Concludes I) (sym same) (holds_concludes I log.claim (law I log instance accepts))
+answer_concludes I text (Err e) law instance answer = tt
+
+-- ---- splits
+
+pub held_so : (lines : List (List ℕ)) (is_bad : Bool) (part text : List ℕ) (count : ℕ) → IsFed lines is_bad part text → AreHeld lines count → IsHeld text count
+held_so lines false part text count read held = (lines, record { after = []; whole = read.whole ∙ sym (append-nil lines); begun = read.begun; stops = λ bad others none. absurd cc }, held)
+held_so lines true part text count read held = (lines, record {
+  after = read.bad ∷ read.after;
+  whole = read.whole;
+  begun = read.begun;
+  stops = λ bad others same begins. let first : read.bad ≡ bad = cc in read.stops (subst (λ (l : List ℕ). Begins (lines ++ l ∷ [])) (sym first) begins);
+}, held)
+
+-- ---- the whole
+
+-- a fault of the file is answered
+pub file_wrong : (stp text : List ℕ) (e : CheckFault) → IsFaultOfFile stp e → IsAnswer stp text (Err e)
+file_wrong stp text (Stp f) fault = fault
+file_wrong stp text (Log f) fault = absurd fault
+file_wrong stp text NoMemory fault = tt
+
+-- an answer of the instance and the text is one of its file and the text
+pub answers_of : (stp text : List ℕ) (I : Network) (result : Result Verdict CheckFault) → Reads stp I → IsAnswerTo I text result → IsAnswer stp text result
+answers_of stp text I (Ok verdict) reads answer = (I, reads, answer)
+answers_of stp text I (Err (Log f)) reads answer = (I, reads, answer)
+answers_of stp text I (Err e) reads answer = absurd answer

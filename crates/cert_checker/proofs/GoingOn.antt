@@ -1,0 +1,75 @@
+-- A proof whose lines so far are right goes on by a line, ends with it, or is wrong at it.
+use Rattle.std.proofs.Common.{◌≡◌, ℕ, ◌+◌, List, [], ◌∷◌, ◌++◌, Option, Some, None, inl, inr, length, refl, sym, ap, subst, ◌∙◌, append_assoc, arith}
+use Rattle.std.proofs.lemmas.List.{length-map}
+use Rattle.st_model.specs.declared.branch.Branch.{Branch}
+use Rattle.st_model.specs.Network.{Network}
+use Rattle.st_model.specs.Branch.{with_inside, with_outside}
+use Rattle.log_format.specs.declared.kind.Kind.{Kind}
+use Rattle.log_format.specs.declared.proof_line.ProofLine.{ProofLine}
+use Rattle.log_format.specs.declared.proof_line.ProofLine.TheVariants.{Split, Close}
+use Rattle.log_format.specs.Accepts.{IsFirstWrong}
+use Rattle.log_format.specs.Text.{lines_of, cut_line}
+use Rattle.log_format.proofs.Rejecting.{IsRight}
+use Rattle.cert_checker.specs.declared.turn.Turn.{Turn}
+use Rattle.cert_checker.specs.declared.turn.Turn.TheVariants.{Inside}
+use Rattle.cert_checker.specs.Path.{branch_of, waiting, open_branches, next_path, path_after, AreSplits}
+use Rattle.cert_checker.specs.Judging.{IsRightLine, IsWrongLine}
+use Rattle.cert_checker.specs.Following.{AreRight, GoesOn}
+use Rattle.cert_checker.proofs.Judged.{splits-next_path, waiting_is}
+use Rattle.cert_checker.proofs.Paths.{opened, waiting-next_path}
+
+-- lines that are right are so in the words of logs
+pub are_right : (I : Network) (x : ℕ) (Bs : List Branch) (lines : List ProofLine) → AreRight I x Bs lines → IsRight I x Bs lines
+are_right I x [] [] right = tt
+are_right I x [] (line ∷ lines) right = right
+are_right I x (B ∷ Bs) [] right = right
+are_right I x (B ∷ Bs) (Split v ∷ lines) right = (right.0, are_right I x (with_inside B v ∷ with_outside B v ∷ Bs) lines right.1)
+are_right I x (B ∷ Bs) (Close P ∷ lines) right = (right.0, are_right I x Bs lines right.1)
+
+-- at the start, where no half waits
+pub begins : (I : Network) (x first : ℕ) (path : List Turn) → AreSplits I path → waiting path ≡ [] → GoesOn I x first (branch_of path) [] path first
+begins I x first path splits alone = record {
+  splits = splits;
+  right = λ rest right. subst (λ (Bs : List Branch). AreRight I x (branch_of path ∷ Bs) rest) alone right;
+  wrong = λ rest line kind wrong. subst (λ (Bs : List Branch). IsFirstWrong I x (branch_of path ∷ Bs) first rest line kind) alone wrong;
+}
+
+-- by a right line that isn't the last
+pub goes_on : (I : Network) (x first : ℕ) (B : Branch) (lines : List ProofLine) (path next : List Turn) (number : ℕ) (line : ProofLine) → IsRightLine I x (branch_of path) line → path_after path line ≡ Some next → GoesOn I x first B lines path number
+    → GoesOn I x first B (lines ++ line ∷ []) next (number + length (lines_of line))
+goes_on I x first B lines path next number (Split v) is_right e before =
+    let same : Inside v ∷ path ≡ next = cc in
+    subst (λ (p : List Turn). GoesOn I x first B (lines ++ Split v ∷ []) p (number + 1)) same (record {
+      splits = (is_right, before.splits);
+      right = λ rest right. subst (AreRight I x (B ∷ [])) (sym (append_assoc lines (Split v ∷ []) rest)) (before.right (Split v ∷ rest) (is_right, right));
+      wrong = λ rest line kind wrong. subst (λ (ls : List ProofLine). IsFirstWrong I x (B ∷ []) first ls line kind) (sym (append_assoc lines (Split v ∷ []) rest)) (before.wrong (Split v ∷ rest) line kind (inr (is_right, wrong)));
+    })
+goes_on I x first B lines path next number (Close P) is_right e before =
+    let open_next = waiting_is path next e in
+    let count : number + length (lines_of (Close P)) ≡ number + 1 + length P.cuts = omega (arith, length-map P.cuts cut_line) in
+    record {
+      splits = splits-next_path I path next e before.splits;
+      right = λ rest right. subst (AreRight I x (B ∷ [])) (sym (append_assoc lines (Close P ∷ []) rest)) (before.right (Close P ∷ rest) (is_right, subst (λ (Bs : List Branch). AreRight I x Bs rest) (sym open_next) right));
+      wrong = λ rest line kind wrong. subst (λ (ls : List ProofLine). IsFirstWrong I x (B ∷ []) first ls line kind) (sym (append_assoc lines (Close P ∷ []) rest))
+      (before.wrong (Close P ∷ rest) line kind (inr (is_right.fits, inr (is_right.weighs, subst (λ (n : ℕ). IsFirstWrong I x (waiting path) n rest line kind) count (subst (λ (Bs : List Branch). IsFirstWrong I x Bs (number + length (lines_of (Close P))) rest line kind) (sym open_next) wrong)))));
+    }
+
+-- nothing waits after the last line
+pub none_waits_after : (path : List Turn) → next_path path ≡ None → waiting path ≡ []
+none_waits_after path e = waiting-next_path path ∙ ap opened e
+
+-- all are right where the last line is
+pub ends : (I : Network) (x first : ℕ) (B : Branch) (lines : List ProofLine) (path : List Turn) (number : ℕ) (line : ProofLine) → IsRightLine I x (branch_of path) line → path_after path line ≡ None → GoesOn I x first B lines path number
+    → AreRight I x (B ∷ []) (lines ++ line ∷ [])
+ends I x first B lines path number (Split v) is_right e before = absurd cc
+ends I x first B lines path number (Close P) is_right e before =
+    before.right (Close P ∷ []) (is_right, subst (λ (Bs : List Branch). AreRight I x Bs []) (sym (none_waits_after path e)) tt)
+
+-- a wrong line is the first that is wrong, whatever comes after it
+pub goes_wrong : (I : Network) (x first : ℕ) (B : Branch) (lines : List ProofLine) (path : List Turn) (number : ℕ) (line : ProofLine) (rest : List ProofLine) (l : ℕ) (k : Kind) → IsWrongLine I x (branch_of path) number line l k → GoesOn I x first B lines path number
+    → IsFirstWrong I x (B ∷ []) first (lines ++ (line ∷ rest)) l k
+goes_wrong I x first B lines path number (Split v) rest l k (inl bad) before = before.wrong (Split v ∷ rest) l k (inl bad)
+goes_wrong I x first B lines path number (Split v) rest l k (inr good) before = absurd good.1
+goes_wrong I x first B lines path number (Close P) rest l k (inl bad) before = before.wrong (Close P ∷ rest) l k (inl bad)
+goes_wrong I x first B lines path number (Close P) rest l k (inr (fits, inl light)) before = before.wrong (Close P ∷ rest) l k (inr (fits, inl light))
+goes_wrong I x first B lines path number (Close P) rest l k (inr (fits, inr good)) before = absurd good.1

@@ -1,0 +1,102 @@
+-- The lines of a log so far, one after the other, and all of them.
+use Rattle.std.proofs.Common.{◌≡◌, ℕ, ◌+◌, ◌<◌, ◌^◌, List, [], ◌∷◌, ◌++◌, map, length, inl, inr, Result, Ok, Err, refl, sym, ap, subst, ◌∙◌, append_assoc, length-append, arith}
+use Rattle.std.specs.Prelude.{All}
+use Rattle.std.proofs.lemmas.List.{length-map, map-append}
+use Rattle.std.proofs.lemmas.List.Elements.{recursion_from_All, All-from_recursion}
+use Rattle.std.specs.List.{AllByRecursion}
+use Rattle.st_model.specs.Network.{Network}
+use Rattle.log_format.specs.declared.fault.LogFault.{LogFault}
+use Rattle.log_format.specs.declared.item.Item.{Item}
+use Rattle.log_format.specs.declared.log.Claim.{Claim}
+use Rattle.log_format.specs.declared.log.Log.{Log}
+use Rattle.log_format.specs.declared.stage.Stage.TheVariants.{AtHeader, AtClaim, AtTree, AtArcs, AtSteps, AtHalf, AtCuts, AtWall, AtEnd, AtNothing}
+use Rattle.log_format.specs.Accepts.{AcceptsClaim, RejectsClaim}
+use Rattle.log_format.specs.Items.{IsItem, item_line, log_items, LineItems}
+use Rattle.log_format.specs.Text.{IsLog, log_lines}
+use Rattle.cert_checker.specs.declared.stage.Stage.{Stage}
+use Rattle.cert_checker.specs.declared.stage.Stage.TheVariants.{BeforeHeader, Right, Wrong}
+use Rattle.cert_checker.specs.declared.verdict.Verdict.{Verdict}
+use Rattle.cert_checker.specs.Following.{Said, said_by, IsJudged, IsReady, Follows}
+use Rattle.cert_checker.specs.Hearing.{IsHearing}
+use Rattle.cert_checker.specs.Held.{Open, none_open, opened, opened_by, AreItemsOf}
+use Rattle.cert_checker.specs.Verdict.{verdict_of}
+use Rattle.cert_checker.proofs.Said.{said_by-push, log_said}
+
+-- ---- the start
+
+pub hears_none : (I : Network) → IsHearing I [] BeforeHeader none_open 0
+hears_none I = record {
+  items = [];
+  are = record { fit = All-from_recursion IsItem [] tt; say = refl };
+  judged = inl refl;
+  held = refl;
+  counted = refl;
+}
+
+-- ---- one line more
+
+-- the path of a proof goes by splits
+ready : (I : Network) (count : ℕ) (s : Said) (stage : Stage) → IsJudged I count s stage → IsReady stage
+ready I count AtHeader stage (inl is) = subst IsReady (sym is) tt
+ready I count AtClaim stage (inl (is, few)) = subst IsReady (sym is) tt
+ready I count (AtTree primal dual) stage (inl (is, few)) = subst IsReady (sym is) tt
+ready I count (AtArcs primal dual start arcs left) stage (inl (is, few)) = subst IsReady (sym is) tt
+ready I count (AtSteps a left) stage (inl (h, is, so_far)) = subst IsReady (sym is) tt
+ready I count (AtHalf p) stage (inl (h, is, so_far)) = subst IsReady (sym is) so_far.goes_on.splits
+ready I count (AtCuts p root cuts left) stage (inl (h, is, so_far, few)) = subst IsReady (sym is) so_far.goes_on.splits
+ready I count AtWall stage (inl is) = subst IsReady (sym is) tt
+ready I count (AtEnd claim) stage (inl (is, accepts)) = subst IsReady (sym is) tt
+ready I count (AtNothing claim) stage (inl (is, accepts)) = subst IsReady (sym is) tt
+ready I count s stage (inr (f, is, rejects)) = subst IsReady (sym is) tt
+
+pub hears_ready : (I : Network) (lines : List (List ℕ)) (stage : Stage) (o : Open) (count : ℕ) → IsHearing I lines stage o count → IsReady stage
+hears_ready I lines stage o count h = ready I (length h.items) (said_by AtHeader h.items) stage h.judged
+
+all_push : (items : List Item) (item : Item) → AllByRecursion IsItem items → IsItem item → AllByRecursion IsItem (items ++ item ∷ [])
+all_push [] item all one = (one, tt)
+all_push (first ∷ items) item all one = (all.0, all_push items item all.1 one)
+
+opened_push : (o : Open) (items : List Item) (item : Item) → opened_by o (items ++ item ∷ []) ≡ opened (opened_by o items) item
+opened_push o [] item = refl
+opened_push o (first ∷ items) item = opened_push (opened o first) items item
+
+pub hears_more : (I : Network) (lines : List (List ℕ)) (stage next : Stage) (o o' : Open) (count : ℕ) (line : List ℕ) (item : Item) → IsHearing I lines stage o count → IsItem item → line ≡ item_line item → o' ≡ opened o item → Follows I item stage next → length lines < 2 ^ 63
+    → IsHearing I (lines ++ line ∷ []) next o' (count + 1)
+hears_more I lines stage next o o' count line item h fits says opens follows few =
+    let items = h.items ++ item ∷ [] in
+    let same : length lines ≡ length h.items = ap length h.are.say ∙ length-map h.items item_line in
+    let judged = follows (length h.items) (said_by AtHeader h.items) (omega (arith, few, same)) h.judged in
+    let longer : length h.items + 1 ≡ length items = sym (length-append h.items (item ∷ [])) in
+    record {
+      items = items;
+      are = record {
+        fit = All-from_recursion IsItem items (all_push h.items item (recursion_from_All IsItem h.items h.are.fit) fits);
+        say = (λ i. h.are.say i ++ says i ∷ []) ∙ sym (map-append item_line h.items (item ∷ []));
+      };
+      judged = subst (λ (n : ℕ). IsJudged I n (said_by AtHeader items) next) longer (subst (λ (s : Said). IsJudged I (length h.items + 1) s next) (sym (said_by-push AtHeader h.items item)) judged);
+      held = opens ∙ (ap (λ (x : Open). opened x item) h.held ∙ sym (opened_push none_open h.items item));
+      counted = omega (arith, h.counted, length-append lines (line ∷ []));
+    }
+
+-- ---- all lines of a log
+
+-- what was judged is so of its claim
+pub hears_log : (I : Network) (lines : List (List ℕ)) (stage : Stage) (o : Open) (count : ℕ) (log : Log) → IsHearing I lines stage o count → LineItems → IsLog log → log_lines log ≡ lines → IsJudged I (length lines) (AtNothing log.claim) stage
+hears_log I lines stage o count log h law is same =
+    let items : h.items ≡ log_items log = law log h.items is h.are.fit (same ∙ h.are.say) in
+    let said : said_by AtHeader h.items ≡ AtNothing log.claim = ap (said_by AtHeader) items ∙ log_said log is in
+    let long : length h.items ≡ length lines = sym (ap length h.are.say ∙ length-map h.items item_line) in
+    subst (λ (n : ℕ). IsJudged I n (AtNothing log.claim) stage) long (subst (λ (s : Said). IsJudged I (length h.items) s stage) said h.judged)
+
+pub right_is : (I : Network) (count : ℕ) (claim : Claim) (stage : Stage) (verdict : Verdict) → IsJudged I count (AtNothing claim) stage → stage ≡ Right verdict → AcceptsClaim I claim × (verdict ≡ verdict_of claim)
+right_is I count claim stage verdict (inl (is, accepts)) e = (accepts, cc)
+right_is I count claim stage verdict (inr (f, is, rejects)) e = absurd cc
+
+pub wrong_is : (I : Network) (count : ℕ) (claim : Claim) (stage : Stage) (fault : LogFault) → IsJudged I count (AtNothing claim) stage → stage ≡ Wrong fault → RejectsClaim I claim fault.line fault.kind
+wrong_is I count claim stage fault (inl (is, accepts)) e = absurd cc
+wrong_is I count claim stage fault (inr (f, is, rejects)) e = let same : f ≡ fault = cc in subst (λ (x : LogFault). RejectsClaim I claim x.line x.kind) same (rejects claim refl)
+
+-- it is right or wrong
+pub neither_is : (I : Network) (count : ℕ) (claim : Claim) (stage : Stage) → IsJudged I count (AtNothing claim) stage → ((verdict : Verdict) → ¬ (stage ≡ Right verdict)) → ((f : LogFault) → ¬ (stage ≡ Wrong f)) → ⊥
+neither_is I count claim stage (inl (is, accepts)) not_right not_wrong = not_right (verdict_of claim) is
+neither_is I count claim stage (inr (f, is, rejects)) not_right not_wrong = not_wrong f is

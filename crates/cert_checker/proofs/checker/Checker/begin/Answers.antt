@@ -1,0 +1,4 @@
+use Rattle.cert_checker.proofs.checker.Checker.begin.Goals as goal
+
+pub invariant_of-result : goal.invariant_of-result
+invariant_of-result c = ?

@@ -1,0 +1,9 @@
+use Rattle.std.proofs.Common.{◌≡◌, ◌++◌, length}
+use Rattle.cert_checker.proofs.checker.Checker.feed.Given as goal
+
+-- what was fed and what is left are all
+abbrev pub invariant-loop-line : goal.invariant-loop-line
+invariant-loop-line l = (l.checker.instance ≡ l.initial.checker.instance) × (l.checker.text ++ l.rest ≡ l.initial.checker.text ++ l.piece)
+
+abbrev pub decreases-loop-line : goal.decreases-loop-line
+decreases-loop-line l = length l.rest

@@ -1,0 +1,4 @@
+use Rattle.cert_checker.proofs.checker.Checker.held.Goals as goal
+
+pub returns : goal.returns
+returns c = ?

@@ -1,0 +1,187 @@
+ghost use Rattle.std.specs.Prelude.{◌≡◌, ℕ, ◌+◌, ◌^◌, ◌<◌, [], ◌++◌, ◌∷◌, ◌⊎◌, length, None, Ok, Err, IfOk, IfErr, IsErrAnd, MatchResult};
+ghost use Rattle.plain_text.specs.Pieces.{cut};
+ghost use Rattle.st_model.specs.Network.{Network};
+ghost use Rattle.stp_reader.specs.declared.reason.Reason.{Reason};
+ghost use Rattle.stp_reader.specs.Reads.{Reads, Refused};
+ghost use Rattle.log_format.specs.declared.kind.Kind.{Kind as LogKind};
+ghost use Rattle.cert_checker.specs.declared.fault.CheckFault.TheVariants.{Stp, Log, NoMemory};
+ghost use Rattle.cert_checker.specs.declared.verdict.Verdict.{Verdict as Conclusion};
+ghost use Rattle.cert_checker.specs.Checking.{IsAcceptedText, IsWrongText};
+ghost use Rattle.cert_checker.specs.Fault.{IsFaultOfFile};
+ghost use Rattle.cert_checker.specs.Held.{IsHeld};
+ghost use Rattle.cert_checker.specs.Pieces.{IsAnswerTo};
+ghost use Rattle.cert_checker.specs.Verdict.{Concludes};
+
+use crate::fed::Fed;
+use crate::hearing::{Heard, Hearing};
+use crate::{CheckFault, Verdict};
+use log_format::{
+    Kind, LogFault, accepted_holds, one_spelling, refused_exactly, rejected_exactly,
+};
+use plain_text::cut_at;
+use std::alloc::{AllocError, Global};
+use std::marker::Model;
+use stp_reader::read_stp;
+
+/// A checker of a log that comes in pieces.
+#[derive(Drop)]
+pub struct Checker {
+    hearing: Hearing,
+    // Whether a line came that may not stand at its place. Nothing after it is looked at.
+    is_bad: bool,
+    // What came of the line that isn't whole yet.
+    part: Vec<u8>,
+    fed: Fed,
+}
+
+impl Model for Checker {
+    ghost use Rattle.cert_checker.specs.Pieces.{Pieces};
+    ghost use Rattle.cert_checker.specs.Hearing.{IsFed};
+
+    // The instance, and the pieces that came, one after the other.
+    ghost Value = { Pieces };
+
+    ghost view = { λ c. record { instance = c.hearing.instance; text = c.fed.bytes } };
+
+    ghost invariant = { λ c. IsFed c.hearing.lines c.is_bad c.part.items c.fed.bytes };
+}
+
+impl Checker {
+    /// A checker of logs on the instance of an STP file, to which nothing was fed.
+    pub fn begin(alloc: Global, stp: &[u8]) -> Result<Checker, CheckFault>
+        // It is of the instance that the file stands for.
+        ensures found { IfOk result (λ c. Reads stp.now c.instance × (c.text ≡ [])) }
+        // The instance that the file stands for is that of the checker, unless memory runs out.
+        ensures only { (I : Network) → Reads stp.now I → MatchResult result
+            (λ c. c ≡ record { instance = I; text = [] }) (λ e. e ≡ NoMemory) }
+        // A fault is the first of the file.
+        ensures fault { IfErr result (IsFaultOfFile stp.now) }
+        // A file that is refused is answered so, unless memory runs out.
+        ensures refused { (line : ℕ) (reason : Reason) → Refused stp.now line reason → IsErrAnd result
+            (λ e. (e ≡ Stp (record { line = line; reason = reason })) ⊎ (e ≡ NoMemory)) }
+    {
+        let instance = read_stp(alloc, stp)?;
+        Ok(Checker {
+            hearing: Hearing::new(alloc, instance),
+            is_bad: false,
+            part: Vec::new(alloc),
+            fed: Fed::new(),
+        })
+    }
+
+    /// The checker to which the next piece of the log was fed. A piece may end anywhere. What is kept
+    /// is the instance and what the steps so far left of it, the splits that are open, one packing,
+    /// the arcs of the tree until they are judged, and the line that isn't whole yet. Without memory
+    /// the checker comes to its end.
+    pub fn feed(self, piece: &[u8]) -> Result<Checker, AllocError>
+        requires few { length self.text + length piece.now < 2 ^ 63 }
+        ensures instance { IfOk result (λ c. c.instance ≡ self.instance) }
+        ensures text { IfOk result (λ c. c.text ≡ self.text ++ piece.now) }
+    {
+        let mut checker = self;
+        let mut rest = piece;
+        while let Some((line, after)) = cut_at(rest, b'\n') {
+            checker = checker.end_line(line)?;
+            rest = after;
+        }
+        checker.go_on(rest)
+    }
+
+    // The checker after the last bytes of a line, and its end.
+    fn end_line(self, line: &[u8]) -> Result<Checker, AllocError>
+        requires few { length self.text + length line.now + 1 < 2 ^ 63 }
+        requires one { cut 10 line.now ≡ None }
+        ensures instance { IfOk result (λ c. c.instance ≡ self.instance) }
+        ensures text { IfOk result (λ c. c.text ≡ self.text ++ (line.now ++ 10 ∷ [])) }
+    {
+        let mut fed = self.fed;
+        fed.note(line);
+        fed.note(b"\n");
+        if self.is_bad {
+            return Ok(Checker {
+                hearing: self.hearing,
+                is_bad: true,
+                part: self.part,
+                fed,
+            });
+        }
+        let mut part = self.part;
+        part.extend_from_slice(line)?;
+        let heard = self.hearing.line(&part)?;
+        part.clear();
+        match heard {
+            Heard::Taken(hearing) => Ok(Checker { hearing, is_bad: false, part, fed }),
+            Heard::Bad(hearing) => Ok(Checker { hearing, is_bad: true, part, fed }),
+        }
+    }
+
+    // The checker after bytes that end no line.
+    fn go_on(self, bytes: &[u8]) -> Result<Checker, AllocError>
+        requires few { length self.text + length bytes.now < 2 ^ 63 }
+        requires none { cut 10 bytes.now ≡ None }
+        ensures instance { IfOk result (λ c. c.instance ≡ self.instance) }
+        ensures text { IfOk result (λ c. c.text ≡ self.text ++ bytes.now) }
+    {
+        let mut fed = self.fed;
+        fed.note(bytes);
+        let mut part = self.part;
+        if !self.is_bad {
+            part.extend_from_slice(bytes)?;
+        }
+        Ok(Checker { hearing: self.hearing, is_bad: self.is_bad, part, fed })
+    }
+
+    /// What may be concluded of the instance from the log whose text is all that was fed: what `check`
+    /// answers to it, however it was cut into pieces. The faults of the text come first, wherever they
+    /// stand, and then those of what it says. It takes no memory.
+    pub fn finish(self) -> Result<Verdict, CheckFault>
+        // The verdict is true of the trees of the instance, and of their costs.
+        ensures concludes { IfOk result (Concludes self.instance) }
+        // Each answer has its reason.
+        ensures exact { IsAnswerTo self.instance self.text result }
+        // Each reason has its answer.
+        ensures accepted { (verdict : Conclusion) → IsAcceptedText self.instance self.text verdict
+            → result ≡ Ok verdict }
+        ensures log { (line : ℕ) (kind : LogKind) → IsWrongText self.instance self.text line kind
+            → result ≡ Err (Log (record { line = line; kind = kind })) }
+    {
+        one_spelling();
+        refused_exactly();
+        rejected_exactly();
+        self.answer()
+    }
+
+    // The verdict, or the first fault.
+    fn answer(&self) -> Result<Verdict, CheckFault>
+        ensures exact { IsAnswerTo self.now.instance self.now.text result }
+        ensures concludes { IfOk result (Concludes self.now.instance) }
+    {
+        accepted_holds();
+        if self.is_bad {
+            return Err(fault_at(self.hearing.next_line(), Kind::BadLine));
+        }
+        if !self.hearing.is_done() {
+            return Err(fault_at(self.hearing.next_line(), Kind::EndsEarly));
+        }
+        if !self.part.is_empty() {
+            return Err(fault_at(self.hearing.next_line(), Kind::BadLine));
+        }
+        let verdict = self.hearing.judgement()?;
+        Ok(verdict)
+    }
+
+    /// How many splits of the log so far, up to the first line that may not stand at its place, have a
+    /// proof that isn't finished. It takes no memory.
+    pub fn held(&self) -> u64
+        ensures { IsHeld self.now.text result }
+    {
+        self.hearing.held()
+    }
+}
+
+// The fault of this kind at a line.
+fn fault_at(line: u64, kind: Kind) -> CheckFault
+    ensures { result ≡ Log (record { line = line; kind = kind }) }
+{
+    CheckFault::Log(LogFault { line, kind })
+}

@@ -1,0 +1,140 @@
+ghost use Rattle.std.specs.Prelude.{◌≡◌, ◌+◌, ◌^◌, ◌<◌, [], ◌∷◌, ◌++◌, ◌↔◌, length, IsTrue, IfOk};
+ghost use Rattle.st_model.specs.Network.{IsInstance};
+ghost use Rattle.log_format.specs.Text.{AreWhole, Begins};
+ghost use Rattle.cert_checker.specs.Heard.{IsHeard};
+ghost use Rattle.cert_checker.specs.Hearing.{AreJudged};
+ghost use Rattle.cert_checker.specs.Held.{AreHeld};
+
+use crate::following::after_item;
+use crate::splits::Splits;
+use crate::stage::Stage;
+use crate::{CheckFault, Verdict};
+use log_format::{LineError, LogReader, line_items};
+use st_model::Instance;
+use std::alloc::{AllocError, Global};
+use std::marker::Model;
+
+/// The lines of a log that came so far, and what is judged of them.
+#[derive(Drop)]
+pub struct Hearing {
+    alloc: Global,
+    instance: Instance,
+    reader: LogReader,
+    stage: Stage,
+    splits: Splits,
+    // How many lines there are.
+    lines: u64,
+}
+
+impl Model for Hearing {
+    ghost use Rattle.cert_checker.specs.Lines.{Lines};
+    ghost use Rattle.cert_checker.specs.Hearing.{IsHearing};
+
+    ghost Value = { Lines };
+
+    ghost view = { λ h. record { instance = h.instance; lines = h.reader } };
+
+    ghost invariant = { λ h. IsHearing h.instance h.reader h.stage h.splits h.lines };
+}
+
+/// What became of a line.
+#[derive(Drop)]
+pub enum Heard {
+    /// It was taken.
+    Taken(Hearing),
+    /// It may not stand at its place. The lines are those before it.
+    Bad(Hearing),
+}
+
+impl Hearing {
+    // No line, on this instance.
+    pub fn new(alloc: Global, instance: Instance) -> Self
+        ensures none { result ≡ record { instance = instance; lines = [] } }
+        ensures begins { Begins result.lines }
+    {
+        Hearing {
+            alloc,
+            instance,
+            reader: LogReader::begin(alloc),
+            stage: Stage::BeforeHeader,
+            splits: Splits::new(alloc),
+            lines: 0,
+        }
+    }
+
+    // Takes one more line, without its end.
+    pub fn line(self, line: &[u8]) -> Result<Heard, AllocError>
+        requires { length self.lines < 2 ^ 63 }
+        ensures { IfOk result (IsHeard self line.now) }
+    {
+        let Hearing {
+            alloc,
+            instance,
+            reader,
+            stage,
+            splits,
+            lines,
+        } = self;
+        let mut reader = reader;
+        match reader.line(line) {
+            Ok(item) => {
+                let splits = splits.after(&item)?;
+                let stage = after_item(alloc, &instance, stage, item)?;
+                Ok(Heard::Taken(Hearing {
+                    alloc,
+                    instance,
+                    reader,
+                    stage,
+                    splits,
+                    lines: lines + 1,
+                }))
+            }
+            Err(LineError::BadLine) => Ok(Heard::Bad(Hearing {
+                alloc,
+                instance,
+                reader,
+                stage,
+                splits,
+                lines,
+            })),
+            Err(LineError::NoMemory) => Err(AllocError),
+        }
+    }
+
+    // The number of the next line.
+    pub fn next_line(&self) -> u64
+        requires { length self.now.lines < 2 ^ 63 }
+        ensures { result ≡ length self.now.lines + 1 }
+    {
+        self.lines + 1
+    }
+
+    // Whether the lines are all of a log.
+    pub fn is_done(&self) -> bool
+        ensures { IsTrue result ↔ AreWhole self.now.lines }
+    {
+        self.reader.is_done()
+    }
+
+    // How many splits aren't finished.
+    pub fn held(&self) -> u64
+        ensures { AreHeld self.now.lines result }
+    {
+        self.splits.count()
+    }
+
+    // What is judged of a log that came to its end.
+    pub fn judgement(&self) -> Result<Verdict, CheckFault>
+        requires { AreWhole self.now.lines }
+        ensures judged { AreJudged self.now.instance self.now.lines result }
+        ensures instance { IsInstance self.now.instance }
+    {
+        line_items();
+        prove!(1 <= self.instance.vertices());
+        match &self.stage {
+            Stage::Right(verdict) => Ok(*verdict),
+            Stage::Wrong(fault) => Err(CheckFault::Log(*fault)),
+            _ => Err(CheckFault::NoMemory),
+        }
+    }
+}
