@@ -1,8 +1,11 @@
 -- What is answered of a text that came in pieces.
 use Rattle.std.proofs.Common.{◌≡◌, ℕ, ◌+◌, ◌<◌, ◌^◌, Bool, true, false, List, [], ◌∷◌, ◌++◌, length, inl, inr, Result, Ok, Err, refl, sym, ap, subst, ◌∙◌, arith}
-use Rattle.std.specs.Prelude.{IfOk}
+use Rattle.std.specs.Prelude.{◌⊎◌, IfOk, IsErrAnd, MatchResult}
 use Rattle.std.proofs.lemmas.List.{append-nil}
 use Rattle.st_model.specs.Network.{Network, IsInstance}
+use Rattle.stp_reader.specs.declared.fault.ReadError as file
+use Rattle.stp_reader.specs.declared.fault.ReadError.TheVariants as file_error
+use Rattle.stp_reader.specs.declared.reason.Reason.{Reason}
 use Rattle.stp_reader.specs.Reads.{Reads}
 use Rattle.log_format.specs.declared.kind.Kind.TheVariants.{BadLine, EndsEarly}
 use Rattle.log_format.specs.declared.log.Log as log_type
@@ -13,7 +16,7 @@ use Rattle.cert_checker.specs.declared.fault.CheckFault.{CheckFault}
 use Rattle.cert_checker.specs.declared.fault.CheckFault.TheVariants.{Stp, Log, NoMemory}
 use Rattle.cert_checker.specs.declared.verdict.Verdict.{Verdict}
 use Rattle.cert_checker.specs.Checking.{IsTextOf, IsAcceptedText, IsWrongText, IsAnswer}
-use Rattle.cert_checker.specs.Fault.{IsFaultOfFile}
+use Rattle.cert_checker.specs.Fault.{fault_of_file, IsFaultOfFile}
 use Rattle.cert_checker.specs.Hearing.{AreTaken, AreStopped, IsJudgementOf, AreJudged, IsFed}
 use Rattle.cert_checker.specs.Held.{AreGood, AreHeld, IsHeld}
 use Rattle.cert_checker.specs.Pieces.{IsAnswerTo}
@@ -59,12 +62,34 @@ answer_concludes I text (Err e) law instance answer = tt
 
 pub held_so : (lines : List (List ℕ)) (is_bad : Bool) (part text : List ℕ) (count : ℕ) → IsFed lines is_bad part text → AreHeld lines count → IsHeld text count
 held_so lines false part text count read held = (lines, record { after = []; whole = read.whole ∙ sym (append-nil lines); begun = read.begun; stops = λ bad others none. absurd cc }, held)
-held_so lines true part text count read held = (lines, record {
-  after = read.bad ∷ read.after;
-  whole = read.whole;
-  begun = read.begun;
-  stops = λ bad others same begins. let first : read.bad ≡ bad = cc in read.stops (subst (λ (l : List ℕ). Begins (lines ++ l ∷ [])) (sym first) begins);
-}, held)
+held_so lines true part text count read held = (
+  lines,
+  record {
+    after = read.bad ∷ read.after;
+    whole = read.whole;
+    begun = read.begun;
+    stops = λ bad others same begins. let first : read.bad ≡ bad = cc in read.stops (subst (λ (l : List ℕ). Begins (lines ++ l ∷ [])) (sym first) begins);
+  },
+  held,
+)
+
+-- ---- the file
+
+-- a fault of reading the file is that of the check
+pub fault_only : {X : Type 0} (r : Result X CheckFault) (e : file.ReadError) (P : X → Type 0) → IsErrAnd r (λ fault. fault ≡ fault_of_file e) → e ≡ file_error.NoMemory → MatchResult r P (λ fault. fault ≡ NoMemory)
+fault_only (Ok x) e P is none = absurd is
+fault_only (Err fault) e P is none = is ∙ ap fault_of_file none
+
+pub fault_refused : {X : Type 0} (read : Result Network file.ReadError) (r : Result X CheckFault) (e : file.ReadError) (line : ℕ) (reason : Reason) → IsErrAnd r (λ fault. fault ≡ fault_of_file e) → read ≡ Err e
+    → (read ≡ Err (file_error.Fault (record { line = line; reason = reason }))) ⊎ (read ≡ Err file_error.NoMemory) → IsErrAnd r (λ fault. (fault ≡ Stp (record { line = line; reason = reason })) ⊎ (fault ≡ NoMemory))
+fault_refused read (Ok x) e line reason is found one = absurd is
+fault_refused read (Err fault) e line reason is found (inl same) = let it : e ≡ file_error.Fault (record { line = line; reason = reason }) = cc in inl (is ∙ ap fault_of_file it)
+fault_refused read (Err fault) e line reason is found (inr none) = let it : e ≡ file_error.NoMemory = cc in inr (is ∙ ap fault_of_file it)
+
+-- a file that is read isn't refused
+pub never_refused : (read : Result Network file.ReadError) (I : Network) (a b : file.ReadError) → read ≡ Ok I → (read ≡ Err a) ⊎ (read ≡ Err b) → ⊥
+never_refused read I a b found (inl e) = absurd cc
+never_refused read I a b found (inr e) = absurd cc
 
 -- ---- the whole
 
@@ -79,3 +104,8 @@ pub answers_of : (stp text : List ℕ) (I : Network) (result : Result Verdict Ch
 answers_of stp text I (Ok verdict) reads answer = (I, reads, answer)
 answers_of stp text I (Err (Log f)) reads answer = (I, reads, answer)
 answers_of stp text I (Err e) reads answer = absurd answer
+
+-- the same of what was fed to a checker of that file
+pub fed_answers : (stp log : List ℕ) (I J : Network) (text : List ℕ) (result : Result Verdict CheckFault) → Reads stp I → J ≡ I → text ≡ log → IsAnswerTo J text result → IsAnswer stp log result
+fed_answers stp log I J text result reads same all answer =
+    answers_of stp log I result reads (subst (λ (K : Network). IsAnswerTo K log result) same (subst (λ (t : List ℕ). IsAnswerTo J t result) all answer))

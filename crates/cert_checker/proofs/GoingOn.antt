@@ -51,7 +51,7 @@ goes_on I x first B lines path next number (Close P) is_right e before =
       splits = splits-next_path I path next e before.splits;
       right = λ rest right. subst (AreRight I x (B ∷ [])) (sym (append_assoc lines (Close P ∷ []) rest)) (before.right (Close P ∷ rest) (is_right, subst (λ (Bs : List Branch). AreRight I x Bs rest) (sym open_next) right));
       wrong = λ rest line kind wrong. subst (λ (ls : List ProofLine). IsFirstWrong I x (B ∷ []) first ls line kind) (sym (append_assoc lines (Close P ∷ []) rest))
-      (before.wrong (Close P ∷ rest) line kind (inr (is_right.fits, inr (is_right.weighs, subst (λ (n : ℕ). IsFirstWrong I x (waiting path) n rest line kind) count (subst (λ (Bs : List Branch). IsFirstWrong I x Bs (number + length (lines_of (Close P))) rest line kind) (sym open_next) wrong)))));
+          (before.wrong (Close P ∷ rest) line kind (inr (is_right.fits, inr (is_right.weighs, subst (λ (n : ℕ). IsFirstWrong I x (waiting path) n rest line kind) count (subst (λ (Bs : List Branch). IsFirstWrong I x Bs (number + length (lines_of (Close P))) rest line kind) (sym open_next) wrong)))));
     }
 
 -- nothing waits after the last line

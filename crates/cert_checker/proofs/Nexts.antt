@@ -78,14 +78,18 @@ arc_next I count primal dual start tail head arcs s judged = let at = right_at I
 -- a tree that is judged, where its arcs are those that were said
 tree_judged : (I : Network) (count primal dual start left : ℕ) (arcs : List (ℕ × ℕ)) (next : Stage) → 3 + length arcs ≤ count → IsAfterTree I primal dual (record { start = start; arcs = arcs }) next
     → IsJudged I (count + 1) (AtSteps (record { primal = primal; dual = dual; tree = record { start = start; arcs = arcs }; steps = [] }) left) next
-tree_judged I count primal dual start left arcs (AmongSteps h) few (tree, primals, duals, state, number) = inl (h, refl, record {
-  primal = primals;
-  dual = duals;
-  tree = tree;
-  applied = sym state;
-  number = omega (arith, number);
-  few = omega (arith, number, few);
-})
+tree_judged I count primal dual start left arcs (AmongSteps h) few (tree, primals, duals, state, number) = inl (
+  h,
+  refl,
+  record {
+    primal = primals;
+    dual = duals;
+    tree = tree;
+    applied = sym state;
+    number = omega (arith, number);
+    few = omega (arith, number, few);
+  },
+)
 tree_judged I count primal dual start left arcs (Wrong f) few wrong = inr (f, refl, λ claim (more, proof, is). subst (λ (c : Claim). RejectsClaim I c f.line f.kind) (sym is) (rejected wrong more proof))
   where
     rejected : IsWrongTree I primal dual (record { start = start; arcs = arcs }) f.line f.kind → (steps : List Step) (proof : List ProofLine) → RejectsClaim I (Found primal dual (record { start = start; arcs = arcs }) steps proof) f.line f.kind
@@ -126,22 +130,30 @@ first_bad (one ∷ steps) step more first s at line kind O (then, is_then, takes
 step_judged : (I : Network) (count left : ℕ) (a : Answer) (h : Stepping) (step : Step) (next : Stage) → count < 2 ^ 63 → IsStepping I count a h → IsAfterStep h step next → IsJudged I (count + 1) (AtSteps (record { primal = a.primal; dual = a.dual; tree = a.tree; steps = a.steps ++ step ∷ [] }) left) next
 step_judged I count left a h step (AmongSteps next) below so_far is =
     let here : next.number ≡ h.number + 1 = is.number (omega (arith, below, so_far.few)) in
-    inl (next, refl, record {
-      primal = is.primal ∙ so_far.primal;
-      dual = is.dual ∙ so_far.dual;
-      tree = so_far.tree;
-      applied = applies_more a.steps step (whole I) h.reduced.state next.reduced.state so_far.applied is.state is.takes;
-      number = omega (arith, here, so_far.number, length-append a.steps (step ∷ []));
-      few = omega (arith, here, so_far.few);
-    })
+    inl (
+      next,
+      refl,
+      record {
+        primal = is.primal ∙ so_far.primal;
+        dual = is.dual ∙ so_far.dual;
+        tree = so_far.tree;
+        applied = applies_more a.steps step (whole I) h.reduced.state next.reduced.state so_far.applied is.state is.takes;
+        number = omega (arith, here, so_far.number, length-append a.steps (step ∷ []));
+        few = omega (arith, here, so_far.few);
+      },
+    )
 step_judged I count left a h step (Wrong f) below so_far bad =
     let wrong = subst (λ (n : ℕ). IsBadStep h.reduced.state n step f.line f.kind) so_far.number bad in
-    inr (f, refl, λ claim (more, proof, is).
-    let steps = (a.steps ++ step ∷ []) ++ more in
-    let O : State → Type 0 = λ u. IsFirstWrongIn u a.dual (proof_line a.tree steps) proof f.line f.kind in
-    let first = first_bad a.steps step more (whole I) h.reduced.state (steps_line a.tree) f.line f.kind O so_far.applied wrong in
-    subst (λ (c : Claim). RejectsClaim I c f.line f.kind) (sym is)
-    (inr (so_far.tree.is_tree, inr (so_far.tree.is_cost, inr (so_far.tree.is_below, subst (λ (r : List Step). IsFirstBad (whole I) (steps_line a.tree) r f.line f.kind O) (sym (append_assoc a.steps (step ∷ []) more)) first)))))
+    inr (
+      f,
+      refl,
+      λ claim (more, proof, is).
+          let steps = (a.steps ++ step ∷ []) ++ more in
+          let O : State → Type 0 = λ u. IsFirstWrongIn u a.dual (proof_line a.tree steps) proof f.line f.kind in
+          let first = first_bad a.steps step more (whole I) h.reduced.state (steps_line a.tree) f.line f.kind O so_far.applied wrong in
+          subst (λ (c : Claim). RejectsClaim I c f.line f.kind) (sym is)
+          (inr (so_far.tree.is_tree, inr (so_far.tree.is_cost, inr (so_far.tree.is_below, subst (λ (r : List Step). IsFirstBad (whole I) (steps_line a.tree) r f.line f.kind O) (sym (append_assoc a.steps (step ∷ []) more)) first)))),
+    )
 step_judged I count left a h step next below so_far none = absurd none
 
 pub step_next : (I : Network) (count : ℕ) (h : Stepping) (step : Step) (next : Stage) (s : Said) → count < 2 ^ 63 → IsAfterStep h step next → IsJudged I count s (AmongSteps h) → IsJudged I (count + 1) (taken s (OneStep step)) next
@@ -162,16 +174,20 @@ proof_next I count before h (AtSteps a left) below begun judged =
     let splits : AreSplits h.instance h.path = subst (λ (path : List Turn). AreSplits h.instance path) (sym begun.path) (subst (λ (J : Network). AreSplits J (leaving_out rest.gone)) (sym begun.instance) (left_out_splits rest begun.state)) in
     let alone : waiting h.path ≡ [] = ap waiting begun.path ∙ none_waits rest begun.state in
     let leads : branch_of h.path ≡ left_over rest = ap branch_of begun.path ∙ leads_to_left_over rest begun.state in
-    inl (h, refl, record {
-      primal = begun.primal ∙ so_far.primal;
-      dual = begun.dual ∙ so_far.dual;
-      tree = so_far.tree;
-      state = rest;
-      applied = so_far.applied;
-      instance = begun.instance;
-      least = begun.least ∙ ap (λ (x : ℕ). left_of x rest) so_far.dual;
-      goes_on = subst (λ (B : Branch). GoesOn h.instance h.least (proof_line a.tree a.steps) B [] h.path h.number) leads (subst (λ (n : ℕ). GoesOn h.instance h.least n (branch_of h.path) [] h.path h.number) first (begins h.instance h.least h.number h.path splits alone));
-      wait = ap length alone;
-      few = omega (arith, here, so_far.few);
-    })
+    inl (
+      h,
+      refl,
+      record {
+        primal = begun.primal ∙ so_far.primal;
+        dual = begun.dual ∙ so_far.dual;
+        tree = so_far.tree;
+        state = rest;
+        applied = so_far.applied;
+        instance = begun.instance;
+        least = begun.least ∙ ap (λ (x : ℕ). left_of x rest) so_far.dual;
+        goes_on = subst (λ (B : Branch). GoesOn h.instance h.least (proof_line a.tree a.steps) B [] h.path h.number) leads (subst (λ (n : ℕ). GoesOn h.instance h.least n (branch_of h.path) [] h.path h.number) first (begins h.instance h.least h.number h.path splits alone));
+        wait = ap length alone;
+        few = omega (arith, here, so_far.few);
+      },
+    )
 proof_next I count before h s below begun judged = let at = right_at I count s (AmongSteps before) (omega arith) judged in absurd (omega (arith, at.1))

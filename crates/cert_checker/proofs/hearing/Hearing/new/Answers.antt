@@ -6,6 +6,6 @@ use Rattle.cert_checker.proofs.Hears.{hears_none}
 use Rattle.cert_checker.proofs.hearing.Hearing.new.Goals as goal
 
 pub invariant_of-result : goal.invariant_of-result
-invariant_of-result c = 
+invariant_of-result c =
     let I = c.args.instance in
     subst (λ (lines : List (List ℕ)). IsHearing I lines BeforeHeader c.new.result 0) (sym c.begin.ensures.none) (subst (λ (o : Open). IsHearing I [] BeforeHeader o 0) (sym c.new.ensures) (hears_none I))
