@@ -42,7 +42,8 @@ more_wrong I lines part text read whole some =
 -- ---- the judgement
 
 -- what is judged of the lines of a log is answered of its text
-pub judged_answers : (I : Network) (lines : List (List ℕ)) (part text : List ℕ) (result : Result Verdict CheckFault) → AreTaken lines part text → part ≡ [] → AreWhole lines → AreJudged I lines result → IsAnswerTo I text result
+pub judged_answers : (I : Network) (lines : List (List ℕ)) (part text : List ℕ) (result : Result Verdict CheckFault) → AreTaken lines part text → part ≡ [] → AreWhole lines
+    → AreJudged I lines result → IsAnswerTo I text result
 judged_answers I lines part text result read none (log, is, same) judged = by_result result (judged log is same)
   where
     is_of : IsTextOf text log
@@ -76,11 +77,13 @@ held_so lines true part text count read held = (
 -- ---- the file
 
 -- a fault of reading the file is that of the check
-pub fault_only : {X : Type 0} (r : Result X CheckFault) (e : file.ReadError) (P : X → Type 0) → IsErrAnd r (λ fault. fault ≡ fault_of_file e) → e ≡ file_error.NoMemory → MatchResult r P (λ fault. fault ≡ NoMemory)
+pub fault_only : {X : Type 0} (r : Result X CheckFault) (e : file.ReadError) (P : X → Type 0) → IsErrAnd r (λ fault. fault ≡ fault_of_file e) → e ≡ file_error.NoMemory
+    → MatchResult r P (λ fault. fault ≡ NoMemory)
 fault_only (Ok x) e P is none = absurd is
 fault_only (Err fault) e P is none = is ∙ ap fault_of_file none
 
-pub fault_refused : {X : Type 0} (read : Result Network file.ReadError) (r : Result X CheckFault) (e : file.ReadError) (line : ℕ) (reason : Reason) → IsErrAnd r (λ fault. fault ≡ fault_of_file e) → read ≡ Err e
+pub fault_refused : {X : Type 0} (read : Result Network file.ReadError) (r : Result X CheckFault) (e : file.ReadError) (line : ℕ) (reason : Reason)
+    → IsErrAnd r (λ fault. fault ≡ fault_of_file e) → read ≡ Err e
     → (read ≡ Err (file_error.Fault (record { line = line; reason = reason }))) ⊎ (read ≡ Err file_error.NoMemory) → IsErrAnd r (λ fault. (fault ≡ Stp (record { line = line; reason = reason })) ⊎ (fault ≡ NoMemory))
 fault_refused read (Ok x) e line reason is found one = absurd is
 fault_refused read (Err fault) e line reason is found (inl same) = let it : e ≡ file_error.Fault (record { line = line; reason = reason }) = cc in inl (is ∙ ap fault_of_file it)

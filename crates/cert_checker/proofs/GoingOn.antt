@@ -35,7 +35,8 @@ begins I x first path splits alone = record {
 }
 
 -- by a right line that isn't the last
-pub goes_on : (I : Network) (x first : ℕ) (B : Branch) (lines : List ProofLine) (path next : List Turn) (number : ℕ) (line : ProofLine) → IsRightLine I x (branch_of path) line → path_after path line ≡ Some next → GoesOn I x first B lines path number
+pub goes_on : (I : Network) (x first : ℕ) (B : Branch) (lines : List ProofLine) (path next : List Turn) (number : ℕ) (line : ProofLine) → IsRightLine I x (branch_of path) line
+    → path_after path line ≡ Some next → GoesOn I x first B lines path number
     → GoesOn I x first B (lines ++ line ∷ []) next (number + length (lines_of line))
 goes_on I x first B lines path next number (Split v) is_right e before =
     let same : Inside v ∷ path ≡ next = cc in
@@ -59,14 +60,16 @@ pub none_waits_after : (path : List Turn) → next_path path ≡ None → waitin
 none_waits_after path e = waiting-next_path path ∙ ap opened e
 
 -- all are right where the last line is
-pub ends : (I : Network) (x first : ℕ) (B : Branch) (lines : List ProofLine) (path : List Turn) (number : ℕ) (line : ProofLine) → IsRightLine I x (branch_of path) line → path_after path line ≡ None → GoesOn I x first B lines path number
+pub ends : (I : Network) (x first : ℕ) (B : Branch) (lines : List ProofLine) (path : List Turn) (number : ℕ) (line : ProofLine) → IsRightLine I x (branch_of path) line
+    → path_after path line ≡ None → GoesOn I x first B lines path number
     → AreRight I x (B ∷ []) (lines ++ line ∷ [])
 ends I x first B lines path number (Split v) is_right e before = absurd cc
 ends I x first B lines path number (Close P) is_right e before =
     before.right (Close P ∷ []) (is_right, subst (λ (Bs : List Branch). AreRight I x Bs []) (sym (none_waits_after path e)) tt)
 
 -- a wrong line is the first that is wrong, whatever comes after it
-pub goes_wrong : (I : Network) (x first : ℕ) (B : Branch) (lines : List ProofLine) (path : List Turn) (number : ℕ) (line : ProofLine) (rest : List ProofLine) (l : ℕ) (k : Kind) → IsWrongLine I x (branch_of path) number line l k → GoesOn I x first B lines path number
+pub goes_wrong : (I : Network) (x first : ℕ) (B : Branch) (lines : List ProofLine) (path : List Turn) (number : ℕ) (line : ProofLine) (rest : List ProofLine) (l : ℕ) (k : Kind)
+    → IsWrongLine I x (branch_of path) number line l k → GoesOn I x first B lines path number
     → IsFirstWrong I x (B ∷ []) first (lines ++ (line ∷ rest)) l k
 goes_wrong I x first B lines path number (Split v) rest l k (inl bad) before = before.wrong (Split v ∷ rest) l k (inl bad)
 goes_wrong I x first B lines path number (Split v) rest l k (inr good) before = absurd good.1

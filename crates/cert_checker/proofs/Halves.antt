@@ -47,7 +47,8 @@ abbrev pub with_line : said_proving.Proving → ProofLine → ℕ → said_provi
 with_line p line w = record { answer = p.answer; lines = p.lines ++ line ∷ []; waiting = w }
 
 -- a proof goes on by a right line
-pub line_next : (I : Network) (count later : ℕ) (p : said_proving.Proving) (h next : Proving) (line : ProofLine) (w : ℕ) → IsProving I count p h → IsNext h line next → later < 2 ^ 63 + 2 → h.number + length (lines_of line) ≤ later + 1 → length (waiting next.path) ≡ w
+pub line_next : (I : Network) (count later : ℕ) (p : said_proving.Proving) (h next : Proving) (line : ProofLine) (w : ℕ) → IsProving I count p h → IsNext h line next → later < 2 ^ 63 + 2
+    → h.number + length (lines_of line) ≤ later + 1 → length (waiting next.path) ≡ w
     → IsProving I later (with_line p line w) next
 line_next I count later p h next line w so_far is below room wait =
     let here : next.number ≡ h.number + length (lines_of line) = is.number (omega (arith, below, room)) in
@@ -69,7 +70,8 @@ line_next I count later p h next line w so_far is below room wait =
     }
 
 -- a claim is right where each line of its proof is
-accepted : (I : Network) (count : ℕ) (p : said_proving.Proving) (h : Proving) (lines : List ProofLine) (so_far : IsProving I count p h) → AreRight h.instance h.least (left_over so_far.state ∷ []) lines → AcceptsClaim I (claim_of p lines)
+accepted : (I : Network) (count : ℕ) (p : said_proving.Proving) (h : Proving) (lines : List ProofLine) (so_far : IsProving I count p h)
+    → AreRight h.instance h.least (left_over so_far.state ∷ []) lines → AcceptsClaim I (claim_of p lines)
 accepted I count p h lines so_far right =
     let B = left_over so_far.state in
     let proves : ProvesOf h.instance B h.least lines = right_proves h.instance h.least B lines (are_right h.instance h.least (B ∷ []) lines right) in
@@ -82,7 +84,8 @@ accepted I count p h lines so_far right =
     }
 
 -- and rejected where one is wrong
-rejected : (I : Network) (count : ℕ) (p : said_proving.Proving) (h : Proving) (lines : List ProofLine) (f : LogFault) (so_far : IsProving I count p h) → IsFirstWrong h.instance h.least (left_over so_far.state ∷ []) (proof_line p.answer.tree p.answer.steps) lines f.line f.kind → RejectsClaim I (claim_of p lines) f.line f.kind
+rejected : (I : Network) (count : ℕ) (p : said_proving.Proving) (h : Proving) (lines : List ProofLine) (f : LogFault) (so_far : IsProving I count p h)
+    → IsFirstWrong h.instance h.least (left_over so_far.state ∷ []) (proof_line p.answer.tree p.answer.steps) lines f.line f.kind → RejectsClaim I (claim_of p lines) f.line f.kind
 rejected I count p h lines f so_far wrong =
     let first = proof_line p.answer.tree p.answer.steps in
     let Bs = left_over so_far.state ∷ [] in
@@ -91,7 +94,8 @@ rejected I count p h lines f so_far wrong =
     proof_rejects I p.answer.primal p.answer.dual first p.answer.tree p.answer.steps lines so_far.state result so_far.tree refl so_far.applied whole_wrong
 
 -- a line is wrong, so each claim that goes on with it is rejected
-pub line_wrong : (I : Network) (count : ℕ) (p : said_proving.Proving) (h : Proving) (line : ProofLine) (f : LogFault) (claim : Claim) (more : List ProofLine) → IsProving I count p h → IsWrongLine h.instance h.least (branch_of h.path) h.number line f.line f.kind
+pub line_wrong : (I : Network) (count : ℕ) (p : said_proving.Proving) (h : Proving) (line : ProofLine) (f : LogFault) (claim : Claim) (more : List ProofLine) → IsProving I count p h
+    → IsWrongLine h.instance h.least (branch_of h.path) h.number line f.line f.kind
     → claim ≡ claim_of p ((p.lines ++ line ∷ []) ++ more) → RejectsClaim I claim f.line f.kind
 line_wrong I count p h line f claim more so_far wrong is =
     let first = proof_line p.answer.tree p.answer.steps in
@@ -101,7 +105,8 @@ line_wrong I count p h line f claim more so_far wrong is =
 
 -- ---- a split
 
-split_judged : (I : Network) (count later : ℕ) (p : said_proving.Proving) (h : Proving) (v : ℕ) (next : Stage) → later < 2 ^ 63 + 2 → h.number ≤ later → IsProving I count p h → IsAfterLine h (Split v) next → IsJudged I later (split_at p v) next
+split_judged : (I : Network) (count later : ℕ) (p : said_proving.Proving) (h : Proving) (v : ℕ) (next : Stage) → later < 2 ^ 63 + 2 → h.number ≤ later → IsProving I count p h
+    → IsAfterLine h (Split v) next → IsJudged I later (split_at p v) next
 split_judged I count later p h v (BeforeHalf q) below room so_far is =
     let e : Some (Inside v ∷ h.path) ≡ Some q.path = is.next in
     let same : Inside v ∷ h.path ≡ q.path = cc in
@@ -111,7 +116,8 @@ split_judged I count later p h v (Right verdict) below room so_far is = let e = 
 split_judged I count later p h v (Wrong f) below room so_far wrong = inr (f, refl, λ claim (more, is). line_wrong I count p h (Split v) f claim more so_far wrong is)
 split_judged I count later p h v next below room so_far none = absurd none
 
-pub split_next : (I : Network) (count v : ℕ) (h : Proving) (next : Stage) (s : Said) → count < 2 ^ 63 → IsAfterLine h (Split v) next → IsJudged I count s (BeforeHalf h) → IsJudged I (count + 1) (taken s (SplitAt v)) next
+pub split_next : (I : Network) (count v : ℕ) (h : Proving) (next : Stage) (s : Said) → count < 2 ^ 63 → IsAfterLine h (Split v) next → IsJudged I count s (BeforeHalf h)
+    → IsJudged I (count + 1) (taken s (SplitAt v)) next
 split_next I count v h next (AtHalf p) below after judged =
     let at = right_at I count (AtHalf p) (BeforeHalf h) (omega arith) judged in
     let same : at.0.0 ≡ h = cc in
@@ -126,7 +132,8 @@ close_lines : (root : Option ℕ) (cuts : List Cut) → length (lines_of (Close 
 close_lines root cuts = omega (arith, length-map cuts cut_line)
 
 -- where a half waits, it comes next, and else the claim is right
-closed_judged : (I : Network) (count later : ℕ) (p : said_proving.Proving) (h : Proving) (root : Option ℕ) (cuts : List Cut) (next : Stage) (w : ℕ) → p.waiting ≡ w → later < 2 ^ 63 + 2 → h.number + length cuts ≤ later → IsProving I count p h → IsAfterLine h (Close (record { root = root; cuts = cuts })) next
+closed_judged : (I : Network) (count later : ℕ) (p : said_proving.Proving) (h : Proving) (root : Option ℕ) (cuts : List Cut) (next : Stage) (w : ℕ) → p.waiting ≡ w → later < 2 ^ 63 + 2
+    → h.number + length cuts ≤ later → IsProving I count p h → IsAfterLine h (Close (record { root = root; cuts = cuts })) next
     → IsJudged I later (closed p.answer (p.lines ++ Close (record { root = root; cuts = cuts }) ∷ []) w) next
 closed_judged I count later p h root cuts (BeforeHalf q) zero none below room so_far is =
     let e = waiting_is h.path q.path is.next in
@@ -151,11 +158,13 @@ closed_judged I count later p h root cuts (Wrong f) (suc w) some below room so_f
     inr (f, refl, λ claim (more, is). line_wrong I count p h (Close (record { root = root; cuts = cuts })) f claim more so_far wrong is)
 closed_judged I count later p h root cuts next w is below room so_far none = absurd none
 
-cuts_judged : (I : Network) (later : ℕ) (p : said_proving.Proving) (h : Proving) (root : Option ℕ) (cuts : List Cut) (left : ℕ) (next : Stage) → later < 2 ^ 63 + 2 → h.number + length cuts ≤ later → IsProving I later p h → IsAfterCuts h root cuts left next → IsJudged I later (cuts_left p root cuts left) next
+cuts_judged : (I : Network) (later : ℕ) (p : said_proving.Proving) (h : Proving) (root : Option ℕ) (cuts : List Cut) (left : ℕ) (next : Stage) → later < 2 ^ 63 + 2
+    → h.number + length cuts ≤ later → IsProving I later p h → IsAfterCuts h root cuts left next → IsJudged I later (cuts_left p root cuts left) next
 cuts_judged I later p h root cuts zero next below room so_far after = closed_judged I later later p h root cuts next p.waiting refl below room so_far after
 cuts_judged I later p h root cuts (suc left) next below room so_far is = inl (h, is, so_far, room)
 
-pub close_next : (I : Network) (count left : ℕ) (root : Option ℕ) (h : Proving) (next : Stage) (s : Said) → count < 2 ^ 63 → IsAfterCuts h root [] left next → IsJudged I count s (BeforeHalf h) → IsJudged I (count + 1) (taken s (CloseHead root left)) next
+pub close_next : (I : Network) (count left : ℕ) (root : Option ℕ) (h : Proving) (next : Stage) (s : Said) → count < 2 ^ 63 → IsAfterCuts h root [] left next → IsJudged I count s (BeforeHalf h)
+    → IsJudged I (count + 1) (taken s (CloseHead root left)) next
 close_next I count left root h next (AtHalf p) below after judged =
     let at = right_at I count (AtHalf p) (BeforeHalf h) (omega arith) judged in
     let same : at.0.0 ≡ h = cc in
@@ -163,7 +172,8 @@ close_next I count left root h next (AtHalf p) below after judged =
     cuts_judged I (count + 1) p h root [] left next (omega (arith, below)) (omega (arith, so_far.few)) (proving_later I count p h so_far) after
 close_next I count left root h next s below after judged = let at = right_at I count s (BeforeHalf h) (omega arith) judged in absurd (omega (arith, at.1))
 
-pub cut_next : (I : Network) (count left : ℕ) (root : Option ℕ) (cuts : List Cut) (c : Cut) (h : Proving) (next : Stage) (s : Said) → count < 2 ^ 63 → IsAfterCuts h root (cuts ++ c ∷ []) (left - 1) next → IsJudged I count s (AmongCuts h root cuts left) → IsJudged I (count + 1) (taken s (OneCut c)) next
+pub cut_next : (I : Network) (count left : ℕ) (root : Option ℕ) (cuts : List Cut) (c : Cut) (h : Proving) (next : Stage) (s : Said) → count < 2 ^ 63
+    → IsAfterCuts h root (cuts ++ c ∷ []) (left - 1) next → IsJudged I count s (AmongCuts h root cuts left) → IsJudged I (count + 1) (taken s (OneCut c)) next
 cut_next I count left root cuts c h next (AtCuts p root' cuts' left') below after judged =
     let at = right_at I count (AtCuts p root' cuts' left') (AmongCuts h root cuts left) (omega arith) judged in
     let is : AmongCuts h root cuts left ≡ AmongCuts at.0.0 root' cuts' left' = at.0.1 in

@@ -60,7 +60,8 @@ opened_push : (o : Open) (items : List Item) (item : Item) → opened_by o (item
 opened_push o [] item = refl
 opened_push o (first ∷ items) item = opened_push (opened o first) items item
 
-pub hears_more : (I : Network) (lines : List (List ℕ)) (stage next : Stage) (o o' : Open) (count : ℕ) (line : List ℕ) (item : Item) → IsHearing I lines stage o count → IsItem item → line ≡ item_line item → o' ≡ opened o item → Follows I item stage next → length lines < 2 ^ 63
+pub hears_more : (I : Network) (lines : List (List ℕ)) (stage next : Stage) (o o' : Open) (count : ℕ) (line : List ℕ) (item : Item) → IsHearing I lines stage o count → IsItem item
+    → line ≡ item_line item → o' ≡ opened o item → Follows I item stage next → length lines < 2 ^ 63
     → IsHearing I (lines ++ line ∷ []) next o' (count + 1)
 hears_more I lines stage next o o' count line item h fits says opens follows few =
     let items = h.items ++ item ∷ [] in
@@ -81,22 +82,26 @@ hears_more I lines stage next o o' count line item h fits says opens follows few
 -- ---- all lines of a log
 
 -- what was judged is so of its claim
-pub hears_log : (I : Network) (lines : List (List ℕ)) (stage : Stage) (o : Open) (count : ℕ) (log : Log) → IsHearing I lines stage o count → LineItems → IsLog log → log_lines log ≡ lines → IsJudged I (length lines) (AtNothing log.claim) stage
+pub hears_log : (I : Network) (lines : List (List ℕ)) (stage : Stage) (o : Open) (count : ℕ) (log : Log) → IsHearing I lines stage o count → LineItems → IsLog log → log_lines log ≡ lines
+    → IsJudged I (length lines) (AtNothing log.claim) stage
 hears_log I lines stage o count log h law is same =
     let items : h.items ≡ log_items log = law log h.items is h.are.fit (same ∙ h.are.say) in
     let said : said_by AtHeader h.items ≡ AtNothing log.claim = ap (said_by AtHeader) items ∙ log_said log is in
     let long : length h.items ≡ length lines = sym (ap length h.are.say ∙ length-map h.items item_line) in
     subst (λ (n : ℕ). IsJudged I n (AtNothing log.claim) stage) long (subst (λ (s : Said). IsJudged I (length h.items) s stage) said h.judged)
 
-pub right_is : (I : Network) (count : ℕ) (claim : Claim) (stage : Stage) (verdict : Verdict) → IsJudged I count (AtNothing claim) stage → stage ≡ Right verdict → AcceptsClaim I claim × (verdict ≡ verdict_of claim)
+pub right_is : (I : Network) (count : ℕ) (claim : Claim) (stage : Stage) (verdict : Verdict) → IsJudged I count (AtNothing claim) stage → stage ≡ Right verdict
+    → AcceptsClaim I claim × (verdict ≡ verdict_of claim)
 right_is I count claim stage verdict (inl (is, accepts)) e = (accepts, cc)
 right_is I count claim stage verdict (inr (f, is, rejects)) e = absurd cc
 
-pub wrong_is : (I : Network) (count : ℕ) (claim : Claim) (stage : Stage) (fault : LogFault) → IsJudged I count (AtNothing claim) stage → stage ≡ Wrong fault → RejectsClaim I claim fault.line fault.kind
+pub wrong_is : (I : Network) (count : ℕ) (claim : Claim) (stage : Stage) (fault : LogFault) → IsJudged I count (AtNothing claim) stage → stage ≡ Wrong fault
+    → RejectsClaim I claim fault.line fault.kind
 wrong_is I count claim stage fault (inl (is, accepts)) e = absurd cc
 wrong_is I count claim stage fault (inr (f, is, rejects)) e = let same : f ≡ fault = cc in subst (λ (x : LogFault). RejectsClaim I claim x.line x.kind) same (rejects claim refl)
 
 -- it is right or wrong
-pub neither_is : (I : Network) (count : ℕ) (claim : Claim) (stage : Stage) → IsJudged I count (AtNothing claim) stage → ((verdict : Verdict) → ¬ (stage ≡ Right verdict)) → ((f : LogFault) → ¬ (stage ≡ Wrong f)) → ⊥
+pub neither_is : (I : Network) (count : ℕ) (claim : Claim) (stage : Stage) → IsJudged I count (AtNothing claim) stage → ((verdict : Verdict) → ¬ (stage ≡ Right verdict))
+    → ((f : LogFault) → ¬ (stage ≡ Wrong f)) → ⊥
 neither_is I count claim stage (inl (is, accepts)) not_right not_wrong = not_right (verdict_of claim) is
 neither_is I count claim stage (inr (f, is, rejects)) not_right not_wrong = not_wrong f is

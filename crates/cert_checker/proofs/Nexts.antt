@@ -49,13 +49,15 @@ pub wall_right : (I : Network) (count : ℕ) (wall : List ℕ) (s : Said) → Is
 wall_right I count wall AtWall is_wall judged = inl (refl, is_wall)
 wall_right I count wall s is_wall judged = let at = right_at I count s BeforeWall (omega arith) judged in absurd (omega (arith, at.1))
 
-pub wall_wrong : (I : Network) (count : ℕ) (wall : List ℕ) (f : LogFault) (s : Said) → RejectsClaim I (NoTree wall) f.line f.kind → IsJudged I count s BeforeWall → IsJudged I (count + 1) (taken s (Wall wall)) (Wrong f)
+pub wall_wrong : (I : Network) (count : ℕ) (wall : List ℕ) (f : LogFault) (s : Said) → RejectsClaim I (NoTree wall) f.line f.kind → IsJudged I count s BeforeWall
+    → IsJudged I (count + 1) (taken s (Wall wall)) (Wrong f)
 wall_wrong I count wall f AtWall rejects judged = inr (f, refl, λ claim may. subst (λ (c : Claim). RejectsClaim I c f.line f.kind) (sym may) rejects)
 wall_wrong I count wall f s rejects judged = let at = right_at I count s BeforeWall (omega arith) judged in absurd (omega (arith, at.1))
 
 -- ---- the tree
 
-pub tree_next : (I : Network) (count primal dual start arcs : ℕ) (s : Said) → IsJudged I count s (BeforeTree primal dual) → IsJudged I (count + 1) (taken s (TreeHead start arcs)) (AmongArcs primal dual start [])
+pub tree_next : (I : Network) (count primal dual start arcs : ℕ) (s : Said) → IsJudged I count s (BeforeTree primal dual)
+    → IsJudged I (count + 1) (taken s (TreeHead start arcs)) (AmongArcs primal dual start [])
 tree_next I count primal dual start arcs (AtTree p d) judged =
     let at = right_at I count (AtTree p d) (BeforeTree primal dual) (omega arith) judged in
     let same : BeforeTree primal dual ≡ BeforeTree p d = at.0.0 in
@@ -64,7 +66,8 @@ tree_next I count primal dual start arcs (AtTree p d) judged =
     inl (λ i. AmongArcs (primals i) (duals i) start [], omega (arith, at.0.1))
 tree_next I count primal dual start arcs s judged = let at = right_at I count s (BeforeTree primal dual) (omega arith) judged in absurd (omega (arith, at.1))
 
-pub arc_next : (I : Network) (count primal dual start tail head : ℕ) (arcs : List (ℕ × ℕ)) (s : Said) → IsJudged I count s (AmongArcs primal dual start arcs) → IsJudged I (count + 1) (taken s (Arc tail head)) (AmongArcs primal dual start (arcs ++ (tail, head) ∷ []))
+pub arc_next : (I : Network) (count primal dual start tail head : ℕ) (arcs : List (ℕ × ℕ)) (s : Said) → IsJudged I count s (AmongArcs primal dual start arcs)
+    → IsJudged I (count + 1) (taken s (Arc tail head)) (AmongArcs primal dual start (arcs ++ (tail, head) ∷ []))
 arc_next I count primal dual start tail head arcs (AtArcs p d st list left) judged =
     let at = right_at I count (AtArcs p d st list left) (AmongArcs primal dual start arcs) (omega arith) judged in
     let same : AmongArcs primal dual start arcs ≡ AmongArcs p d st list = at.0.0 in
@@ -76,7 +79,8 @@ arc_next I count primal dual start tail head arcs (AtArcs p d st list left) judg
 arc_next I count primal dual start tail head arcs s judged = let at = right_at I count s (AmongArcs primal dual start arcs) (omega arith) judged in absurd (omega (arith, at.1))
 
 -- a tree that is judged, where its arcs are those that were said
-tree_judged : (I : Network) (count primal dual start left : ℕ) (arcs : List (ℕ × ℕ)) (next : Stage) → 3 + length arcs ≤ count → IsAfterTree I primal dual (record { start = start; arcs = arcs }) next
+tree_judged : (I : Network) (count primal dual start left : ℕ) (arcs : List (ℕ × ℕ)) (next : Stage) → 3 + length arcs ≤ count
+    → IsAfterTree I primal dual (record { start = start; arcs = arcs }) next
     → IsJudged I (count + 1) (AtSteps (record { primal = primal; dual = dual; tree = record { start = start; arcs = arcs }; steps = [] }) left) next
 tree_judged I count primal dual start left arcs (AmongSteps h) few (tree, primals, duals, state, number) = inl (
   h,
@@ -92,14 +96,16 @@ tree_judged I count primal dual start left arcs (AmongSteps h) few (tree, primal
 )
 tree_judged I count primal dual start left arcs (Wrong f) few wrong = inr (f, refl, λ claim (more, proof, is). subst (λ (c : Claim). RejectsClaim I c f.line f.kind) (sym is) (rejected wrong more proof))
   where
-    rejected : IsWrongTree I primal dual (record { start = start; arcs = arcs }) f.line f.kind → (steps : List Step) (proof : List ProofLine) → RejectsClaim I (Found primal dual (record { start = start; arcs = arcs }) steps proof) f.line f.kind
+    rejected : IsWrongTree I primal dual (record { start = start; arcs = arcs }) f.line f.kind → (steps : List Step) (proof : List ProofLine)
+        → RejectsClaim I (Found primal dual (record { start = start; arcs = arcs }) steps proof) f.line f.kind
     rejected (inl bad) steps proof = inl bad
     rejected (inr (tree, inl bad)) steps proof = inr (tree, inl bad)
     rejected (inr (tree, inr (cost, inl bad))) steps proof = inr (tree, inr (cost, inl bad))
     rejected (inr (tree, inr (cost, inr none))) steps proof = absurd none.1
 tree_judged I count primal dual start left arcs next few after = absurd after
 
-pub count_next : (I : Network) (count primal dual start steps : ℕ) (arcs : List (ℕ × ℕ)) (next : Stage) (s : Said) → IsAfterTree I primal dual (record { start = start; arcs = arcs }) next → IsJudged I count s (AmongArcs primal dual start arcs) → IsJudged I (count + 1) (taken s (StepsHead steps)) next
+pub count_next : (I : Network) (count primal dual start steps : ℕ) (arcs : List (ℕ × ℕ)) (next : Stage) (s : Said) → IsAfterTree I primal dual (record { start = start; arcs = arcs }) next
+    → IsJudged I count s (AmongArcs primal dual start arcs) → IsJudged I (count + 1) (taken s (StepsHead steps)) next
 count_next I count primal dual start steps arcs next (AtArcs p d st list left) after judged =
     let at = right_at I count (AtArcs p d st list left) (AmongArcs primal dual start arcs) (omega arith) judged in
     let same : AmongArcs primal dual start arcs ≡ AmongArcs p d st list = at.0.0 in
@@ -119,7 +125,8 @@ applies_more [] step first s next same is_next takes = (next, is_next, subst (λ
 applies_more (one ∷ steps) step first s next (then, is_then, takes_one, later) is_next takes = (then, is_then, takes_one, applies_more steps step then s next later is_next takes)
 
 -- a step that may not be taken is the first, whatever comes after it
-first_bad : (steps : List Step) (step : Step) (more : List Step) (first s : State) (at : ℕ) (line : ℕ) (kind : Kind) (O : State → Type 0) → Applies steps first s → IsBadStep s (at + length steps) step line kind → IsFirstBad first at (steps ++ (step ∷ more)) line kind O
+first_bad : (steps : List Step) (step : Step) (more : List Step) (first s : State) (at : ℕ) (line : ℕ) (kind : Kind) (O : State → Type 0) → Applies steps first s
+    → IsBadStep s (at + length steps) step line kind → IsFirstBad first at (steps ++ (step ∷ more)) line kind O
 first_bad [] step more first s at line kind O same (inl bad) = subst (λ (u : State). IsFirstBad u at (step ∷ more) line kind O) (sym same) (inl (bad.0, omega (arith, bad.1), bad.2))
 first_bad [] step more first s at line kind O same (inr none) = absurd none.1
 first_bad (one ∷ steps) step more first s at line kind O (then, is_then, takes, later) bad =
@@ -127,7 +134,8 @@ first_bad (one ∷ steps) step more first s at line kind O (then, is_then, takes
     inr (takes_may one first then takes, (then, is_then, takes, first_bad steps step more then s (at + 1) line kind O later (subst (λ (n : ℕ). IsBadStep s n step line kind) sum bad)))
 
 -- a step that is judged, where it is the next
-step_judged : (I : Network) (count left : ℕ) (a : Answer) (h : Stepping) (step : Step) (next : Stage) → count < 2 ^ 63 → IsStepping I count a h → IsAfterStep h step next → IsJudged I (count + 1) (AtSteps (record { primal = a.primal; dual = a.dual; tree = a.tree; steps = a.steps ++ step ∷ [] }) left) next
+step_judged : (I : Network) (count left : ℕ) (a : Answer) (h : Stepping) (step : Step) (next : Stage) → count < 2 ^ 63 → IsStepping I count a h → IsAfterStep h step next
+    → IsJudged I (count + 1) (AtSteps (record { primal = a.primal; dual = a.dual; tree = a.tree; steps = a.steps ++ step ∷ [] }) left) next
 step_judged I count left a h step (AmongSteps next) below so_far is =
     let here : next.number ≡ h.number + 1 = is.number (omega (arith, below, so_far.few)) in
     inl (
@@ -156,14 +164,16 @@ step_judged I count left a h step (Wrong f) below so_far bad =
     )
 step_judged I count left a h step next below so_far none = absurd none
 
-pub step_next : (I : Network) (count : ℕ) (h : Stepping) (step : Step) (next : Stage) (s : Said) → count < 2 ^ 63 → IsAfterStep h step next → IsJudged I count s (AmongSteps h) → IsJudged I (count + 1) (taken s (OneStep step)) next
+pub step_next : (I : Network) (count : ℕ) (h : Stepping) (step : Step) (next : Stage) (s : Said) → count < 2 ^ 63 → IsAfterStep h step next → IsJudged I count s (AmongSteps h)
+    → IsJudged I (count + 1) (taken s (OneStep step)) next
 step_next I count h step next (AtSteps a left) below after judged =
     let at = right_at I count (AtSteps a left) (AmongSteps h) (omega arith) judged in
     let same : at.0.0 ≡ h = cc in
     step_judged I count (left - 1) a h step next below (subst (IsStepping I count a) same at.0.2) after
 step_next I count h step next s below after judged = let at = right_at I count s (AmongSteps h) (omega arith) judged in absurd (omega (arith, at.1))
 
-pub proof_next : (I : Network) (count : ℕ) (before : Stepping) (h : Proving) (s : Said) → count < 2 ^ 63 → IsBegun before h → IsJudged I count s (AmongSteps before) → IsJudged I (count + 1) (taken s ProofHead) (BeforeHalf h)
+pub proof_next : (I : Network) (count : ℕ) (before : Stepping) (h : Proving) (s : Said) → count < 2 ^ 63 → IsBegun before h → IsJudged I count s (AmongSteps before)
+    → IsJudged I (count + 1) (taken s ProofHead) (BeforeHalf h)
 proof_next I count before h (AtSteps a left) below begun judged =
     let at = right_at I count (AtSteps a left) (AmongSteps before) (omega arith) judged in
     let same : at.0.0 ≡ before = cc in

@@ -22,7 +22,8 @@ behind b found = option_map (λ x. (b ∷ x.0, x.1)) found
 abbrev IsCutAt : List ℕ → List ℕ → List ℕ → Type 0
 IsCutAt bytes line after = (bytes ≡ line ++ 10 ∷ after) × (cut 10 line ≡ None)
 
-cut_later : (b : ℕ) (bs line after : List ℕ) (found : Option (List ℕ × List ℕ)) → (b == 10) ≡ false → ((l a : List ℕ) → found ≡ Some (l, a) → IsCutAt bs l a) → behind b found ≡ Some (line, after) → IsCutAt (b ∷ bs) line after
+cut_later : (b : ℕ) (bs line after : List ℕ) (found : Option (List ℕ × List ℕ)) → (b == 10) ≡ false → ((l a : List ℕ) → found ≡ Some (l, a) → IsCutAt bs l a)
+    → behind b found ≡ Some (line, after) → IsCutAt (b ∷ bs) line after
 cut_later b bs line after None other back e = absurd cc
 cut_later b bs line after (Some (l, a)) other back e =
     let found : List ℕ × List ℕ = (b ∷ l, a) in
@@ -34,7 +35,8 @@ cut_later b bs line after (Some (l, a)) other back e =
     let none : cut 10 (b ∷ l) ≡ None = ap (λ (t : Bool). cond t (Some ([], l)) (behind b (cut 10 l))) other ∙ ap (behind b) h.1 in
     (ap (λ (r : List ℕ). b ∷ r) h.0 ∙ (λ i. first i ++ 10 ∷ second i), subst (λ (r : List ℕ). cut 10 r ≡ None) first none)
 
-cut_here : (b : ℕ) (bs line after : List ℕ) (t : Bool) → (b == 10) ≡ t → ((l a : List ℕ) → cut 10 bs ≡ Some (l, a) → IsCutAt bs l a) → cond t (Some ([], bs)) (behind b (cut 10 bs)) ≡ Some (line, after) → IsCutAt (b ∷ bs) line after
+cut_here : (b : ℕ) (bs line after : List ℕ) (t : Bool) → (b == 10) ≡ t → ((l a : List ℕ) → cut 10 bs ≡ Some (l, a) → IsCutAt bs l a)
+    → cond t (Some ([], bs)) (behind b (cut 10 bs)) ≡ Some (line, after) → IsCutAt (b ∷ bs) line after
 cut_here b bs line after true same back e =
     let found : List ℕ × List ℕ = ([], bs) in
     let wanted : List ℕ × List ℕ = (line, after) in
@@ -55,7 +57,8 @@ lacks_uncut : (bytes : List ℕ) → cut 10 bytes ≡ None → lacks 10 bytes �
 lacks_uncut [] e = refl
 lacks_uncut (b ∷ bs) e = at (b == 10) refl e (cut 10 bs) refl (lacks_uncut bs)
   where
-    at : (t : Bool) → (b == 10) ≡ t → cond t (Some ([], bs)) (behind b (cut 10 bs)) ≡ None → (found : Option (List ℕ × List ℕ)) → cut 10 bs ≡ found → (cut 10 bs ≡ None → lacks 10 bs ≡ true) → not (b == 10) && lacks 10 bs ≡ true
+    at : (t : Bool) → (b == 10) ≡ t → cond t (Some ([], bs)) (behind b (cut 10 bs)) ≡ None → (found : Option (List ℕ × List ℕ)) → cut 10 bs ≡ found → (cut 10 bs ≡ None → lacks 10 bs ≡ true)
+        → not (b == 10) && lacks 10 bs ≡ true
     at true same e found is before = absurd cc
     at false other e None is before = rw (other, before is) refl
     at false other e (Some x) is before = absurd (let some : behind b (Some x) ≡ None = ap (behind b) (sym is) ∙ e in cc)
@@ -136,7 +139,8 @@ fed_few lines false part text read = omega (arith, taken_few lines part text rea
 fed_few lines true part text read = omega (arith, stopped_few lines text read, read.few)
 
 -- the lines of a text whose last one comes to its end
-ended_lines : (lines : List (List ℕ)) (part text line : List ℕ) → whole_lines text ≡ lines → unfinished text ≡ part → cut 10 line ≡ None → cut_lines (text ++ (line ++ 10 ∷ [])) ≡ (lines ++ (part ++ line) ∷ [], [])
+ended_lines : (lines : List (List ℕ)) (part text line : List ℕ) → whole_lines text ≡ lines → unfinished text ≡ part → cut 10 line ≡ None
+    → cut_lines (text ++ (line ++ 10 ∷ [])) ≡ (lines ++ (part ++ line) ∷ [], [])
 ended_lines lines part text line whole rest none =
     let lacking : lacks 10 (part ++ line) ≡ true = lacks-append 10 part line (subst (λ (r : List ℕ). lacks 10 r ≡ true) rest (unfinished_lacks text)) (lacks_uncut line none) in
     let last : cut_lines (part ++ (line ++ 10 ∷ [])) ≡ ((part ++ line) ∷ [], []) = ap cut_lines (sym (append_assoc part line (10 ∷ []))) ∙ one_line (part ++ line) lacking in
@@ -144,7 +148,8 @@ ended_lines lines part text line whole rest none =
     lines_append text (line ++ 10 ∷ []) ∙ (parts ∙ ap (λ (x : List (List ℕ) × List ℕ). let r : List (List ℕ) × List ℕ = (lines ++ x.0, x.1) in r) last)
 
 -- the line was taken
-pub taken_end : (lines : List (List ℕ)) (part text line : List ℕ) → AreTaken lines part text → cut 10 line ≡ None → Begins (lines ++ (part ++ line) ∷ []) → length text + length line + 1 < 2 ^ 63 → AreTaken (lines ++ (part ++ line) ∷ []) [] (text ++ (line ++ 10 ∷ []))
+pub taken_end : (lines : List (List ℕ)) (part text line : List ℕ) → AreTaken lines part text → cut 10 line ≡ None → Begins (lines ++ (part ++ line) ∷ []) → length text + length line + 1 < 2 ^ 63
+    → AreTaken (lines ++ (part ++ line) ∷ []) [] (text ++ (line ++ 10 ∷ []))
 taken_end lines part text line read none begins few =
     let all = ended_lines lines part text line read.whole read.rest none in
     record {
@@ -155,7 +160,8 @@ taken_end lines part text line read none begins few =
     }
 
 -- or it may not stand there
-pub stopped_end : (lines : List (List ℕ)) (part text line : List ℕ) → AreTaken lines part text → cut 10 line ≡ None → ¬ (Begins (lines ++ (part ++ line) ∷ [])) → length text + length line + 1 < 2 ^ 63 → AreStopped lines (text ++ (line ++ 10 ∷ []))
+pub stopped_end : (lines : List (List ℕ)) (part text line : List ℕ) → AreTaken lines part text → cut 10 line ≡ None → ¬ (Begins (lines ++ (part ++ line) ∷ []))
+    → length text + length line + 1 < 2 ^ 63 → AreStopped lines (text ++ (line ++ 10 ∷ []))
 stopped_end lines part text line read none stops few =
     let all = ended_lines lines part text line read.whole read.rest none in
     record {
@@ -168,7 +174,8 @@ stopped_end lines part text line read none stops few =
     }
 
 -- bytes that end no line are left
-pub taken_more : (lines : List (List ℕ)) (part text bytes : List ℕ) → AreTaken lines part text → cut 10 bytes ≡ None → length text + length bytes < 2 ^ 63 → AreTaken lines (part ++ bytes) (text ++ bytes)
+pub taken_more : (lines : List (List ℕ)) (part text bytes : List ℕ) → AreTaken lines part text → cut 10 bytes ≡ None → length text + length bytes < 2 ^ 63
+    → AreTaken lines (part ++ bytes) (text ++ bytes)
 taken_more lines part text bytes read none few =
     let lacking : lacks 10 (part ++ bytes) ≡ true = lacks-append 10 part bytes (subst (λ (r : List ℕ). lacks 10 r ≡ true) read.rest (unfinished_lacks text)) (lacks_uncut bytes none) in
     let parts : joined (cut_lines text) bytes ≡ joined (lines, part) bytes = ap (λ (x : List (List ℕ) × List ℕ). joined x bytes) (λ i. (read.whole i, read.rest i)) in
@@ -194,7 +201,8 @@ stopped_more lines text bytes read few =
     }
 
 -- a line that was taken
-pub line_taken : (before after : Lines) (part text line bytes rest now : List ℕ) → AreTaken before.lines part text → cut 10 line ≡ None → bytes ≡ part ++ line → (after ≡ record { instance = before.instance; lines = before.lines ++ bytes ∷ [] }) × Begins after.lines
+pub line_taken : (before after : Lines) (part text line bytes rest now : List ℕ) → AreTaken before.lines part text → cut 10 line ≡ None → bytes ≡ part ++ line
+    → (after ≡ record { instance = before.instance; lines = before.lines ++ bytes ∷ [] }) × Begins after.lines
     → length text + length line + 1 < 2 ^ 63 → rest ≡ [] → now ≡ text ++ (line ++ 10 ∷ []) → AreTaken after.lines rest now
 line_taken before after part text line bytes rest now read none whole heard few nothing all =
     let lines : after.lines ≡ before.lines ++ (part ++ line) ∷ [] = ap (λ (l : Lines). l.lines) heard.0 ∙ ap (λ (r : List ℕ). before.lines ++ r ∷ []) whole in
@@ -202,7 +210,8 @@ line_taken before after part text line bytes rest now read none whole heard few 
     subst (λ (t : List ℕ). AreTaken after.lines rest t) (sym all) (subst (λ (r : List ℕ). AreTaken after.lines r (text ++ (line ++ 10 ∷ []))) (sym nothing) (subst (λ (ls : List (List ℕ)). AreTaken ls [] (text ++ (line ++ 10 ∷ []))) (sym lines) taken))
 
 -- a line that may not stand at its place
-pub line_bad : (before after : Lines) (part text line bytes now : List ℕ) → AreTaken before.lines part text → cut 10 line ≡ None → bytes ≡ part ++ line → (after ≡ before) × (¬ (Begins (before.lines ++ bytes ∷ [])))
+pub line_bad : (before after : Lines) (part text line bytes now : List ℕ) → AreTaken before.lines part text → cut 10 line ≡ None → bytes ≡ part ++ line
+    → (after ≡ before) × (¬ (Begins (before.lines ++ bytes ∷ [])))
     → length text + length line + 1 < 2 ^ 63 → now ≡ text ++ (line ++ 10 ∷ []) → AreStopped after.lines now
 line_bad before after part text line bytes now read none whole heard few all =
     let stopped = stopped_end before.lines part text line read none (subst (λ (r : List ℕ). ¬ (Begins (before.lines ++ r ∷ []))) whole heard.1) few in
@@ -217,10 +226,12 @@ IsSplitAs text rest before piece = text ++ rest ≡ before ++ piece
 pub room_left : (text rest before piece : List ℕ) → IsSplitAs text rest before piece → length before + length piece < 2 ^ 63 → length text + length rest < 2 ^ 63
 room_left text rest before piece all few = omega (arith, few, ap length all, length-append text rest, length-append before piece)
 
-pub room_for_line : (text rest line after before piece : List ℕ) → IsSplitAs text rest before piece → rest ≡ line ++ 10 ∷ after → length before + length piece < 2 ^ 63 → length text + length line + 1 < 2 ^ 63
+pub room_for_line : (text rest line after before piece : List ℕ) → IsSplitAs text rest before piece → rest ≡ line ++ 10 ∷ after → length before + length piece < 2 ^ 63
+    → length text + length line + 1 < 2 ^ 63
 room_for_line text rest line after before piece all is few = omega (arith, room_left text rest before piece all few, ap length is, length-append line (10 ∷ after))
 
-pub line_goes : (text next rest line after before piece : List ℕ) → IsSplitAs text rest before piece → rest ≡ line ++ 10 ∷ after → next ≡ text ++ (line ++ 10 ∷ []) → IsSplitAs next after before piece
+pub line_goes : (text next rest line after before piece : List ℕ) → IsSplitAs text rest before piece → rest ≡ line ++ 10 ∷ after → next ≡ text ++ (line ++ 10 ∷ [])
+    → IsSplitAs next after before piece
 line_goes text next rest line after before piece all is more =
     ap (λ (r : List ℕ). r ++ after) more
     ∙ (append_assoc text (line ++ 10 ∷ []) after

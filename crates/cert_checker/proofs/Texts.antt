@@ -43,7 +43,8 @@ module _ (bytes : List ℕ) (spelling : OneSpelling) (of_text : RefusedExactly b
   accepted_to I (Err e) answer verdict accepted = absurd answer
 
   -- a log that is wrong is answered with its fault
-  pub wrong_to : (I : Network) (result : Result Verdict CheckFault) → IsAnswerTo I bytes result → (line : ℕ) (kind : Kind) → IsWrongText I bytes line kind → result ≡ Err (Log (record { line = line; kind = kind }))
+  pub wrong_to : (I : Network) (result : Result Verdict CheckFault) → IsAnswerTo I bytes result → (line : ℕ) (kind : Kind) → IsWrongText I bytes line kind
+      → result ≡ Err (Log (record { line = line; kind = kind }))
   wrong_to I (Ok verdict) answer line kind wrong = absurd (not_wrong I verdict line kind answer wrong)
   wrong_to I (Err (Log f)) answer line kind wrong =
       let same = one_wrong I f.line line f.kind kind answer wrong in

