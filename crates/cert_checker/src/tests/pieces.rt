@@ -139,6 +139,11 @@ fn refuses_each_change_in_pieces(rt: HostRuntime) -> Result<(), Fail> {
             "at {wrong}"
         );
     }
+    Ok(())
+}
+
+#[test]
+fn refuses_steps_in_pieces(rt: HostRuntime) -> Result<(), Fail> {
     for (stp, log, right, wrong, _, _) in steps::CHANGES {
         assert!(rt; is_alike_with(&rt, stp, log, right, wrong)?, "at {wrong}");
     }
