@@ -42,11 +42,20 @@ def run(words, room, fail_at, shim):
         return done.returncode, done.stdout, saved, int(file.read())
 
 
-def way(end, whole):
-    """Which of the ways a run may end this is, or None."""
+def verdict(steiner, command, room):
+    """What a check says of the file and the log that a command saved."""
+    words = [steiner, "check", command[1], "log"]
+    return subprocess.run(words, cwd=room, stdout=subprocess.PIPE, stderr=subprocess.DEVNULL, check=False).stdout
+
+
+def way(end, whole, is_judged, judge):
+    """Which of the ways a run may end this is, or None. Several workers may find another of the best trees and
+    another proof, so that what they save is judged."""
     code, sent, saved, _ = end
     if (code, sent, saved) == whole[:3]:
         return "as without a refusal"
+    if is_judged and code == whole[0] and saved is not None and judge() == b"optimal 10\n":
+        return "with a log that is accepted"
     if code == 9 and not sent and saved is None:
         return "code 9, nothing sent and no log"
     if code == 8 and whole[1].startswith(sent):
@@ -62,7 +71,7 @@ def try_all(command, steiner, room, shim):
     ways = collections.Counter()
     for number in range(1, requests + 1):
         end = run(words, room, number, shim)
-        found = way(end, whole)
+        found = way(end, whole, "--workers" in command, lambda: verdict(steiner, command, room))
         if found is None:
             print(f"{' '.join(command)}, request {number}: code {end[0]}, sent {end[1]!r}, log {end[2]!r}")
         ways[found] += 1
