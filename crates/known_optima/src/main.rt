@@ -1,7 +1,7 @@
 //! The program `known_optima`: solves each file that its words name, with a log, and checks the
-//! log; once more plainly, without reduction steps, and once more by four workers. It writes the file's name, how each solving
-//! ended, and what each check says. Its own data are files whose optimum programs apart from this
-//! project found.
+//! log; once more plainly, without reduction steps, and once more by four workers. It writes the
+//! file's name, how each solving ended, and what each check says. Its own data are files whose
+//! optimum programs apart from this project found.
 #![tactic(auto)]
 
 use st_edge::{DiskShelf, MemorySink, Shelf, Sink, StdSink, send_all};
