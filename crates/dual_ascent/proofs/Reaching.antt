@@ -1,8 +1,8 @@
 -- What reaches a vertex over arcs with nothing left.
-use Rattle.std.proofs.Common.{◌≡◌, ℕ, zero, suc, ◌+◌, ◌<◌, ◌≤◌, Bool, true, false, cond, eqb, List, [], ◌∷◌, ◌++◌, length, get_or, take, map, Some, inl, inr, refl, sym, ap, ◌∙◌, subst, arith}
+use Rattle.std.proofs.Common.{◌≡◌, ◌≢◌, ℕ, zero, suc, ◌+◌, ◌<◌, ◌≤◌, Bool, true, false, ◌&&◌, not, cond, eqb, List, [], ◌∷◌, ◌++◌, length, get_or, set, take, map, Some, None, inl, inr, refl, sym, ap, ◌∙◌, subst, arith, get_or-set_same, get_or-set_other, length-set}
 use Rattle.std.specs.Prelude.{IsTrue, IsFalse, if◌then◌else◌, ◌==◌, All, slice_get}
-use Rattle.std.proofs.lemmas.Bool.{cases_lt, false_from_ne_true, false≢true, eqb-true, eq-eqb, ne_eqb, or_left, or_right}
-use Rattle.std.proofs.lemmas.List.{take_at, take_all, get_or_push, length_push, append-nil, get_or_append_left}
+use Rattle.std.proofs.lemmas.Bool.{cases_lt, false_from_ne_true, false≢true, eqb-true, eq-eqb, ne_eqb, or_left, or_right, or_cases, and_parts, not-true, both_ways}
+use Rattle.std.proofs.lemmas.List.{take_at, take_all, get_or_past, get_or_push, length_push, append-nil, get_or_append_left}
 use Rattle.std.proofs.lemmas.Option.{get_or_from_slice_get, slice_get_within}
 use Rattle.std.proofs.lemmas.List.Elements.{All-nil, All-cons, All-append, All-push, All-weaker, recursion_from_All}
 use Rattle.st_model.specs.Lists.{has}
@@ -13,12 +13,13 @@ use Rattle.st_model.proofs.Marked.{at_member, has-push, place_of}
 use Rattle.st_model.specs.Led.{IsLed, AreLed, start, along}
 use Rattle.st_model.proofs.Walked.{IsWalked, IsWalked-step, AreLed-done}
 use Rattle.bidirected_form.specs.declared.arc.Arc.{Arc}
-use Rattle.bidirected_form.specs.Digraph.{Digraph, IsDigraph, arcs_into, left_from, remaining}
+use Rattle.bidirected_form.specs.declared.kind.VertexKind.TheVariants.{Must}
+use Rattle.bidirected_form.specs.Digraph.{Digraph, IsDigraph, arcs_into, kind_of, left_from, remaining}
 use Rattle.bidirected_form.proofs.Lookups.{Rise, Rise-rest, left_from-found}
 use Rattle.cut_packing.specs.declared.cut.Cut.{Cut}
 use Rattle.dual_ascent.specs.declared.growing.Growth.{Growth}
 use Rattle.dual_ascent.specs.Raises.{IsUsedUp, Reaches, here, there}
-use Rattle.dual_ascent.specs.Turns.{free_tails, AreSeeds, IsGathered, IsGrowth}
+use Rattle.dual_ascent.specs.Turns.{free_tails, AreSeeds, IsGathered, IsGrowth, IsLedTo, IsSet, leads, stops}
 
 -- what arcs with nothing left allow, more such arcs do
 pub reaches_over : (D D' : Digraph) (C C' : List Cut) → ((u v : ℕ) → IsUsedUp D C u v → IsUsedUp D' C' u v) → (q v : ℕ) → Reaches D C q v → Reaches D' C' q v
@@ -139,12 +140,12 @@ growing_more D q next v members new h at e g = record {
     walked : IsWalked (free_into D) q (next + 1) new
     walked = IsWalked-step (free_into D) q next v members new at (subst (Extends members new) (sym (into-map D.arcs v)) e) g.walked
 
--- none of the first members is among the others
-abbrev pub AreApart : List ℕ → ℕ → List ℕ → Type 0
-AreApart others next members = (k : ℕ) → k < next → k < length members → IsFalse (has others (get_or members k 0))
+-- the search stops at none of the first members
+abbrev pub AreApart : (ℕ → Bool) → ℕ → List ℕ → Type 0
+AreApart stops_at next members = (k : ℕ) → k < next → k < length members → IsFalse (stops_at (get_or members k 0))
 
-pub apart_more : (others : List ℕ) (next v : ℕ) (members new vertices : List ℕ) → slice_get members next ≡ Some v → IsFalse (has others v) → Extends members new vertices → AreApart others next members → AreApart others (next + 1) new
-apart_more others next v members new vertices at out e h k before within = elim (cases_lt k next) [
+pub apart_more : (stops_at : ℕ → Bool) (next v : ℕ) (members new vertices : List ℕ) → slice_get members next ≡ Some v → IsFalse (stops_at v) → Extends members new vertices → AreApart stops_at next members → AreApart stops_at (next + 1) new
+apart_more stops_at next v members new vertices at out e h k before within = elim (cases_lt k next) [
   | inl earlier ↦ rw (front k (omega (arith, earlier, below))) (h k earlier (omega (arith, earlier, below)))
   | inr later ↦ let same : k ≡ next = omega (arith, before, later) in rw (same, front next below, get_or_from_slice_get members next v 0 at) out
 ]
@@ -155,16 +156,16 @@ apart_more others next v members new vertices at out e h k before within = elim 
     front : (j : ℕ) → j < length members → get_or new j 0 ≡ get_or members j 0
     front j inside = rw e.appended (get_or_append_left members e.more 0 j inside)
 
--- a member is among the others
-pub growing_met : (D : Digraph) (q next v : ℕ) (others members : List ℕ) → slice_get members next ≡ Some v → IsTrue (has others v) → IsGrowing D q next members → IsGathered D q others members true
-growing_met D q next v others members at met g = (v, met, subst (Reaches D [] q) (get_or_from_slice_get members next v 0 at) (g.seeds.reaching next 0 (slice_get_within members next v at)))
+-- it stops at a member
+pub growing_met : (D : Digraph) (q next v : ℕ) (stops_at : ℕ → Bool) (members : List ℕ) → slice_get members next ≡ Some v → IsTrue (stops_at v) → IsGrowing D q next members → IsGathered D q stops_at members (Some v)
+growing_met D q next v stops_at members at met g = (met, subst (Reaches D [] q) (get_or_from_slice_get members next v 0 at) (g.seeds.reaching next 0 (slice_get_within members next v at)))
 
 -- all have been asked
-pub growing_done : (D : Digraph) (q next : ℕ) (others members : List ℕ) → length members ≤ next → AreApart others next members → IsGrowing D q next members → IsGathered D q others members false
-growing_done D q next others members all apart g = (λ v. (λ held. at_member (Reaches D [] q) members v (recursion_from_All (Reaches D [] q) members g.seeds.reaching) held, λ reaching. reached_is_in D q v members (AreLed-done (free_into D) q next members all g.walked) reaching), λ v held. out v (place_of members v held))
+pub growing_done : (D : Digraph) (q next : ℕ) (stops_at : ℕ → Bool) (members : List ℕ) → length members ≤ next → AreApart stops_at next members → IsGrowing D q next members → IsGathered D q stops_at members None
+growing_done D q next stops_at members all apart g = (λ v. (λ held. at_member (Reaches D [] q) members v (recursion_from_All (Reaches D [] q) members g.seeds.reaching) held, λ reaching. reached_is_in D q v members (AreLed-done (free_into D) q next members all g.walked) reaching), λ v held. out v (place_of members v held))
   where
-    out : (v : ℕ) → (k : ℕ) × (k < length members) × (get_or members k 0 ≡ v) → IsFalse (has others v)
-    out v p = subst (λ (w : ℕ). IsFalse (has others w)) p.2 (apart p.0 (omega (arith, p.1, all)) p.1)
+    out : (v : ℕ) → (k : ℕ) × (k < length members) × (get_or members k 0 ≡ v) → IsFalse (stops_at v)
+    out v p = subst (λ (w : ℕ). IsFalse (stops_at w)) p.2 (apart p.0 (omega (arith, p.1, all)) p.1)
 
 -- whom one reaches that the root reaches, the root reaches
 pub reaches_through : (D : Digraph) (C : List Cut) (q v w : ℕ) → Reaches D C q v → Reaches D C v w → Reaches D C q w
@@ -179,45 +180,71 @@ alone_is_seed D q range = record {
   reaching = All-cons (Reaches D [] q) q [] here (All-nil (Reaches D [] q));
 }
 
--- what holds of vertices holds of them in another order
-pub all_same : (P : ℕ → Type 0) (old new : List ℕ) → Extends [] new old → All P old → All P new
-all_same P old new e all = rw e.appended (All-weaker (λ v. IsTrue (has old v)) P (λ v held. at_member P old v (recursion_from_All P old all) held) e.more e.only)
-
-pub seeds_same : (D : Digraph) (q : ℕ) (old new : List ℕ) → Extends [] new old → AreSeeds D q old → AreSeeds D q new
-seeds_same D q old new e s = record {
-  held = e.covers q s.held;
-  in_range = all_same (IsVertex D.n) old new e s.in_range;
-  reaching = all_same (Reaches D [] q) old new e s.reaching;
-}
+-- a vertex alone in a set that was empty
+pub alone : (D : Digraph) (q : ℕ) (members : List ℕ) → IsVertex D.n q → members ≡ q ∷ [] → AreSeeds D q members
+alone D q members range is = rw is (alone_is_seed D q range)
 
 -- the root reaches itself
-pub growth_start : (D : Digraph) (g : Growth) → g.set.count ≡ D.n + 1 → g.set.members ≡ [] → g.reached.count ≡ D.n + 1 → g.reached.members ≡ D.root ∷ [] → IsGrowth D g
-growth_start D g set empty reached is = record {
+pub growth_start : (D : Digraph) (g : Growth) → g.set.count ≡ D.n + 1 → g.set.members ≡ [] → g.known.reached.count ≡ D.n + 1 → length g.known.leads.items ≡ D.n + 1 → g.known.reached.members ≡ D.root ∷ [] → IsGrowth D g
+growth_start D g set empty reached leads is = record {
   set_count = set;
   in_range = rw empty (All-nil (IsVertex D.n));
   reached_count = reached;
+  leads_count = leads;
   root = rw is (or_left (D.root == D.root) _ (eq-eqb D.root D.root refl));
   reached = rw is (All-cons (λ v. Reaches D [] v D.root) D.root [] here (All-nil (λ v. Reaches D [] v D.root)));
 }
 
 -- and one vertex more
-pub growth_more : (D : Digraph) (old new : Growth) (q : ℕ) → new.set.count ≡ old.set.count → All (IsVertex D.n) new.set.members → new.reached.count ≡ old.reached.count → new.reached.members ≡ (if has old.reached.members q then old.reached.members else old.reached.members ++ q ∷ []) → Reaches D [] q D.root → IsGrowth D old → IsGrowth D new
-growth_more D old new q set in_range count is reaching h = by_case (has old.reached.members q) is
+pub reached_more : (D : Digraph) (old new : List ℕ) (q : ℕ) → new ≡ (if has old q then old else old ++ q ∷ []) → Reaches D [] q D.root → IsTrue (has old D.root) → All (λ v. Reaches D [] v D.root) old
+    → IsTrue (has new D.root) × All (λ v. Reaches D [] v D.root) new
+reached_more D old new q is reaching root all = by_case (has old q) is
   where
-    by_case : (b : Bool) → new.reached.members ≡ (if b then old.reached.members else old.reached.members ++ q ∷ []) → IsGrowth D new
-    by_case true e = record { set_count = set ∙ h.set_count; in_range = in_range; reached_count = count ∙ h.reached_count; root = rw e h.root; reached = rw e h.reached }
-    by_case false e = record {
-      set_count = set ∙ h.set_count;
-      in_range = in_range;
-      reached_count = count ∙ h.reached_count;
-      root = rw (e, has-push old.reached.members q D.root) (or_left _ _ h.root);
-      reached = rw e (All-push (λ v. Reaches D [] v D.root) old.reached.members q h.reached reaching);
-    }
+    by_case : (b : Bool) → new ≡ (if b then old else old ++ q ∷ []) → IsTrue (has new D.root) × All (λ v. Reaches D [] v D.root) new
+    by_case true e = rw e (root, all)
+    by_case false e = rw (e, has-push old q D.root) (or_left _ _ root, All-push (λ v. Reaches D [] v D.root) old q all reaching)
 
--- whom a vertex reaches that the root reaches
-pub met_reached : (D : Digraph) (q : ℕ) (g : Growth) (set : List ℕ) → IsGrowth D g → IsGathered D q g.reached.members set true → Reaches D [] q D.root
-met_reached D q g set h met = reaches_through D [] q met.0 D.root met.2 (at_member (λ v. Reaches D [] v D.root) g.reached.members met.0 (recursion_from_All (λ v. Reaches D [] v D.root) g.reached.members h.reached) met.1)
+-- the root reaches whom one reaches that it is known to reach
+pub root_reaches : (D : Digraph) (g : Growth) (q v : ℕ) → IsGrowth D g → IsTrue (has g.known.reached.members v) → Reaches D [] q v → Reaches D [] q D.root
+root_reaches D g q v h known reaching = reaches_through D [] q v D.root reaching (at_member (λ w. Reaches D [] w D.root) g.known.reached.members v (recursion_from_All (λ w. Reaches D [] w D.root) g.known.reached.members h.reached) known)
 
--- a set with none of those that the root reaches doesn't have the root
-pub root_apart : (D : Digraph) (q : ℕ) (g : Growth) (set : List ℕ) → IsGrowth D g → IsGathered D q g.reached.members set false → IsFalse (has set D.root)
-root_apart D q g set h gathered = false_from_ne_true (has set D.root) (λ held. false≢true (sym (gathered.1 D.root held) ∙ h.root))
+-- where the search stops at v, q is led to
+pub led_to : (D : Digraph) (g : Growth) (q v : ℕ) → IsGrowth D g → IsTrue (stops g.known q v) → Reaches D [] q v → IsLedTo D g.known.leads.items q
+led_to D g q v h stopped reaching = elim (or_cases (has g.known.reached.members v) (leads g.known.leads.items v && not (v == q)) stopped) [
+  | inl known ↦ inl (root_reaches D g q v h known reaching)
+  | inr leading ↦ let parts = and_parts (leads g.known.leads.items v) (not (v == q)) leading in inr (v, parts.0, (λ same. both_ways (v == q) (not-true (v == q) parts.1) (eq-eqb v q same)), reaching)
+]
+
+-- a set at none of whose members it stops doesn't have the root
+pub root_apart : (D : Digraph) (g : Growth) (q : ℕ) (set : List ℕ) → IsGrowth D g → IsGathered D q (stops g.known q) set None → IsSet D q set
+root_apart D g q set h gathered = (gathered.0, false_from_ne_true (has set D.root) (λ held. false≢true (sym (gathered.1 D.root held) ∙ or_left (has g.known.reached.members D.root) _ h.root)))
+
+-- q leads no more
+pub leads_no_more : (marks : List Bool) (q v : ℕ) → q < length marks → IsTrue (leads (set marks q false) v) → IsTrue (leads marks v) × (v ≢ q)
+leads_no_more marks q v below led = by_case (v == q) refl
+  where
+    by_case : (b : Bool) → (v == q) ≡ b → IsTrue (leads marks v) × (v ≢ q)
+    by_case true same = let is = eqb-true v q same in absurd (false≢true (sym (get_or-set_same marks q false false below) ∙ subst (λ (w : ℕ). IsTrue (leads (set marks q false) w)) is led))
+    by_case false other = let apart : v ≢ q = λ is. false≢true (sym other ∙ eq-eqb v q is) in (sym (get_or-set_other marks q v false false apart) ∙ led, apart)
+
+-- one mark more
+pub certain_more : (D : Digraph) (marks : List Bool) (b : Bool) → (IsTrue b → kind_of D (length marks) ≡ Must) → ((v : ℕ) → IsTrue (leads marks v) → kind_of D v ≡ Must) → (v : ℕ) → IsTrue (leads (marks ++ b ∷ []) v) → kind_of D v ≡ Must
+certain_more D marks b must h v led = elim (cases_lt v (length marks)) [
+  | inl below ↦ h v (sym (get_or_append_left marks (b ∷ []) false v below) ∙ led)
+  | inr past ↦ elim (cases_lt (length marks) v) [
+    | inl beyond ↦ absurd (false≢true (sym (get_or_past (marks ++ b ∷ []) v false (omega (arith, beyond, length_push marks b))) ∙ led))
+    | inr within ↦ let is : v ≡ length marks = omega (arith, past, within) in ap (kind_of D) is ∙ must (sym (get_or_push marks b false v (sym is)) ∙ led)
+  ]
+]
+
+-- a vertex that the search led to, with what is known of the others
+pub growth_covered : (D : Digraph) (old new : Growth) (q : ℕ) → new.set.count ≡ old.set.count → All (IsVertex D.n) new.set.members → new.known.reached.count ≡ old.known.reached.count → new.known.leads.items ≡ set old.known.leads.items q false
+    → IsTrue (has new.known.reached.members D.root) × All (λ w. Reaches D [] w D.root) new.known.reached.members → IsGrowth D old → IsGrowth D new
+growth_covered D old new q set_same in_range reached_same leads_are reached h = record {
+  set_count = set_same ∙ h.set_count;
+  in_range = in_range;
+  reached_count = reached_same ∙ h.reached_count;
+  leads_count = ap length leads_are ∙ length-set old.known.leads.items q false ∙ h.leads_count;
+  root = reached.0;
+  reached = reached.1;
+}

@@ -37,7 +37,7 @@ pub fn ascend(
     let mut growth = Growth::start(alloc, arcs)?;
     let mut room = target;
     while room > 0 {
-        let Some(turn) = next_fresh(arcs, &cuts, &mut growth, &mut queue)? else {
+        let Some(turn) = next_fresh(arcs, &mut growth, &mut queue)? else {
             return Ok(Ascent::Full(packing(arcs.root(), cuts)));
         };
         let Some(raise) = raise_for(alloc, arcs, twins, &growth.set, &turn, room)? else {
@@ -49,7 +49,6 @@ pub fn ascend(
             place: turn.waiting.place,
             entering: raise.entering,
             vertex: turn.waiting.vertex,
-            last: Some(cuts.len()),
         }))?;
         cuts.push(raise.cut)?;
     }

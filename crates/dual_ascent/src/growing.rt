@@ -1,13 +1,11 @@
-ghost use Rattle.std.specs.Prelude.{◌≡◌, ℕ, ◌+◌, ◌<◌, [], All, IfOk, IsFalse, MatchBool, OnOk};
-ghost use Rattle.st_model.specs.Lists.{has};
+ghost use Rattle.std.specs.Prelude.{◌≡◌, ◌+◌, ◌<◌, length, All, IfOk, IsTrue, MatchBool, OnOk, slice_index_or};
+ghost use Rattle.bidirected_form.specs.Digraph.{kind_of};
 ghost use Rattle.st_model.specs.Network.{IsVertex};
 ghost use Rattle.st_model.specs.VertexSet.{Extends};
-ghost use Rattle.dual_ascent.specs.Raises.{Reaches};
-ghost use Rattle.dual_ascent.specs.Turns.{AreSeeds, IsGathered, IsGrown, IsGrowth, IsWaiting, free_tails};
+ghost use Rattle.dual_ascent.specs.Turns.{AreCertain, IsGathered, IsGrowth, IsLooked, free_tails, leads, stops};
 
-use crate::waiting::Waiting;
+use crate::waiting::is_certain;
 use bidirected_form::{Arc, Arcs};
-use cut_packing::Cut;
 use st_model::VertexSet;
 use std::alloc::{AllocError, Global};
 
@@ -16,103 +14,109 @@ use std::alloc::{AllocError, Global};
 pub struct Growth {
     // Scratch: what reaches the vertex whose turn it is.
     pub set: VertexSet,
-    // Vertices that the root reaches, so that whoever they reach needn't be looked at further.
+    pub known: Known,
+}
+
+// Vertices at which a search for what reaches one can stop.
+#[derive(Drop)]
+pub struct Known {
+    // Some of those that the root reaches.
     pub reached: VertexSet,
+    // By vertex, whether it has to be reached and waits for its turn: whoever it reaches needn't be
+    // raised, since that one is reached with it.
+    pub leads: Vec<bool>,
 }
 
 impl Growth {
-    // The root reaches itself.
+    // The root reaches itself, and all that have to be reached wait.
     pub fn start(alloc: Global, arcs: &Arcs) -> Result<Growth, AllocError>
-        ensures { IfOk result (IsGrowth arcs.now) }
+        ensures growth { IfOk result (IsGrowth arcs.now) }
+        ensures leads { IfOk result (λ g. AreCertain arcs.now g.known.leads.items) }
     {
         let places = arcs.vertices() as usize + 1;
         let mut reached = VertexSet::new(alloc, places)?;
         reached.insert(arcs.root())?;
         let set = VertexSet::new(alloc, places)?;
-        Ok(Growth { set, reached })
+        let leads = certain_of(alloc, arcs)?;
+        Ok(Growth {
+            set,
+            known: Known { reached, leads },
+        })
     }
 
-    // Whether the root reaches a vertex over arcs with nothing left. If it doesn't, the set is all
-    // that does.
-    pub fn is_reached(
-        &mut self,
-        arcs: &Arcs,
-        cuts: &[Cut],
-        waiting: &Waiting,
-    ) -> Result<bool, AllocError>
-        requires waiting { IsWaiting arcs.now cuts.now waiting.now }
+    // Whether the root reaches a vertex over arcs with nothing left, or another one that leads does;
+    // it leads no more then. Else the set is all that reaches it.
+    pub fn is_covered(&mut self, arcs: &Arcs, vertex: u32) -> Result<bool, AllocError>
+        requires vertex { IsVertex arcs.now.n vertex }
         requires growth { IsGrowth arcs.now self.old }
         ensures growth { OnOk result (IsGrowth arcs.now self.new) }
-        ensures reached { IfOk result (λ met. MatchBool met
-            (Reaches arcs.now [] waiting.now.vertex arcs.now.root)
-            (IsGrown arcs.now waiting.now.vertex self.new.set.members
-            × IsFalse (has self.new.set.members arcs.now.root))) }
+        ensures looked { IfOk result (IsLooked arcs.now self.old.known.leads.items
+            self.new.known.leads.items self.new.set.members vertex) }
     {
-        let met = gather(arcs, cuts, &mut self.set, &self.reached, waiting)?;
-        if met {
-            self.reached.insert(waiting.vertex)?;
-        }
-        Ok(met)
-    }
-}
-
-// Makes the set what reaches a vertex, as far as none is met that is reached; whether one was met.
-fn gather(
-    arcs: &Arcs,
-    cuts: &[Cut],
-    set: &mut VertexSet,
-    reached: &VertexSet,
-    waiting: &Waiting,
-) -> Result<bool, AllocError>
-    requires waiting { IsWaiting arcs.now cuts.now waiting.now }
-    requires count { set.old.count ≡ arcs.now.n + 1 }
-    ensures count { set.new.count ≡ set.old.count }
-    ensures in_range { OnOk result (All (IsVertex arcs.now.n) set.new.members) }
-    ensures gathered { IfOk result (IsGathered arcs.now waiting.now.vertex reached.now.members set.new.members) }
-{
-    match waiting.last {
-        Some(last) => gather_from(arcs, set, reached, cuts[last].set.as_slice()),
-        None => gather_from(arcs, set, reached, &[waiting.vertex]),
-    }
-}
-
-// Makes the set what reaches the vertices of a list, as far as none is met that is reached.
-fn gather_from(
-    arcs: &Arcs,
-    set: &mut VertexSet,
-    reached: &VertexSet,
-    vertices: &[u32],
-) -> Result<bool, AllocError>
-    requires vertices { All (IsVertex arcs.now.n) vertices.now }
-    requires count { set.old.count ≡ arcs.now.n + 1 }
-    ensures count { set.new.count ≡ set.old.count }
-    ensures in_range { OnOk result (All (IsVertex arcs.now.n) set.new.members) }
-    ensures gathered { IfOk result (λ met. (q : ℕ) → AreSeeds arcs.now q vertices.now
-        → IsGathered arcs.now q reached.now.members set.new.members met) }
-{
-    set.clear();
-    set.extend(vertices)?;
-    grow(arcs, set, reached)
-}
-
-// Adds what reaches the set over arcs with nothing left, as far as none is met that is reached.
-fn grow(arcs: &Arcs, set: &mut VertexSet, reached: &VertexSet) -> Result<bool, AllocError>
-    requires members { All (IsVertex arcs.now.n) set.old.members }
-    requires count { set.old.count ≡ arcs.now.n + 1 }
-    ensures count { set.new.count ≡ set.old.count }
-    ensures in_range { OnOk result (All (IsVertex arcs.now.n) set.new.members) }
-    ensures gathered { IfOk result (λ met. (q : ℕ) → AreSeeds arcs.now q set.old.members
-        → IsGathered arcs.now q reached.now.members set.new.members met) }
-{
-    let mut next = 0;
-    while let Some(vertex) = set.member(next) {
-        if reached.contains(vertex) {
+        let Some(met) = grow(arcs, &mut self.set, &self.known, vertex)? else {
+            return Ok(false);
+        };
+        self.known.leads[vertex as usize] = false;
+        if !self.known.reached.contains(met) {
             return Ok(true);
         }
-        add_tails(arcs.arcs_into(vertex), set)?;
+        self.known.reached.insert(vertex)?;
+        Ok(true)
+    }
+}
+
+impl Known {
+    // Whether the root is known to reach a vertex, or that is another than the one given, and leads.
+    fn stops(&self, given: u32, vertex: u32) -> bool
+        ensures { result ≡ stops self.now given vertex }
+    {
+        self.reached.contains(vertex) || (self.is_leading(vertex) && vertex != given)
+    }
+
+    // Whether a vertex leads.
+    fn is_leading(&self, vertex: u32) -> bool
+        ensures { result ≡ leads self.now.leads.items vertex }
+    {
+        self.leads.get(vertex as usize).copied().unwrap_or(false)
+    }
+}
+
+// By vertex, whether it has to be reached.
+fn certain_of(alloc: Global, arcs: &Arcs) -> Result<Vec<bool>, AllocError>
+    ensures { IfOk result (λ certain. AreCertain arcs.now certain.items) }
+{
+    let mut certain = vec![in alloc; false]?;
+    for before in 0..arcs.vertices() {
+        certain.push(is_certain(arcs, before + 1))?;
+    }
+    Ok(certain)
+}
+
+// Makes the set what reaches a vertex over arcs with nothing left, as far as the search doesn't stop;
+// where it did.
+fn grow(
+    arcs: &Arcs,
+    set: &mut VertexSet,
+    known: &Known,
+    vertex: u32,
+) -> Result<Option<u32>, AllocError>
+    requires vertex { IsVertex arcs.now.n vertex }
+    requires count { set.old.count ≡ arcs.now.n + 1 }
+    ensures count { set.new.count ≡ set.old.count }
+    ensures in_range { OnOk result (All (IsVertex arcs.now.n) set.new.members) }
+    ensures gathered { IfOk result (IsGathered arcs.now vertex (stops known.now vertex) set.new.members) }
+{
+    set.clear();
+    set.insert(vertex)?;
+    let mut next = 0;
+    while let Some(member) = set.member(next) {
+        if known.stops(vertex, member) {
+            return Ok(Some(member));
+        }
+        add_tails(arcs.arcs_into(member), set)?;
         next += 1;
     }
-    Ok(false)
+    Ok(None)
 }
 
 // Adds the tails of the arcs with nothing left.

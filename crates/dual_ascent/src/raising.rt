@@ -1,9 +1,9 @@
-ghost use Rattle.std.specs.Prelude.{◌≡◌, ℕ, ◌+◌, ◌<◌, ◌≤◌, ◌↔◌, [], All, IfOk, IsTrue, MatchOption};
+ghost use Rattle.std.specs.Prelude.{◌≡◌, ℕ, ◌+◌, ◌<◌, ◌≤◌, ◌↔◌, [], All, IfOk, IsTrue, IsFalse, MatchOption};
 ghost use Rattle.std.specs.List.Sorted.{IsStrictlyIncreasing};
 ghost use Rattle.st_model.specs.Lists.{has};
 ghost use Rattle.st_model.specs.Network.{IsVertex};
-ghost use Rattle.dual_ascent.specs.Raises.{IsRaisable, IsRaise, Reaches};
-ghost use Rattle.dual_ascent.specs.Turns.{IsLimit, IsLooked};
+ghost use Rattle.dual_ascent.specs.Raises.{IsRaisable, IsRaise};
+ghost use Rattle.dual_ascent.specs.Turns.{IsLimit, IsSet};
 
 use crate::border::border_of;
 use crate::turning::Turn;
@@ -23,7 +23,7 @@ pub struct Raise {
 }
 
 // A cut round the set in hand, which is all that reaches the vertex whose turn it is, for at most
-// so much; none where the vertex isn't raisable or the root reaches it.
+// so much; none where the vertex isn't raisable or is covered.
 pub fn raise_for(
     alloc: Global,
     arcs: &Arcs,
@@ -34,15 +34,15 @@ pub fn raise_for(
 ) -> Result<Option<Raise>, AllocError>
     requires vertex { IsVertex arcs.now.n turn.now.waiting.vertex }
     requires in_range { All (IsVertex arcs.now.n) set.now.members }
-    requires looked { IsLooked arcs.now set.now.members turn.now.waiting.vertex turn.now.is_reached }
+    requires seen { IsFalse turn.now.is_covered → IsSet arcs.now turn.now.waiting.vertex set.now.members }
     requires room { 0 < room }
     ensures { IfOk result (λ found. MatchOption found
-        (IsRaisable arcs.now twins.now [] turn.now.waiting.vertex
-        → Reaches arcs.now [] turn.now.waiting.vertex arcs.now.root)
-        (λ raise. IsRaise arcs.now twins.now room [] raise.cut × (raise.cut.q ≡ turn.now.waiting.vertex))) }
+        (IsRaisable arcs.now twins.now [] turn.now.waiting.vertex → IsTrue turn.now.is_covered)
+        (λ raise. IsRaise arcs.now twins.now room [] raise.cut × (raise.cut.q ≡ turn.now.waiting.vertex)
+        × IsFalse turn.now.is_covered)) }
 {
     let q = turn.waiting.vertex;
-    if turn.is_reached || !is_raisable(arcs, twins, q) {
+    if turn.is_covered || !is_raisable(arcs, twins, q) {
         return Ok(None);
     }
     let border = border_of(arcs, set, limit(arcs, twins, q, room));

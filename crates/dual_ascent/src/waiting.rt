@@ -4,7 +4,7 @@ ghost use Rattle.st_model.specs.Network.{IsVertex};
 ghost use Rattle.bidirected_form.specs.Digraph.{kind_of};
 ghost use Rattle.dual_ascent.specs.Left.{AreEndsOf};
 ghost use Rattle.dual_ascent.specs.Raises.{IsRaisable};
-ghost use Rattle.dual_ascent.specs.Turns.{AreWaiting};
+ghost use Rattle.dual_ascent.specs.Turns.{AllWait};
 
 use bidirected_form::{Arcs, VertexKind};
 use prize_transform::Twins;
@@ -20,8 +20,6 @@ pub struct Waiting {
     // How many arcs entered its set when that was last looked at.
     pub entering: usize,
     pub vertex: u32,
-    // The place of its last cut.
-    pub last: Option<usize>,
 }
 
 pub type Queue = BinaryHeap<Reverse<Waiting>>;
@@ -53,7 +51,7 @@ pub fn all_raisable(
     order: &[u32],
 ) -> Result<Queue, AllocError>
     requires { AreEndsOf arcs.now twins.now }
-    ensures { IfOk result (λ queue. AreWaiting arcs.now twins.now [] (heap_items queue)) }
+    ensures { IfOk result (λ queue. AllWait arcs.now twins.now (heap_items queue)) }
 {
     let places = places_of(alloc, arcs.vertices(), order)?;
     let mut queue = BinaryHeap::new(alloc);
@@ -64,7 +62,6 @@ pub fn all_raisable(
                 place: places[vertex as usize],
                 entering: arcs.neighbours(vertex).len(),
                 vertex,
-                last: None,
             }))?;
         }
     }

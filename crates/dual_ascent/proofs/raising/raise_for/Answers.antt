@@ -7,10 +7,10 @@ use Rattle.dual_ascent.proofs.raising.raise_for.Goals as goal
 pub returns : goal.returns
 returns c =
     let y = sym c.in_ok-cut.ensures.y in
-    let gathered = rw c.if-turn.false at c.requires.looked in
+    let gathered = c.requires.seen c.if-turn.false in
     let members = c.args.set.now.members in
     let limit = c.limit.result in
-    raise_made c.args.arcs.now c.args.twins.now c.args.room c.args.turn.now.waiting.vertex members limit c.in_ok-cut.cut (record {
+    let made = raise_made c.args.arcs.now c.args.twins.now c.args.room c.args.turn.now.waiting.vertex members limit c.in_ok-cut.cut (record {
       in_range = c.requires.in_range;
       raisable = c.is_raisable.ensures.0 c.if-not-is_raisable.false;
       some = c.requires.room;
@@ -23,4 +23,5 @@ returns c =
       names = c.in_ok-cut.ensures.q;
       same = c.in_ok-cut.ensures.members;
       ascending = c.in_ok-cut.ensures.ascending;
-    })
+    }) in
+    (made.0, made.1, c.if-turn.false)

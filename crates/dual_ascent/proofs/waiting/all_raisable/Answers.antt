@@ -15,7 +15,7 @@ loop-before-preserved c =
     let k = c.loop-before.before in
     let queue = heap_items c.loop-before.queue in
     elim c.if-is_raisable.branch [
-      | then-is_raisable+in_ok-push w ↦ rw w.queue-is (listed_more D E k queue (heap_items w.push.new.self) _ (omega arith, omega (arith, c.loop-before-test.true, c.vertices-before-end.ensures.count)) refl refl w.in_ok-push.ensures.permutation c.loop-before.invariant)
+      | then-is_raisable+in_ok-push w ↦ rw w.queue-is (listed_more D E k queue (heap_items w.push.new.self) _ (omega arith, omega (arith, c.loop-before-test.true, c.vertices-before-end.ensures.count)) refl w.in_ok-push.ensures.permutation c.loop-before.invariant)
       | else-is_raisable w ↦ rw w.queue-is (listed_past D E k queue (iff_false c.is_raisable.ensures w.if-is_raisable.false) c.loop-before.invariant)
     ]
 
