@@ -17,6 +17,7 @@ mod draws;
 mod expanding;
 mod gate;
 mod guessing;
+mod hint;
 mod joints;
 mod node;
 mod picking;

@@ -7,6 +7,7 @@ ghost use Rattle.worker_loop.specs.Run.{HasRun, IsEnding, Task};
 
 use crate::aim::Aim;
 use crate::gate::Gate;
+use crate::hint::{Hint, Known};
 use crate::turn::Turn;
 use crate::work::Work;
 use crate::worker::Worker;
@@ -27,6 +28,7 @@ impl<Q: Aim> Worker<Q> {
         alloc: Global,
         whole: &Whole,
         start: &Tree,
+        hint: &Hint,
         gate: &G,
     ) -> Result<Segment, AllocError>
         requires whole { whole.now.instance ≡ Q.instance }
@@ -36,7 +38,7 @@ impl<Q: Aim> Worker<Q> {
         ensures run { IfOk result (λ s. (tasks : List Task) × HasRun Q.instance Q.gone Q.start self.old.seat
             self.old.workers self.old.pass self.new.pass self.new.ledger self.new.best tasks s) }
     {
-        match self.search(rt, alloc, whole, start, gate) {
+        match self.search(rt, alloc, whole, start, hint, gate) {
             Ok(segment) => Ok(segment),
             Err(error) => {
                 self.ledger.halt(Why::Memory);
@@ -52,6 +54,7 @@ impl<Q: Aim> Worker<Q> {
         alloc: Global,
         whole: &Whole,
         start: &Tree,
+        hint: &Hint,
         gate: &G,
     ) -> Result<Segment, AllocError>
         requires whole { whole.now.instance ≡ Q.instance }
@@ -61,11 +64,12 @@ impl<Q: Aim> Worker<Q> {
         ensures run { IfOk result (λ s. (tasks : List Task) × HasRun Q.instance Q.gone Q.start self.old.seat
             self.old.workers self.old.pass self.new.pass self.new.ledger self.new.best tasks s) }
     {
+        let mut known = Known::first(alloc, hint, start)?;
         let mut work = Work::begin(alloc, self.best.see());
         let mut hand = None;
         for _ in rt.forever() {
             match self.taken_up(rt, hand) {
-                Ok(node) => match self.turn(alloc, whole, start, gate, node, &mut work)? {
+                Ok(node) => match self.turn(rt, alloc, whole, &mut known, gate, node, &mut work)? {
                     Turn::Next(half) => hand = half,
                     Turn::Left(node, end) => return Ok(work.ended(vec![in alloc; node]?, end)),
                 },

@@ -10,6 +10,7 @@ ghost use Rattle.worker_loop.specs.Team.{IsSearched};
 
 use crate::Gate;
 use crate::aim::{Aim, SoundFor};
+use crate::hint::Hint;
 use crate::node::root_of;
 use crate::team::{handed_back, run_team, team_of};
 use graph_store::Whole;
@@ -105,6 +106,7 @@ fn searched<Q: Aim + Send, R: Threads + Wait + Sync, G: Gate>(
         alloc,
         whole,
         start,
+        &Hint::none(),
         team.as_mut_slice(),
         workers as usize,
         gate,

@@ -4,6 +4,7 @@ ghost use Rattle.worker_loop.specs.Slots.{AreSeated, HasRunIn, HaveRunIn, accoun
 
 use crate::aim::{Aim, SoundFor};
 use crate::gate::Gate;
+use crate::hint::Hint;
 use crate::worker::Worker;
 use graph_store::Whole;
 use incumbent::BestSeat;
@@ -39,6 +40,7 @@ impl<Q: Aim> Slot<Q> {
         alloc: Global,
         whole: &Whole,
         start: &Tree,
+        hint: &Hint,
         gate: &G,
     )
         requires whole { whole.now.instance ≡ Q.instance }
@@ -46,7 +48,7 @@ impl<Q: Aim> Slot<Q> {
         requires unused { IsUnused Q.start self.old.worker }
         ensures { HasRunIn Q.instance Q.gone Q.start self.old self.new }
     {
-        self.segment = self.worker.run(rt, alloc, whole, start, gate).ok();
+        self.segment = self.worker.run(rt, alloc, whole, start, hint, gate).ok();
     }
 }
 
@@ -94,6 +96,7 @@ pub fn run_team<Q: Aim + Send, R: Threads + Wait + Sync, G: Gate>(
     alloc: Global,
     whole: &Whole,
     start: &Tree,
+    hint: &Hint,
     team: &mut [Slot<Q>],
     threads: usize,
     gate: &G,
@@ -112,7 +115,7 @@ pub fn run_team<Q: Aim + Send, R: Threads + Wait + Sync, G: Gate>(
             requires { (whole.now.instance ≡ Q.instance) × IsAim Q.instance Q.gone Q.start
                 × IsUnused Q.start slot.now.worker }
             ensures { HasRunIn Q.instance Q.gone Q.start slot.entry.now slot.exit.now }
-        { slot.run(rt, alloc, whole, start, gate) },
+        { slot.run(rt, alloc, whole, start, hint, gate) },
     );
 }
 

@@ -229,7 +229,7 @@ fn three_spend_each_budget(rt: HostRuntime) -> Result<(), Fail> {
 
 #[test]
 fn eight_agree_each_time(rt: HostRuntime) -> Result<(), Fail> {
-    for turn in 0..100 {
+    for turn in 0..300 {
         assert!(rt;
             crosses_by_a_split(&rt, rt.alloc(), 8, u64::MAX)?,
             "at turn {turn}"

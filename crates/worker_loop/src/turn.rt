@@ -9,6 +9,7 @@ ghost use Rattle.worker_loop.specs.Sound.{IsSound};
 use crate::aim::Aim;
 use crate::expanding::expand;
 use crate::gate::Gate;
+use crate::hint::Known;
 use crate::step::{End, Priced, Step};
 use crate::work::Work;
 use crate::worker::Worker;
@@ -17,8 +18,8 @@ use cut_packing::Packing;
 use graph_store::Whole;
 use open_ledger::Why;
 use search_core::{Done, End as Ending};
-use st_model::Tree;
 use std::alloc::{AllocError, Global};
+use std::sync::Wait;
 
 /// How a turn ends.
 #[derive(Drop)]
@@ -31,11 +32,12 @@ pub enum Turn {
 
 impl<Q: Aim> Worker<Q> {
     // One turn with a node in hand.
-    pub(crate) fn turn<G: Gate>(
+    pub(crate) fn turn<R: Wait, G: Gate>(
         &mut self,
+        rt: &R,
         alloc: Global,
         whole: &Whole,
-        start: &Tree,
+        known: &mut Known<'_>,
         gate: &G,
         node: Node,
         work: &mut Work,
@@ -59,16 +61,17 @@ impl<Q: Aim> Worker<Q> {
             return Ok(Turn::Left(node, Ending::ClaimRefused));
         }
         gate.at(self.seat, node.id);
-        let half = self.work_on(alloc, whole, start, node, work)?;
+        let half = self.work_on(rt, alloc, whole, known, node, work)?;
         Ok(Turn::Next(half))
     }
 
     // Works on a node that was claimed: the half to go on with, if it was split.
-    fn work_on(
+    fn work_on<R: Wait>(
         &mut self,
+        rt: &R,
         alloc: Global,
         whole: &Whole,
-        start: &Tree,
+        known: &mut Known<'_>,
         node: Node,
         work: &mut Work,
     ) -> Result<Option<Node>, AllocError>
@@ -82,8 +85,9 @@ impl<Q: Aim> Worker<Q> {
     {
         let id = node.id;
         work.seen = self.best.see();
-        let known = work.best.as_ref().unwrap_or(start);
-        let Step { better, end } = expand(alloc, whole, node, work.seen, known)?;
+        known.catch_up(rt, alloc, work.seen)?;
+        let Step { better, end } = expand(alloc, whole, node, work.seen, known.tree())?;
+        known.show(rt, alloc, &better)?;
         self.adopt(better, work);
         match end {
             End::Close(packing) => {

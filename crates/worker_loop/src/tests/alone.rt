@@ -6,6 +6,7 @@ ghost use Rattle.worker_loop.specs.Progress.{IsAim};
 
 use super::starting::first_required;
 use crate::aim::{Aim, SoundFor};
+use crate::hint::Hint;
 use crate::node::root_of;
 use crate::{OpenGate, Worker};
 use graph_store::Whole;
@@ -70,5 +71,5 @@ fn run_alone<Q: Aim, R: Wait>(
         return Ok(None);
     };
     let mut worker = Worker::of(0, 1, pass, account, sight);
-    Ok(Some(worker.run(rt, alloc, whole, start, &OpenGate)?))
+    Ok(Some(worker.run(rt, alloc, whole, start, &Hint::none(), &OpenGate)?))
 }

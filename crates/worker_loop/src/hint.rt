@@ -1,0 +1,124 @@
+use crate::step::Priced;
+use st_model::{Listed, Tree};
+use std::alloc::{AllocError, Global};
+use std::sync::{Mutex, Wait};
+
+/// The cheapest tree that a team has found, which its workers take a copy of to see where trees branch.
+/// Nothing is claimed of it.
+#[derive(Drop)]
+pub struct Hint {
+    cheapest: Mutex<Option<Priced>>,
+}
+
+impl Hint {
+    /// No tree yet.
+    pub fn none() -> Hint {
+        Hint {
+            cheapest: Mutex::new(None),
+        }
+    }
+
+    // Keeps a copy of a tree, unless one is kept that costs no more.
+    fn keep<R: Wait>(&self, rt: &R, alloc: Global, found: &Priced) -> Result<(), AllocError> {
+        let copy = copied(alloc, found)?;
+        let mut cheapest = self.cheapest.lock(rt);
+        let is_cheaper = match &*cheapest {
+            Some(kept) => copy.price < kept.price,
+            None => true,
+        };
+        if is_cheaper {
+            *cheapest = Some(copy);
+        }
+        Ok(())
+    }
+
+    // A copy of the tree that is kept, if it costs less than a price.
+    fn below<R: Wait>(
+        &self,
+        rt: &R,
+        alloc: Global,
+        price: u64,
+    ) -> Result<Option<Priced>, AllocError> {
+        let cheapest = self.cheapest.lock(rt);
+        match &*cheapest {
+            Some(kept) => {
+                if kept.price < price {
+                    Ok(Some(copied(alloc, kept)?))
+                } else {
+                    Ok(None)
+                }
+            }
+            None => Ok(None),
+        }
+    }
+}
+
+/// The best tree that a worker knows, its own or another's.
+#[derive(Drop)]
+pub struct Known<'a> {
+    hint: &'a Hint,
+    best: Priced,
+}
+
+impl<'a> Known<'a> {
+    /// Of a worker that has found none: the first tree of the search. All that others show are cheaper,
+    /// so its price isn't asked for.
+    pub fn first(alloc: Global, hint: &'a Hint, start: &Tree) -> Result<Known<'a>, AllocError> {
+        let tree = copy_of(alloc, start)?;
+        let price = u64::MAX;
+        Ok(Known {
+            hint,
+            best: Priced { tree, price },
+        })
+    }
+
+    /// The tree.
+    pub fn tree(&self) -> &Tree {
+        &self.best.tree
+    }
+
+    /// Looks for a tree of others, where some tree is known to cost less.
+    pub fn catch_up<R: Wait>(
+        &mut self,
+        rt: &R,
+        alloc: Global,
+        least: u64,
+    ) -> Result<(), AllocError> {
+        if least >= self.best.price {
+            return Ok(());
+        }
+        if let Some(found) = self.hint.below(rt, alloc, self.best.price)? {
+            self.best = found;
+        }
+        Ok(())
+    }
+
+    /// Shows others a better tree, if one was found.
+    pub fn show<R: Wait>(
+        &mut self,
+        rt: &R,
+        alloc: Global,
+        better: &Option<Priced>,
+    ) -> Result<(), AllocError> {
+        if let Some(found) = better {
+            self.best = copied(alloc, found)?;
+            self.hint.keep(rt, alloc, found)?;
+        }
+        Ok(())
+    }
+}
+
+fn copied(alloc: Global, found: &Priced) -> Result<Priced, AllocError> {
+    Ok(Priced {
+        tree: copy_of(alloc, &found.tree)?,
+        price: found.price,
+    })
+}
+
+fn copy_of(alloc: Global, tree: &Tree) -> Result<Tree, AllocError> {
+    let arcs = Vec::from_slice(alloc, tree.arcs.as_slice())?;
+    Ok(Tree {
+        start: tree.start,
+        arcs: Listed::of(arcs),
+    })
+}
