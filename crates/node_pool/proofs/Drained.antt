@@ -1,5 +1,5 @@
 -- A queue whose owner has every part, and that holds nothing any more.
-use Rattle.std.proofs.Common.{◌≡◌, ℕ, List, [], ◌∷◌, length, refl, arith}
+use Rattle.std.proofs.Common.{◌≡◌, ℕ, [], length, refl, arith}
 use Rattle.std.specs.List.{sum_by}
 use Rattle.branching.specs.declared.node.Node.{Node}
 use Rattle.node_pool.specs.declared.rule.Hand.{Hand}

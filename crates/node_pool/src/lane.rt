@@ -4,7 +4,7 @@ ghost use Rattle.node_pool.specs.Lane.{hand, first_hand, both, WasEmpty};
 ghost use Rattle.node_pool.specs.Ends.{IsLeft};
 
 use crate::kept::{Kept, Sound};
-use crate::rule::{Both, Cut, Fair, Hand, Puts, Takes};
+use crate::rule::{Both, Cut, Fair, Glance, Hand, Puts, Takes};
 use branching::Node;
 use crossbeam_deque::{Pass as Token, Steal, Stealer, Worker};
 use std::alloc::{AllocError, Global};
@@ -88,6 +88,13 @@ impl<S: Sound> Owner<S> {
             Some(kept) => Some(kept.into_node()),
             None => None,
         }
+    }
+
+    // Whether the queue held nothing at a moment of this call.
+    pub fn is_empty(&mut self) -> bool
+        ensures { self.new ≡ self.old }
+    {
+        self.worker.len_as::<Glance>() == 0
     }
 
     // An end for another worker.

@@ -13,7 +13,7 @@ use std::marker::Model;
 use std::sync::Wait;
 
 /// What one worker has of a pool: its own queue, its ends of the other workers' queues, and a list
-/// of its own for nodes that its queue refuses.
+/// of its own for nodes that it keeps from others, or that its queue refuses.
 #[derive(Drop)]
 pub struct Pass<S: Sound> {
     pub(crate) own: Owner<S>,
@@ -65,7 +65,25 @@ impl<S: Sound> Pass<S> {
         keep(&mut self.list, node)
     }
 
-    /// Takes a node: the first of the pass's own list, else of its own queue, else of another's.
+    /// Keeps a node last in the pass's own list, where no other worker sees it, or hands it back where
+    /// there is no memory for that.
+    pub fn hold(&mut self, node: Node) -> Result<(), Node>
+        requires { S.sound node }
+        ensures same { SamePass self.old self.new }
+        ensures held { MatchResult result (λ _. Moves self.old self.new (node ∷ []) [])
+            (λ back. (back ≡ node) × Moves self.old self.new [] []) }
+    {
+        keep(&mut self.list, node)
+    }
+
+    /// Whether its own queue held no node at a moment of this call, so that others can take none there.
+    pub fn is_bare(&mut self) -> bool
+        ensures { self.new ≡ self.old }
+    {
+        self.own.is_empty()
+    }
+
+    /// Takes a node: the last of the pass's own list, else the first of its own queue, else of another's.
     /// None only where its list is empty and each queue was empty at a moment of this call; for a
     /// pass alone in its pool with an empty list, None exactly where it took as many nodes from its
     /// queue as it put there.
@@ -79,7 +97,7 @@ impl<S: Sound> Pass<S> {
         ensures left { self.old.others ≡ [] → self.old.list ≡ [] → IfSome result
             (λ _. length self.old.own.hand.taken < length self.old.own.hand.put) }
     {
-        if let Some(kept) = self.list.pop_front() {
+        if let Some(kept) = self.list.pop_back() {
             return Some(kept.into_node());
         }
         if let Some(node) = self.own.take() {

@@ -1,10 +1,10 @@
 // The rule of one queue, and what its steps tell.
-ghost use Rattle.std.specs.Prelude.{◌≡◌, ◌-◌, ◌++◌, []};
+ghost use Rattle.std.specs.Prelude.{◌≡◌, ◌-◌, ◌++◌, [], ⊤};
 ghost use Rattle.node_pool.specs.Lane.{hand, first_hand, Balanced, WasEmpty, both, took};
 
 use crate::kept::{Kept, Sound};
 use branching::Node;
-use crossbeam_deque::protocol::{Join, Outcome, Protocol, Split};
+use crossbeam_deque::protocol::{Join, Lesson, Outcome, Protocol, Split};
 use std::collections::LinkedList;
 use std::marker::PhantomData;
 
@@ -41,6 +41,13 @@ impl<S: Sound> Outcome<Kept<S>, Hand> for Takes {
     ghost then = { took };
 
     ghost empty = { WasEmpty };
+}
+
+// A look at a queue from which nothing is learnt.
+pub struct Glance;
+
+impl<S: Sound> Lesson<Kept<S>, Hand> for Glance {
+    ghost fact = { λ v xs. ⊤ };
 }
 
 pub struct Cut;

@@ -103,7 +103,8 @@ impl<Q: Aim> Worker<Q> {
         Ok((first, second))
     }
 
-    // Gives a node to the pool.
+    // Gives a node to the pool: to where others can take it only if they find none there, so that the
+    // worker goes on with its newest nodes.
     pub(crate) fn give(&mut self, node: Node) -> Result<(), AllocError>
         requires { IsSound Q.instance Q.gone node }
         ensures same { (self.new.seat ≡ self.old.seat) × (self.new.workers ≡ self.old.workers)
@@ -111,7 +112,12 @@ impl<Q: Aim> Worker<Q> {
         ensures pass { SamePass self.old.pass self.new.pass }
         ensures gave { OnOk result (Moves self.old.pass self.new.pass (node ∷ []) []) }
     {
-        match self.pass.give(node) {
+        let given = if self.workers > 1 && self.pass.is_bare() {
+            self.pass.give(node)
+        } else {
+            self.pass.hold(node)
+        };
+        match given {
             Ok(()) => Ok(()),
             Err(_) => Err(AllocError),
         }

@@ -5,7 +5,7 @@ use Rattle.node_pool.proofs.Drained.{alone_found}
 use Rattle.node_pool.proofs.pass.Pass.take.Goals as goal
 
 pub returns-clause-took : goal.returns-clause-took
-returns-clause-took g c = rw (← c.self.view_is) (finishes c.steal.result c.self.inside.own c.take.new.self c.self.inside.others.items c.steal.new.ends.items c.self.inside.list.items c.pop_front.new.self.items c.take.ensures.same (search rules) (search rules) (search rules) (search rules) c.steal.ensures.none c.steal.ensures.some c.steal.ensures.puts)
+returns-clause-took g c = rw (← c.self.view_is) (finishes c.steal.result c.self.inside.own c.take.new.self c.self.inside.others.items c.steal.new.ends.items c.self.inside.list.items c.pop_back.new.self.items c.take.ensures.same (search rules) (search rules) (search rules) (search rules) c.steal.ensures.none c.steal.ensures.some c.steal.ensures.puts)
 
 -- without other ends the owner has every part
 every : (parts : ℕ) (others : List End) → others ≡ [] → parts + length others ≡ 65 → parts ≡ 65
