@@ -1,4 +1,4 @@
--- That the heavier of two packings extends as the first does.
+-- That the heavier of two packings extends what the first does.
 use Rattle.std.proofs.Common.{◌≡◌, ℕ, ◌-◌, ◌≤◌, ◌⊎◌, Option, None, Some, inl, inr, refl, sym, subst, arith}
 use Rattle.std.specs.Prelude.{IfSome}
 use Rattle.std.proofs.lemmas.List.Elements.{All-nil}
@@ -13,7 +13,7 @@ use Rattle.dual_ascent.specs.declared.ascent.Ascent.TheVariants.{Full, Reached}
 use Rattle.dual_ascent.specs.declared.extension.Extension.{Extension}
 use Rattle.dual_ascent.specs.Extension.{IsExtension, IsExtended, packing_of}
 use Rattle.worker_loop.specs.Node.{no_cuts}
-use Rattle.worker_loop.specs.Raising.{IsExtendable, IsExtendedTo, IsNoWorse}
+use Rattle.worker_loop.specs.Raising.{IsExtendable, IsExtendedTo, IsHeavier, IsNoWorse}
 
 -- without its cuts a packing weighs no more
 lighter_without : (I : Network) (B : Branch) (P : Packing) → weight I B no_cuts ≤ weight I B P
@@ -28,24 +28,31 @@ first_heavy : (I : Network) (B : Branch) (P : Packing) (root target : ℕ) (firs
 first_heavy I B P root target (Full new) h = h.0.no_lighter
 first_heavy I B P root target (Reached new) h = h.0.no_lighter
 
-second_extends : (I : Network) (B : Branch) (P E : Packing) (root least : ℕ) (first second : Ascent) → weight I B E ≤ weight I B P → weight I B P ≤ least
+-- what extends a packing that weighs no more than what is asked for extends another one such, where it is no worse than what extends that
+second_extends : (I : Network) (B : Branch) (P E : Packing) (root least : ℕ) (first second : Ascent) → weight I B E ≤ least → weight I B P ≤ least
     → IsExtension I B P root (least - weight I B P) first → IsExtension I B E root (least - weight I B E) second → IsNoWorse I B first second
     → IsExtension I B P root (least - weight I B P) second
-second_extends I B P E root least first (Full new) lighter light h s worse =
+second_extends I B P E root least first (Full new) small light h s worse =
     let heavy = first_heavy I B P root (least - weight I B P) first h in
-    (extends_other I B E P new root (omega (arith, heavy, worse)) s.0, omega (arith, s.1, lighter, light), s.2)
-second_extends I B P E root least first (Reached new) lighter light h s worse =
-    (extends_other I B E P new root (omega (arith, s.1, lighter, light)) s.0, omega (arith, s.1, lighter, light))
+    (extends_other I B E P new root (omega (arith, heavy, worse)) s.0, omega (arith, s.1, small, light), s.2)
+second_extends I B P E root least first (Reached new) small light h s worse =
+    (extends_other I B E P new root (omega (arith, s.1, small, light)) s.0, omega (arith, s.1, small, light))
+
+-- the second of two extensions, where it is no worse
+pub other_extends : (I : Network) (B : Branch) (P E : Packing) (root least : ℕ) (first second : Extension) → IsExtendable I B P root least → weight I B E ≤ least
+    → IsExtendedTo I B P root least first → IsExtendedTo I B E root least second → IsNoWorse I B first.ascent second.ascent → IsExtendedTo I B P root least second
+other_extends I B P E root least first second able small h s worse = record {
+  extended = second_extends I B P E root least first.ascent second.ascent small able.light h.extended s.extended worse;
+  count = s.count;
+}
 
 -- the heavier of two extensions, the second of which began without cuts
 pub either_extends : (I : Network) (B : Branch) (P : Packing) (root least : ℕ) (first second chosen : Extension) → IsExtendable I B P root least
-    → IsExtendedTo I B P root least first → IsExtendedTo I B no_cuts root least second → (chosen ≡ first) ⊎ ((chosen ≡ second) × IsNoWorse I B first.ascent second.ascent)
+    → IsExtendedTo I B P root least first → IsExtendedTo I B no_cuts root least second → IsHeavier I B first second chosen
     → IsExtendedTo I B P root least chosen
-either_extends I B P root least first second chosen able h s (inl is) = subst (IsExtendedTo I B P root least) (sym is) h
-either_extends I B P root least first second chosen able h s (inr (is, worse)) = subst (IsExtendedTo I B P root least) (sym is) (record {
-  extended = second_extends I B P no_cuts root least first.ascent second.ascent (lighter_without I B P) able.light h.extended s.extended worse;
-  count = s.count;
-})
+either_extends I B P root least first second chosen able h s (inl (is, lighter)) = subst (IsExtendedTo I B P root least) (sym is) h
+either_extends I B P root least first second chosen able h s (inr (is, worse)) = subst (IsExtendedTo I B P root least) (sym is)
+    (other_extends I B P no_cuts root least first second able (omega (arith, lighter_without I B P, able.light)) h s worse)
 
 -- no cuts fit every branch
 pub no_cuts_fit : (I : Network) (B : Branch) → Fits I B no_cuts

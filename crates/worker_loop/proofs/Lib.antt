@@ -4,6 +4,7 @@ pub mod Narrowing
 pub mod Parts
 pub mod Extended
 pub mod Heavier
+pub mod Refined
 pub mod Found
 pub mod Closed
 pub mod Beginning

@@ -1,6 +1,7 @@
 -- What is raised, and which of two ascents goes on. Helpers' clauses cite this, and no public one.
-use Rattle.std.specs.Prelude.{◌≡◌, ℕ, ◌-◌, ◌≤◌, ⊤}
+use Rattle.std.specs.Prelude.{◌≡◌, ℕ, ◌-◌, ◌≤◌, ◌⊎◌, All, ⊤}
 use Rattle.st_model.specs.declared.branch.Branch.{Branch}
+use Rattle.st_model.specs.Branch.{IsVertexSet}
 use Rattle.st_model.specs.Network.{Network}
 use Rattle.cut_packing.specs.declared.packing.Packing.{Packing}
 use Rattle.cut_packing.specs.Packing.{weight}
@@ -14,6 +15,11 @@ abbrev pub IsNoWorse : Network → Branch → Ascent → Ascent → Type 0
 IsNoWorse I B first (Full P) = weight I B (packing_of first) ≤ weight I B P
 IsNoWorse I B first (Reached P) = ⊤
 
+-- the first, where it is no lighter than the second, or the second, where that is no worse
+abbrev pub IsHeavier : Network → Branch → Extension → Extension → Extension → Type 0
+IsHeavier I B first second chosen = ((chosen ≡ first) × (weight I B (packing_of second.ascent) ≤ weight I B (packing_of first.ascent)))
+    ⊎ ((chosen ≡ second) × IsNoWorse I B first.ascent second.ascent)
+
 -- the packing weighs no more than this, and can be extended for the root until it does
 pub record IsExtendable (I : Network) (B : Branch) (P : Packing) (root least : ℕ) : Type 0 where
   pub start : IsStart I B P
@@ -24,3 +30,8 @@ pub record IsExtendable (I : Network) (B : Branch) (P : Packing) (root least : �
 pub record IsExtendedTo (I : Network) (B : Branch) (P : Packing) (root least : ℕ) (e : Extension) : Type 0 where
   pub extended : IsExtension I B P root (least - weight I B P) e.ascent
   pub count : e.arcs.n ≡ I.n
+
+-- each packing that the first extends for the root until it weighs this, or is full, the other extends so too
+pub record IsRefined (I : Network) (B : Branch) (root least : ℕ) (first e : Extension) : Type 0 where
+  pub extends : (P : Packing) → IsExtendable I B P root least → IsExtendedTo I B P root least first → IsExtendedTo I B P root least e
+  pub sets : All (λ c. IsVertexSet I.n c.set) (packing_of first.ascent).cuts → All (λ c. IsVertexSet I.n c.set) (packing_of e.ascent).cuts

@@ -21,10 +21,31 @@ impl Draws {
         }
     }
 
-    // Whether the next number is one of every so many.
-    fn is_one_of(&mut self, many: u64) -> bool {
+    /// The next number below a bound; 0 where nothing is below it.
+    pub fn below(&mut self, bound: u64) -> u64 {
         self.state = self.state.wrapping_mul(MULTIPLIER) % MODULUS;
-        self.state % many.max(1) == 0
+        self.state % bound.max(1)
+    }
+
+    /// One of the vertices 1 to the last one.
+    pub fn vertex(&mut self, last: u32) -> u32 {
+        let before = self.below(u64::from(last));
+        u32::try_from(before).unwrap_or(0).saturating_add(1)
+    }
+
+    /// The vertices 1 to the last one, in an order that is drawn.
+    pub fn order(&mut self, alloc: Global, last: u32) -> Result<Vec<u32>, AllocError> {
+        let mut order = Vec::with_capacity(alloc, last as usize)?;
+        for before in 0..last {
+            let vertex = before + 1;
+            let place = self.below(u64::from(vertex)) as usize;
+            let moved = order.get(place).copied().unwrap_or(vertex);
+            if let Some(old) = order.get_mut(place) {
+                *old = vertex;
+            }
+            order.push(moved)?;
+        }
+        Ok(order)
     }
 
     /// Of the vertices 1 to the last one all but one of every so many, by chance.
@@ -36,7 +57,7 @@ impl Draws {
     ) -> Result<VertexSet, AllocError> {
         let mut most = VertexSet::new(alloc, last as usize + 1)?;
         for before in 0..last {
-            if !self.is_one_of(many) {
+            if self.below(many) > 0 {
                 most.insert(before + 1)?;
             }
         }

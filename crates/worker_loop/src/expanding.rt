@@ -13,9 +13,10 @@ ghost use Rattle.worker_loop.specs.Step.{IsBetter, IsStep, least_after};
 use crate::bettering::{gap, least_after, priced};
 use crate::deciding::root_of;
 use crate::distances::near_root;
+use crate::draws::Draws;
 use crate::guessing::{guess, together};
 use crate::picking::pick;
-use crate::raising::raise;
+use crate::refining::{Guide, raise_refined};
 use crate::step::{End, Finding, Priced, Step};
 use crate::trees::{Trees, trees_at};
 use branching::{Node, choose};
@@ -25,6 +26,11 @@ use graph_store::Whole;
 use level_packing::{Leaf, close_all};
 use st_model::{Instance, Sides, Tree};
 use std::alloc::{AllocError, Global};
+
+// For how many turns a node's packing is refined where it began with cuts, and where it didn't.
+const TURNS: u64 = 10;
+
+const BARE_TURNS: u64 = 60;
 
 /// Works on a node. It closes where its packing weighs as much as `least`, the least cost known of
 /// a tree, or where nothing is left to decide. Else its packing is extended until it weighs so
@@ -118,7 +124,15 @@ fn work_on(
             given,
         ));
     };
-    let Extension { ascent, arcs } = raise(alloc, whole, &branch, packing, root, least)?;
+    let mut guide = Guide {
+        known,
+        draws: Draws::of(id),
+        is_bare,
+    };
+    let turns = if is_bare { BARE_TURNS } else { TURNS };
+    let Extension { ascent, arcs } = raise_refined(
+        alloc, whole, &branch, packing, root, least, turns, &mut guide,
+    )?;
     match ascent {
         Ascent::Reached(packing) => Ok(closed(packing)),
         Ascent::Full(packing) => {
@@ -132,7 +146,9 @@ fn work_on(
                 &arcs,
                 gap(&whole.instance, &branch, &packing, least_now),
             )?;
-            let more = guess(alloc, whole, &branch, &packing, &near, root, least_now)?;
+            let more = guess(
+                alloc, whole, &branch, &packing, &near, root, least_now, &mut guide,
+            )?;
             let vertex = pick(&arcs, &whole.instance, &branch, &near, &joints, given);
             let branch = branch.into_branch();
             let node = Node {

@@ -5,7 +5,7 @@ ghost use Rattle.worker_loop.specs.Finding.{IsFinding, together};
 
 use crate::bettering::{better_tree, gap, later, narrowed};
 use crate::node::no_cuts;
-use crate::raising::raise;
+use crate::refining::{Guide, raise_refined};
 use crate::repairing::repaired;
 use crate::step::{Finding, Priced};
 use cut_packing::{Packing, weight};
@@ -16,6 +16,9 @@ use std::alloc::{AllocError, Global};
 
 // Of how many free vertices one at least has to be far, for a guess to be worth its time.
 const FREE_FOR_ONE_FAR: u64 = 50;
+
+// For how many turns the packing of the guess is refined.
+const TURNS: u64 = 10;
 
 /// What is found by the guess that whoever isn't near the root is outside: cuts raised there for the
 /// root lead to a tree that is cheaper, or to a packing that closes the branch itself. `packing` is one of
@@ -28,6 +31,7 @@ pub fn guess(
     near: &VertexSet,
     root: u32,
     least: u64,
+    guide: &mut Guide<'_>,
 ) -> Result<Finding, AllocError>
     requires instance { IsInstance whole.now.instance }
     requires start { IsStart whole.now.instance branch.now packing.now }
@@ -43,10 +47,12 @@ pub fn guess(
     if weight(&whole.instance, part.branch(), &bare) >= u128::from(least) {
         return Ok(nothing());
     }
-    let Extension { ascent, arcs } = raise(alloc, whole, &part, bare, root, least)?;
+    let Extension { ascent, arcs } = raise_refined(
+        alloc, whole, &part, bare, root, least, TURNS, guide,
+    )?;
     match ascent {
         Ascent::Reached(found) => {
-            let closing = repaired(alloc, whole, branch, found, root, least)?;
+            let closing = repaired(alloc, whole, branch, found, root, least, guide)?;
             Ok(Finding {
                 better: None,
                 closing,

@@ -11,10 +11,13 @@
 
 mod aim;
 mod bettering;
+mod by_vertex;
 mod deciding;
 mod distances;
 mod draws;
 mod expanding;
+mod faults;
+mod freeing;
 mod gate;
 mod guessing;
 mod hint;
@@ -22,8 +25,10 @@ mod joints;
 mod node;
 mod picking;
 mod raising;
+mod refining;
 mod repairing;
 mod room;
+mod rooted;
 mod run;
 mod running;
 mod sampling;

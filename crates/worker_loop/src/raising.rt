@@ -1,10 +1,12 @@
-ghost use Rattle.std.specs.Prelude.{◌≡◌, ◌⊎◌, IfOk};
-ghost use Rattle.std.specs.Bool.{OnTrue};
+ghost use Rattle.std.specs.Prelude.{◌≤◌, IfOk};
+ghost use Rattle.std.specs.Bool.{OnTrue, OnFalse};
 ghost use Rattle.st_model.specs.Branch.{IsBranch};
-ghost use Rattle.worker_loop.specs.Raising.{IsExtendable, IsExtendedTo, IsNoWorse};
+ghost use Rattle.cut_packing.specs.Packing.{Fits, weight};
+ghost use Rattle.dual_ascent.specs.Extension.{packing_of};
+ghost use Rattle.worker_loop.specs.Raising.{IsExtendable, IsExtendedTo, IsHeavier, IsNoWorse};
 
 use crate::node::no_cuts;
-use cut_packing::{Packing, weight};
+use cut_packing::{Packing, fits, weight};
 use dual_ascent::{Ascent, Extension, extend};
 use graph_store::Whole;
 use st_model::{Instance, Sides};
@@ -25,21 +27,23 @@ pub fn raise(
     ensures { IfOk result (IsExtendedTo whole.now.instance branch.now packing root least) }
 {
     let has_cuts = !packing.cuts.as_slice().is_empty();
-    let first = raise_from(alloc, whole, branch, packing, root, least)?;
+    let first = raise_from(alloc, whole, branch, packing, root, &[], least)?;
     if has_cuts && !first.ascent.is_reached() {
-        let second = raise_from(alloc, whole, branch, no_cuts(alloc), root, least)?;
+        let second = raise_from(alloc, whole, branch, no_cuts(alloc), root, &[], least)?;
         return Ok(heavier(&whole.instance, branch, first, second));
     }
     Ok(first)
 }
 
-/// Extends a packing for a root, so that it weighs `least` or is full.
+/// Extends a packing for a root, so that it weighs `least` or is full. Vertices that `order` names are
+/// raised first.
 pub fn raise_from(
     alloc: Global,
     whole: &Whole,
     branch: &Sides,
     packing: Packing,
     root: u32,
+    order: &[u32],
     least: u64,
 ) -> Result<Extension, AllocError>
     requires { IsExtendable whole.now.instance branch.now packing root least }
@@ -52,17 +56,39 @@ pub fn raise_from(
         branch,
         packing,
         root,
-        &[],
+        order,
         least - start,
     )?;
     Ok(raised)
 }
 
-// Of two extensions the second, where it weighs enough or more than the first.
-fn heavier(instance: &Instance, branch: &Sides, first: Extension, second: Extension) -> Extension
+/// Whether a packing fits the branch, and weighs no more than the least cost known.
+pub fn is_start(
+    alloc: Global,
+    instance: &Instance,
+    branch: &Sides,
+    packing: &Packing,
+    least: u64,
+) -> Result<bool, AllocError>
     requires { IsBranch instance.now branch.now }
-    ensures { (result ≡ first) ⊎ ((result ≡ second)
-        × IsNoWorse instance.now branch.now first.ascent second.ascent) }
+    ensures { IfOk result (λ yes. OnTrue yes (Fits instance.now branch.now packing.now
+        × (weight instance.now branch.now packing.now ≤ least))) }
+{
+    if !fits(alloc, instance, branch, packing)? {
+        return Ok(false);
+    }
+    Ok(weight(instance, branch.branch(), packing) <= u128::from(least))
+}
+
+/// Of two extensions the second, where it weighs enough or more than the first.
+pub fn heavier(
+    instance: &Instance,
+    branch: &Sides,
+    first: Extension,
+    second: Extension,
+) -> Extension
+    requires { IsBranch instance.now branch.now }
+    ensures { IsHeavier instance.now branch.now first second result }
 {
     if is_heavier(instance, branch, &first.ascent, &second.ascent) {
         second
@@ -74,7 +100,9 @@ fn heavier(instance: &Instance, branch: &Sides, first: Extension, second: Extens
 // Whether the second weighs enough, or more than the first.
 fn is_heavier(instance: &Instance, branch: &Sides, first: &Ascent, second: &Ascent) -> bool
     requires { IsBranch instance.now branch.now }
-    ensures { OnTrue result (IsNoWorse instance.now branch.now first.now second.now) }
+    ensures heavier { OnTrue result (IsNoWorse instance.now branch.now first.now second.now) }
+    ensures lighter { OnFalse result (weight instance.now branch.now (packing_of second.now)
+        ≤ weight instance.now branch.now (packing_of first.now)) }
 {
     match second {
         Ascent::Reached(_) => true,

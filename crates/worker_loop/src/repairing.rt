@@ -1,18 +1,22 @@
-ghost use Rattle.std.specs.Prelude.{◌≡◌, ◌≤◌, All, IfOk, IfSome, Some};
-ghost use Rattle.std.specs.Bool.{OnTrue};
+ghost use Rattle.std.specs.Prelude.{◌≡◌, All, IfOk, IfSome, Some};
 ghost use Rattle.st_model.specs.Branch.{IsBranch, IsVertexSet, LeavesRequired};
 ghost use Rattle.st_model.specs.Network.{IsInstance};
-ghost use Rattle.cut_packing.specs.Packing.{Fits, weight};
 ghost use Rattle.dual_ascent.specs.declared.ascent.Ascent.TheVariants.{Reached};
 ghost use Rattle.worker_loop.specs.Finding.{IsClosedBy};
 
-use crate::raising::raise_from;
+use crate::raising::{is_start, raise_from};
+use crate::refining::{Guide, refine};
 use crate::room::Room;
-use cut_packing::{Cut, Packing, fits, weight};
+use cut_packing::{Cut, Packing};
 use dual_ascent::Ascent;
 use graph_store::Whole;
-use st_model::{Instance, Listed, Sides};
+use st_model::{Listed, Sides};
 use std::alloc::{AllocError, Global};
+
+// For how many turns the packing is refined at a node that began with cuts, and at one that didn't.
+const TURNS: u64 = 20;
+
+const BARE_TURNS: u64 = 120;
 
 /// A packing that closes the branch at the least cost known, made of one of a part of the branch: as
 /// much of each cut as the branch bears, extended for the root. None where that isn't enough.
@@ -23,6 +27,7 @@ pub fn repaired(
     packing: Packing,
     root: u32,
     least: u64,
+    guide: &mut Guide<'_>,
 ) -> Result<Option<Packing>, AllocError>
     requires instance { IsInstance whole.now.instance }
     requires branch { IsBranch whole.now.instance branch.now }
@@ -34,26 +39,10 @@ pub fn repaired(
     if !is_start(alloc, &whole.instance, branch, &borne, least)? {
         return Ok(None);
     }
-    let extension = raise_from(alloc, whole, branch, borne, root, least)?;
-    Ok(reached(extension.ascent))
-}
-
-// Whether a packing fits the branch, and weighs no more than the least cost known.
-fn is_start(
-    alloc: Global,
-    instance: &Instance,
-    branch: &Sides,
-    packing: &Packing,
-    least: u64,
-) -> Result<bool, AllocError>
-    requires { IsBranch instance.now branch.now }
-    ensures { IfOk result (λ yes. OnTrue yes (Fits instance.now branch.now packing.now
-        × (weight instance.now branch.now packing.now ≤ least))) }
-{
-    if !fits(alloc, instance, branch, packing)? {
-        return Ok(false);
-    }
-    Ok(weight(instance, branch.branch(), packing) <= u128::from(least))
+    let raised = raise_from(alloc, whole, branch, borne, root, &[], least)?;
+    let turns = if guide.is_bare { BARE_TURNS } else { TURNS };
+    let refined = refine(alloc, whole, branch, raised, root, least, turns, guide)?;
+    Ok(reached(refined.ascent))
 }
 
 // The packing of an ascent that reached its target.

@@ -1,3 +1,4 @@
+use crate::by_vertex::{at, put};
 use graph_store::Store;
 use st_model::{Instance, Sides};
 use std::alloc::{AllocError, Global};
@@ -124,17 +125,5 @@ impl<'a> Room<'a> {
     // Whether an arc from a vertex enters the marked set.
     fn enters(&self, tail: u32) -> bool {
         !at(&self.marks, tail, false) && !self.branch.is_outside(tail)
-    }
-}
-
-// The value of a vertex, or another one where it has none.
-fn at<T: Copy>(values: &[T], vertex: u32, other: T) -> T {
-    values.get(vertex as usize).copied().unwrap_or(other)
-}
-
-// Changes the value of a vertex, if it has one.
-fn put<T: Copy>(values: &mut [T], vertex: u32, value: T) {
-    if let Some(old) = values.get_mut(vertex as usize) {
-        *old = value;
     }
 }

@@ -1,8 +1,8 @@
 use Rattle.worker_loop.proofs.Found.{part_extendable}
 use Rattle.worker_loop.proofs.guessing.guess.Goals as goal
 
-pub raise-requires : goal.raise-requires
-raise-requires c =
+pub raise_refined-requires : goal.raise_refined-requires
+raise_refined-requires c =
     let e = c.in_ok-part.ensures in
     let r = c.requires in
     let light = rw (c.weight.ensures, c.branch-part-3.ensures, c.in_ok-part-2.ensures, c.no_cuts-bare.ensures, c.from.ensures) at c.if-weight-from.false in

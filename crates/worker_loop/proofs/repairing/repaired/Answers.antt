@@ -1,8 +1,26 @@
-use Rattle.worker_loop.proofs.Found.{reached_closes}
+use Rattle.std.proofs.Common.{◌-◌}
+use Rattle.cut_packing.specs.Packing.{weight}
+use Rattle.worker_loop.specs.Raising.{IsExtendable}
+use Rattle.worker_loop.proofs.Found.{fitting_root, reached_closes}
+use Rattle.worker_loop.proofs.Refined.{extended_sets}
 use Rattle.worker_loop.proofs.repairing.repaired.Goals as goal
+
+pub refine-requires-clause-sets : goal.refine-requires-clause-sets
+refine-requires-clause-sets c =
+    let I = c.args.whole.now.instance in
+    let least = c.args.least - weight I c.args.branch.now c.in_ok-borne.borne in
+    extended_sets I c.args.branch.now c.in_ok-borne.borne c.args.root least c.in_ok-raised.raised.ascent c.in_ok-raised.ensures.extended
 
 pub returns : goal.returns
 returns c =
+    let I = c.args.whole.now.instance in
+    let B = c.args.branch.now in
+    let P = c.in_ok-borne.borne in
     let started = rw c.if-not-branch.false at c.in_ok-is_start.ensures in
-    reached_closes c.args.whole.now.instance c.args.branch.now c.in_ok-borne.borne c.args.root c.args.least c.in_ok-extension.extension.ascent c.reached.result
-    c.requires.instance started.1 c.ranges.least.fits c.in_ok-extension.ensures.extended c.reached.ensures
+    let able : IsExtendable I B P c.args.root c.args.least = record {
+      start = record { branch = c.requires.branch; required = c.requires.required; fits = started.0; sets = c.in_ok-borne.ensures.sets };
+      rooted = fitting_root I B P c.args.root started.0 c.in_ok-borne.ensures.root;
+      light = started.1;
+    } in
+    let refined = c.in_ok-refined.ensures.extends P able c.in_ok-raised.ensures in
+    reached_closes I B P c.args.root c.args.least c.in_ok-refined.refined.ascent c.reached.result c.requires.instance started.1 c.ranges.least.fits refined.extended c.reached.ensures

@@ -1,0 +1,128 @@
+ghost use Rattle.std.specs.Prelude.{◌≡◌, ℕ, All, IfOk, Some};
+ghost use Rattle.st_model.specs.Branch.{IsBranch, IsVertexSet, LeavesRequired};
+ghost use Rattle.dual_ascent.specs.Extension.{packing_of};
+ghost use Rattle.worker_loop.specs.Raising.{IsExtendable, IsExtendedTo, IsRefined};
+
+use crate::draws::Draws;
+use crate::freeing::Freeing;
+use crate::raising::{heavier, is_start, raise, raise_from};
+use crate::rooted::Rooted;
+use cut_packing::Packing;
+use dual_ascent::Extension;
+use graph_store::Whole;
+use st_model::{Listed, Sides, Tree};
+use std::alloc::{AllocError, Global};
+
+/// What refining goes by: the best tree that is known, draws, and whether the node has no cuts yet.
+/// There most is to gain.
+#[derive(Drop)]
+pub struct Guide<'a> {
+    pub known: &'a Tree,
+    pub draws: Draws,
+    pub is_bare: bool,
+}
+
+/// Raises a packing, and refines what comes of it for some turns.
+pub fn raise_refined(
+    alloc: Global,
+    whole: &Whole,
+    branch: &Sides,
+    packing: Packing,
+    root: u32,
+    least: u64,
+    turns: u64,
+    guide: &mut Guide<'_>,
+) -> Result<Extension, AllocError>
+    requires { IsExtendable whole.now.instance branch.now packing root least }
+    ensures { IfOk result (IsExtendedTo whole.now.instance branch.now packing root least) }
+{
+    let raised = raise(alloc, whole, branch, packing, root, least)?;
+    let refined = refine(alloc, whole, branch, raised, root, least, turns, guide)?;
+    Ok(refined)
+}
+
+/// Refines the packing of an extension, so that it weighs `least` or is full, and is no lighter. In each
+/// turn cuts round a fault are freed, and cuts are raised again in an order that is drawn.
+pub fn refine(
+    alloc: Global,
+    whole: &Whole,
+    branch: &Sides,
+    extension: Extension,
+    root: u32,
+    least: u64,
+    turns: u64,
+    guide: &mut Guide<'_>,
+) -> Result<Extension, AllocError>
+    requires branch { IsBranch whole.now.instance branch.now }
+    requires required { LeavesRequired whole.now.instance branch.now }
+    requires sets { All (λ c. IsVertexSet whole.now.instance.n c.set) (packing_of extension.ascent).cuts }
+    ensures { IfOk result (IsRefined whole.now.instance branch.now root least extension) }
+{
+    let tree = Rooted::of(alloc, &whole.instance, branch, guide.known, root)?;
+    let mut refined = extension;
+    for _ in 0..turns {
+        if refined.ascent.is_reached() {
+            break;
+        }
+        let freeing = Freeing::drawn(alloc, whole, branch, &refined, &tree, &mut guide.draws)?;
+        let kept = kept(
+            alloc,
+            refined.ascent.packing(),
+            root,
+            &freeing,
+            &mut guide.draws,
+        )?;
+        let order = guide.draws.order(alloc, whole.instance.vertices())?;
+        refined = raised_again(alloc, whole, branch, refined, kept, root, &order, least)?;
+    }
+    Ok(refined)
+}
+
+// The cuts of a packing that aren't freed, for a root.
+fn kept(
+    alloc: Global,
+    packing: &Packing,
+    root: u32,
+    freeing: &Freeing,
+    draws: &mut Draws,
+) -> Result<Packing, AllocError>
+    ensures root { IfOk result (λ P. P.root ≡ Some root) }
+    ensures sets { IfOk result (λ P. (n : ℕ) → All (λ c. IsVertexSet n c.set) packing.now.cuts
+        → All (λ c. IsVertexSet n c.set) P.cuts) }
+{
+    let mut cuts = Vec::new(alloc);
+    for (place, cut) in packing.cuts.as_slice().iter().enumerate() {
+        if freeing.frees(place, cut, draws) {
+            continue;
+        }
+        cuts.push(cut.shared()?)?;
+    }
+    Ok(Packing {
+        root: Some(root),
+        cuts: Listed::of(cuts),
+    })
+}
+
+// What is raised from a packing for the root, unless it is lighter than an extension, and else this one.
+fn raised_again(
+    alloc: Global,
+    whole: &Whole,
+    branch: &Sides,
+    extension: Extension,
+    packing: Packing,
+    root: u32,
+    order: &[u32],
+    least: u64,
+) -> Result<Extension, AllocError>
+    requires branch { IsBranch whole.now.instance branch.now }
+    requires required { LeavesRequired whole.now.instance branch.now }
+    requires root { packing.root ≡ Some root }
+    requires sets { All (λ c. IsVertexSet whole.now.instance.n c.set) packing.cuts }
+    ensures { IfOk result (IsRefined whole.now.instance branch.now root least extension) }
+{
+    if !is_start(alloc, &whole.instance, branch, &packing, least)? {
+        return Ok(extension);
+    }
+    let raised = raise_from(alloc, whole, branch, packing, root, order, least)?;
+    Ok(heavier(&whole.instance, branch, raised, extension))
+}
