@@ -7,11 +7,14 @@ use crate::draws::Draws;
 use crate::freeing::Freeing;
 use crate::raising::{heavier, is_start, raise, raise_from};
 use crate::rooted::Rooted;
-use cut_packing::Packing;
+use cut_packing::{Packing, weight};
 use dual_ascent::Extension;
 use graph_store::Whole;
-use st_model::{Listed, Sides, Tree};
+use st_model::{Instance, Listed, Sides, Tree};
 use std::alloc::{AllocError, Global};
+
+// After how many turns in a row without a gain refining ends at a node that began with cuts.
+const PATIENCE: u64 = 4;
 
 /// What refining goes by: the best tree that is known, draws, and whether the node has no cuts yet.
 /// There most is to gain.
@@ -20,6 +23,13 @@ pub struct Guide<'a> {
     pub known: &'a Tree,
     pub draws: Draws,
     pub is_bare: bool,
+}
+
+impl Guide<'_> {
+    // After how many turns in a row without a gain refining ends.
+    fn patience(&self) -> u64 {
+        if self.is_bare { u64::MAX } else { PATIENCE }
+    }
 }
 
 /// Raises a packing, and refines what comes of it for some turns.
@@ -59,11 +69,14 @@ pub fn refine(
     ensures { IfOk result (IsRefined whole.now.instance branch.now root least extension) }
 {
     let tree = Rooted::of(alloc, &whole.instance, branch, guide.known, root)?;
+    let patience = guide.patience();
     let mut refined = extension;
+    let mut idle: u64 = 0;
     for _ in 0..turns {
-        if refined.ascent.is_reached() {
+        if refined.ascent.is_reached() || idle >= patience {
             break;
         }
+        let before = weight_of(&whole.instance, branch, &refined);
         let freeing = Freeing::drawn(alloc, whole, branch, &refined, &tree, &mut guide.draws)?;
         let kept = kept(
             alloc,
@@ -74,8 +87,17 @@ pub fn refine(
         )?;
         let order = guide.draws.order(alloc, whole.instance.vertices())?;
         refined = raised_again(alloc, whole, branch, refined, kept, root, &order, least)?;
+        let has_gained = weight_of(&whole.instance, branch, &refined) > before;
+        idle = if has_gained { 0 } else { idle.saturating_add(1) };
     }
     Ok(refined)
+}
+
+// What the packing of an extension weighs.
+fn weight_of(instance: &Instance, branch: &Sides, extension: &Extension) -> u128
+    requires { IsBranch instance.now branch.now }
+{
+    weight(instance, branch.branch(), extension.ascent.packing())
 }
 
 // The cuts of a packing that aren't freed, for a root.
