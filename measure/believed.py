@@ -1,0 +1,100 @@
+"""Which definitions a clause rests on, by their files.
+
+    python3 measure/believed.py [CRATE/FILE:NAME ..]
+
+follows the words of each definition from those that are named, as cert_checker/Verdict:Concludes, and tells of
+each file of specs/ how many lines it has without imports and blank lines, and how many of these are the
+definitions that are reached, with the comments above them. Without words it begins at those of the clause
+`concludes` of cert_checker's check.
+"""
+import os
+import re
+import sys
+
+CRATES = os.path.join(os.path.dirname(os.path.abspath(__file__)), "..", "crates")
+START = ["cert_checker/Verdict:Concludes", "stp_reader/Reads:Reads"]
+KINDS = {"abbrev", "unfoldable", "pub", "record", "data"}
+
+
+def file_of(crate, name):
+    return os.path.join(CRATES, crate, "specs", name + ".antt")
+
+
+def parsed(path):
+    """The imports of a file, its definitions by name, and the definition that each constructor is of."""
+    imports, definitions, owner, comments, name = {}, {}, {}, [], None
+    data = set()
+    for line in open(path, encoding="utf-8").read().split("\n"):
+        found = re.match(r"use Rattle\.(\w+)\.specs\.([\w.]+?)\.\{(.*)\}$", line)
+        if found:
+            for item in found.group(3).split(","):
+                word = item.strip().split(" as ")
+                imports[word[-1]] = (found.group(1), found.group(2), word[0])
+        elif line.startswith("use "):
+            name = None
+        elif line.startswith("--"):
+            comments.append(line)
+            name = None
+        elif line and not line[0].isspace():
+            words = line.split()
+            after = [word for word in words if word not in KINDS]
+            if words[0] in KINDS:
+                name = after[0]
+                definitions[name] = comments + [line]
+                comments = []
+                if "data" in words:
+                    data.add(name)
+            elif words[0] in definitions:
+                name = words[0]
+                definitions[name].append(line)
+        elif line.strip() and name:
+            definitions[name].append(line)
+            part = re.match(r"\s+(?:pub )?(\w+) :", line)
+            if part and name in data:
+                owner[part.group(1)] = name
+    owner.update({each: each for each in definitions})
+    return imports, definitions, owner
+
+
+def reached(starts):
+    seen, types, files = set(), set(), {}
+    waiting = [tuple(re.split("[/:]", start)) for start in starts]
+    while waiting:
+        crate, module, name = waiting.pop()
+        if module.startswith("declared."):
+            types.add((crate, module.split(".")[2]))
+            continue
+        path = file_of(crate, module)
+        if crate == "std" or not os.path.exists(path):
+            continue
+        if path not in files:
+            files[path] = (parsed(path), set())
+        (imports, definitions, owner), used = files[path]
+        name = owner.get(name, name)
+        if name not in definitions or (path, name) in seen:
+            continue
+        seen.add((path, name))
+        used.add(name)
+        text = "\n".join(line for line in definitions[name] if not line.startswith("--"))
+        words = set(re.findall(r"[\w']+", text))
+        waiting += [imports[word] for word in words if word in imports]
+        waiting += [(crate, module, word) for word in words if word in owner]
+    return files, types
+
+
+def main():
+    files, types = reached(sys.argv[1:] or START)
+    all_lines = all_used = 0
+    for path in sorted(files):
+        (_, definitions, _), used = files[path]
+        text = open(path, encoding="utf-8").read().split("\n")
+        lines = sum(1 for line in text if line.strip() and not line.startswith("use "))
+        needed = sum(len(definitions[name]) for name in used)
+        all_lines += lines
+        all_used += needed
+        print(os.path.relpath(path, CRATES), lines, needed)
+    print(len(files), "files,", all_lines, "lines,", all_used, "of them reached")
+    print("types declared in src/:", ", ".join(sorted(crate + "::" + name for crate, name in types)))
+
+
+main()
