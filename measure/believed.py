@@ -21,9 +21,9 @@ def file_of(crate, name):
 
 
 def parsed(path):
-    """The imports of a file, its definitions by name, and the definition that each constructor is of."""
+    """What a file imports, words and modules, its definitions by name, and which of these each constructor is of."""
     imports, definitions, owner, comments, name = {}, {}, {}, [], None
-    data = set()
+    data, modules = set(), {}
     for line in open(path, encoding="utf-8").read().split("\n"):
         found = re.match(r"use Rattle\.(\w+)\.specs\.([\w.]+?)\.\{(.*)\}$", line)
         if found:
@@ -32,6 +32,9 @@ def parsed(path):
                 imports[word[-1]] = (found.group(1), found.group(2), word[0])
         elif line.startswith("use "):
             name = None
+            found = re.match(r"use Rattle\.(\w+)\.specs\.([\w.]+) as (\w+)$", line)
+            if found:
+                modules[found.group(3)] = (found.group(1), found.group(2))
         elif line.startswith("--"):
             comments.append(line)
             name = None
@@ -53,7 +56,7 @@ def parsed(path):
             if part and name in data:
                 owner[part.group(1)] = name
     owner.update({each: each for each in definitions})
-    return imports, definitions, owner
+    return imports, modules, definitions, owner
 
 
 def reached(starts):
@@ -69,7 +72,7 @@ def reached(starts):
             continue
         if path not in files:
             files[path] = (parsed(path), set())
-        (imports, definitions, owner), used = files[path]
+        (imports, modules, definitions, owner), used = files[path]
         name = owner.get(name, name)
         if name not in definitions or (path, name) in seen:
             continue
@@ -78,6 +81,9 @@ def reached(starts):
         text = "\n".join(line for line in definitions[name] if not line.startswith("--"))
         words = set(re.findall(r"[\w']+", text))
         waiting += [imports[word] for word in words if word in imports]
+        for part, word in re.findall(r"(\w+)\.(\w+)", text):
+            if part in modules:
+                waiting.append(modules[part] + (word,))
         waiting += [(crate, module, word) for word in words if word in owner]
     return files, types
 
@@ -86,7 +92,7 @@ def main():
     files, types = reached(sys.argv[1:] or START)
     all_lines = all_used = 0
     for path in sorted(files):
-        (_, definitions, _), used = files[path]
+        (_, _, definitions, _), used = files[path]
         text = open(path, encoding="utf-8").read().split("\n")
         lines = sum(1 for line in text if line.strip() and not line.startswith("use "))
         needed = sum(len(definitions[name]) for name in used)
