@@ -16,6 +16,7 @@ use test_instances::{link, triangle_with_centre};
 mod alone;
 mod brute_force;
 mod gates;
+mod refining;
 mod starting;
 
 // A budget, and how a search of a whole instance ends within it: the least value, how many nodes it
