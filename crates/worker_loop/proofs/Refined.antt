@@ -1,5 +1,5 @@
 -- That a packing that is raised again from some of its cuts extends what it did.
-use Rattle.std.proofs.Common.{◌≡◌, ℕ, ◌-◌, ◌≤◌, All, inl, inr, refl, sym, subst}
+use Rattle.std.proofs.Common.{ℕ, ◌-◌, ◌≤◌, All, inl, inr, sym, subst}
 use Rattle.st_model.specs.declared.branch.Branch.{Branch}
 use Rattle.st_model.specs.Branch.{IsVertexSet}
 use Rattle.st_model.specs.Network.{Network}
@@ -9,7 +9,7 @@ use Rattle.dual_ascent.specs.declared.ascent.Ascent.{Ascent}
 use Rattle.dual_ascent.specs.declared.ascent.Ascent.TheVariants.{Full, Reached}
 use Rattle.dual_ascent.specs.declared.extension.Extension.{Extension}
 use Rattle.dual_ascent.specs.Extension.{IsExtension, packing_of}
-use Rattle.worker_loop.specs.Raising.{IsExtendable, IsExtendedTo, IsHeavier, IsNoWorse, IsRefined}
+use Rattle.worker_loop.specs.Raising.{IsExtendedTo, IsHeavier, IsNoWorse, IsRefined}
 use Rattle.worker_loop.proofs.Heavier.{other_extends}
 
 -- the sets of what extends a packing

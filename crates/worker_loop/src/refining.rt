@@ -88,7 +88,11 @@ pub fn refine(
         let order = guide.draws.order(alloc, whole.instance.vertices())?;
         refined = raised_again(alloc, whole, branch, refined, kept, root, &order, least)?;
         let has_gained = weight_of(&whole.instance, branch, &refined) > before;
-        idle = if has_gained { 0 } else { idle.saturating_add(1) };
+        idle = if has_gained {
+            0
+        } else {
+            idle.saturating_add(1)
+        };
     }
     Ok(refined)
 }
