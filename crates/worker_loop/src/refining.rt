@@ -16,6 +16,9 @@ use std::alloc::{AllocError, Global};
 // After how many turns in a row without a gain refining ends at a node that began with cuts.
 const PATIENCE: u64 = 4;
 
+// How many links are looked at for the turns of one packing, about.
+const LINKS: u64 = 400_000;
+
 /// What refining goes by: the best tree that is known, draws, and whether the node has no cuts yet.
 /// There most is to gain.
 #[derive(Drop)]
@@ -72,7 +75,7 @@ pub fn refine(
     let patience = guide.patience();
     let mut refined = extension;
     let mut idle: u64 = 0;
-    for _ in 0..turns {
+    for _ in 0..turns_for(whole, turns) {
         if refined.ascent.is_reached() || idle >= patience {
             break;
         }
@@ -95,6 +98,12 @@ pub fn refine(
         };
     }
     Ok(refined)
+}
+
+// How many turns there are of so many: fewer, where there are many links.
+fn turns_for(whole: &Whole, turns: u64) -> u64 {
+    let links = whole.instance.links().len() as u64;
+    turns.min(LINKS / links.max(1))
 }
 
 // What the packing of an extension weighs.
