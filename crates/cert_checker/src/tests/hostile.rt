@@ -1,4 +1,5 @@
-use super::TRIANGLE;
+use super::pieces::is_refused;
+use super::{CLOSE, TRIANGLE};
 use crate::{CheckFault, Verdict, check};
 use log_format::{Kind, LogFault};
 use std::alloc::{AllocError, Global};
@@ -41,5 +42,110 @@ fn refuses_a_long_detour(rt: HostRuntime) -> Result<(), Fail> {
         kind: Kind::BadStep,
     };
     assert_eq!(rt; answer, Err(CheckFault::Log(fault)));
+    Ok(())
+}
+
+/// The lines before the tree of the star's log.
+const BEFORE_TREE: &str = "STEINERLOG 1\nCLAIM TREE 6 6\n";
+
+/// Those before its steps.
+const BEFORE_STEPS: &str = "STEINERLOG 1\nCLAIM TREE 6 6\nTREE 1 3\nA 1 4\nA 4 2\nA 4 3\n";
+
+/// Those before its proof.
+const BEFORE_PROOF: &str =
+    "STEINERLOG 1\nCLAIM TREE 6 6\nTREE 1 3\nA 1 4\nA 4 2\nA 4 3\nSTEPS 0\nPROOF\n";
+
+/// A text of the triangle's log that states more than it holds, holds nothing or ends within a line, and the fault.
+const TEXTS: [(&str, &str, u64, Kind); 20] = [
+    (
+        BEFORE_TREE,
+        "TREE 1 18446744073709551615\nA 1 4\n",
+        5,
+        Kind::EndsEarly,
+    ),
+    (
+        BEFORE_TREE,
+        "TREE 1 18446744073709551615\nA 1 4\nSTEPS 0\n",
+        5,
+        Kind::BadLine,
+    ),
+    (
+        BEFORE_TREE,
+        "TREE 1 18446744073709551616\nA 1 4\n",
+        3,
+        Kind::BadLine,
+    ),
+    (
+        BEFORE_STEPS,
+        "STEPS 18446744073709551615\n",
+        8,
+        Kind::EndsEarly,
+    ),
+    (
+        BEFORE_STEPS,
+        "STEPS 18446744073709551615\nPROOF\nC 0 0\nEND\n",
+        8,
+        Kind::BadLine,
+    ),
+    (
+        BEFORE_STEPS,
+        "STEPS 18446744073709551616\n",
+        7,
+        Kind::BadLine,
+    ),
+    (
+        BEFORE_PROOF,
+        "C 1 18446744073709551615\nU 2 2 1 2\n",
+        11,
+        Kind::EndsEarly,
+    ),
+    (
+        BEFORE_PROOF,
+        "C 1 18446744073709551615\nU 2 2 1 2\nEND\n",
+        11,
+        Kind::BadLine,
+    ),
+    (BEFORE_PROOF, "C 1 18446744073709551616\n", 9, Kind::BadLine),
+    (
+        BEFORE_PROOF,
+        "C 1 1\nU 2 2 18446744073709551615 2\nEND\n",
+        10,
+        Kind::BadLine,
+    ),
+    (
+        "STEINERLOG 1\nCLAIM NONE\n",
+        "WALL 18446744073709551615 1 2\nEND\n",
+        3,
+        Kind::BadLine,
+    ),
+    ("STEINERLOG 1", " \nCLAIM NONE\n", 1, Kind::BadLine),
+    (
+        "",
+        "w w w w w w w w w w w w w w w w w w w w w w w w w w w w w w w w w w w w w w w w\n",
+        1,
+        Kind::BadLine,
+    ),
+    ("", "", 1, Kind::EndsEarly),
+    ("", "\n", 1, Kind::BadLine),
+    ("", "\n\n\n\n", 1, Kind::BadLine),
+    ("STEINERLOG 1\n", "\n\n", 2, Kind::BadLine),
+    ("", "STEIN", 1, Kind::EndsEarly),
+    (BEFORE_PROOF, CLOSE, 13, Kind::EndsEarly),
+    (
+        BEFORE_PROOF,
+        "C 1 3\nU 2 2 1 2\nU 3 2 1 3\nU 2 2 3 2 3 4\nEN",
+        13,
+        Kind::EndsEarly,
+    ),
+];
+
+#[test]
+fn refuses_hostile_texts_in_pieces(rt: HostRuntime) -> Result<(), Fail> {
+    for (first, rest, line, kind) in TEXTS {
+        assert!(rt;
+            is_refused(&rt, first, rest, LogFault { line, kind })?,
+            "at {first}{rest}"
+        );
+    }
     Ok(())
 }

@@ -191,7 +191,7 @@ const TEXTS: [(&str, &str, u64, Kind); 7] = [
 ];
 
 /// Whether a text is refused so, in pieces and as whole.
-fn is_refused(
+pub fn is_refused(
     rt: &impl AllocGlobal,
     first: &str,
     rest: &str,
