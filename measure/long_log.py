@@ -1,7 +1,7 @@
 """Writes an STP file and a log that splits it DEPTH times deep: long_log.py DEPTH FILE LOG.
 
 Nobody has to be reached and nobody pays, so each of the 2^DEPTH branches is closed without a cut. A depth of 23 gives
-95 MB, and each more doubles them.
+92 MB, and each more doubles them.
 """
 
 import sys

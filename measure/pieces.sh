@@ -6,11 +6,4 @@ set -euo pipefail
 here=$(cd "$(dirname "$0")" && pwd)
 . "$here/crate.sh"
 build_crate checked_pieces cert_checker log_format stp_reader anyhow
-python3 - "$program" "$1" "$2" <<'END'
-import resource
-import subprocess
-import sys
-
-subprocess.run(sys.argv[1:], check=True)
-print("  peak KiB:", resource.getrusage(resource.RUSAGE_CHILDREN).ru_maxrss)
-END
+/usr/bin/time -f "  peak KiB: %M" "$program" "$1" "$2"
