@@ -1,4 +1,4 @@
-ghost use Rattle.std.specs.Prelude.{◌≡◌, ◌+◌, ◌<◌, ◌≤◌, ◌↔◌, ℕ, [], length, IfOk, IfSome, IfNone, IsTrue, IsFalse};
+ghost use Rattle.std.specs.Prelude.{◌≡◌, ◌<◌, ◌≤◌, ◌↔◌, ℕ, [], IfOk, IfSome, IfNone, IsTrue, IsFalse};
 ghost use Rattle.st_model.specs.Arborescence.{IsArborescence, IsTree, cost};
 ghost use Rattle.st_model.specs.Branch.{Belongs, IsBranch, is_certain, NoneIsCertain};
 ghost use Rattle.st_model.specs.Network.{IsVertex, pays};
@@ -7,7 +7,7 @@ ghost use Rattle.tree_heuristic.specs.Reaching.{HasNoTree, IsNoDearerThanOne, Is
 ghost use Rattle.tree_heuristic.specs.Spreading.{IsOpen};
 
 use crate::certain::missing;
-use crate::growing::Growing;
+use crate::growing::{Growing, Guide};
 use crate::spread::Spread;
 use graph_store::Store;
 use st_model::{Listed, Need, Sides, Tree, VertexSet, lone_starts_miss_the_rest};
@@ -26,10 +26,29 @@ pub fn first_tree(alloc: Global, store: &Store, branch: &Sides) -> Result<Option
     ensures lone { IfOk result (λ found. IfSome found (λ t. NoneIsCertain store.now.network branch.now
         → IsNoDearerThanOne store.now branch.now t)) }
 {
+    guided_tree(alloc, store, branch, &[])
+}
+
+/// As `first_tree`, but its paths are cheapest where each link costs so many hundredths of its cost
+/// as its two ends weigh together. A vertex past the end of the weights leaves its links as they are.
+pub fn guided_tree(
+    alloc: Global,
+    store: &Store,
+    branch: &Sides,
+    weights: &[u64],
+) -> Result<Option<Tree>, AllocError>
+    requires { IsBranch store.now.network branch.now }
+    ensures tree { IfOk result (λ found. IfSome found (IsTree store.now.network)) }
+    ensures belongs { IfOk result (λ found. IfSome found (Belongs branch.now)) }
+    ensures present { IfOk result (λ found. IfSome found (ReachesPresent store.now)) }
+    ensures none { IfOk result (λ found. IfNone found (HasNoTree store.now branch.now)) }
+    ensures lone { IfOk result (λ found. IfSome found (λ t. NoneIsCertain store.now.network branch.now
+        → IsNoDearerThanOne store.now branch.now t)) }
+{
     let nothing = VertexSet::new(alloc, 0)?;
     match missing(store, branch, &nothing) {
-        Some(start) => joined_tree(alloc, store, branch, start),
-        None => free_tree(alloc, store, branch),
+        Some(start) => joined_tree(alloc, store, branch, weights, start),
+        None => free_tree(alloc, store, branch, weights),
     }
 }
 
@@ -38,6 +57,7 @@ fn joined_tree(
     alloc: Global,
     store: &Store,
     branch: &Sides,
+    weights: &[u64],
     start: u32,
 ) -> Result<Option<Tree>, AllocError>
     requires branch { IsBranch store.now.network branch.now }
@@ -49,7 +69,7 @@ fn joined_tree(
     if !is_open(store, branch, start) {
         return Ok(None);
     }
-    match grown_tree(alloc, store, branch, start)? {
+    match grown_tree(alloc, store, branch, weights, start)? {
         Some(tree) => Ok(Some(tree)),
         None => spanning_tree(alloc, store, branch, start),
     }
@@ -60,6 +80,7 @@ fn grown_tree(
     alloc: Global,
     store: &Store,
     branch: &Sides,
+    weights: &[u64],
     start: u32,
 ) -> Result<Option<Tree>, AllocError>
     requires branch { IsBranch store.now.network branch.now }
@@ -68,7 +89,11 @@ fn grown_tree(
     ensures { IfOk result (λ found. IfSome found (IsTreeOf store.now branch.now)) }
 {
     let worth = worths(alloc, store, branch)?;
-    let growing = Growing::over(alloc, store, branch, &worth, start)?;
+    let guide = Guide {
+        worth: &worth,
+        weights,
+    };
+    let growing = Growing::over(alloc, store, branch, guide, start)?;
     let grown = Spread::along(alloc, store, branch, &growing, start)?;
     match missing(store, branch, &grown.reached) {
         Some(_) => Ok(None),
@@ -98,9 +123,7 @@ fn spanning_tree(
 }
 
 // What it is worth to reach each vertex: its prize, and all where it is required or inside.
-fn worths(alloc: Global, store: &Store, branch: &Sides) -> Result<Vec<u64>, AllocError>
-    ensures { IfOk result (λ worth. length worth.items ≡ store.now.network.n + 1) }
-{
+fn worths(alloc: Global, store: &Store, branch: &Sides) -> Result<Vec<u64>, AllocError> {
     let vertices = store.vertices();
     let mut worth = Vec::new(alloc);
     worth.push(0)?;
@@ -128,7 +151,12 @@ fn is_open(store: &Store, branch: &Sides, vertex: u32) -> bool
 }
 
 // Where no vertex is required or inside, the cheaper of a vertex alone and a tree from there.
-fn free_tree(alloc: Global, store: &Store, branch: &Sides) -> Result<Option<Tree>, AllocError>
+fn free_tree(
+    alloc: Global,
+    store: &Store,
+    branch: &Sides,
+    weights: &[u64],
+) -> Result<Option<Tree>, AllocError>
     requires uncertain { NoneIsCertain store.now.network branch.now }
     requires branch { IsBranch store.now.network branch.now }
     ensures tree { IfOk result (λ found. IfSome found (IsTreeOf store.now branch.now)) }
@@ -138,7 +166,7 @@ fn free_tree(alloc: Global, store: &Store, branch: &Sides) -> Result<Option<Tree
     let Some(lone) = lone_tree(alloc, store, branch) else {
         return Ok(None);
     };
-    match grown_tree(alloc, store, branch, lone.start)? {
+    match grown_tree(alloc, store, branch, weights, lone.start)? {
         Some(tree) if costs_less(store, &tree, lone.start) => Ok(Some(tree)),
         _ => Ok(Some(lone)),
     }

@@ -8,6 +8,18 @@ use std::alloc::{AllocError, Global};
 use std::cmp::Reverse;
 use std::collections::BinaryHeap;
 
+// How many hundredths a link costs as it does.
+const WHOLE: u64 = 100;
+
+// What paths are chosen by.
+#[derive(Clone, Copy)]
+pub struct Guide<'a> {
+    // By vertex, what it is worth to reach it.
+    pub worth: &'a [u64],
+    // By vertex, in hundredths, half of what a link to it costs more or less than it does.
+    pub weights: &'a [u64],
+}
+
 // A tree that takes one cheap path after another, and the search for the next one.
 #[derive(Drop)]
 pub struct Growing {
@@ -28,15 +40,14 @@ impl Growing {
         alloc: Global,
         store: &Store,
         branch: &Sides,
-        worth: &[u64],
+        guide: Guide<'_>,
         start: u32,
     ) -> Result<Growing, AllocError>
         requires start { IsVertex store.now.network.n start }
-        requires worth { length worth.now ≡ store.now.network.n + 1 }
     {
         let mut growing = Growing::at(alloc, store.vertices(), start)?;
         while let Some((cost, vertex)) = growing.next() {
-            growing.take(store, branch, worth, cost, vertex)?;
+            growing.take(store, branch, &guide, cost, vertex)?;
         }
         Ok(growing)
     }
@@ -94,23 +105,22 @@ impl Growing {
         &mut self,
         store: &Store,
         branch: &Sides,
-        worth: &[u64],
+        guide: &Guide<'_>,
         cost: u64,
         vertex: u32,
     ) -> Result<(), AllocError>
         requires growing { IsGrowing store.now.network.n self.old }
         requires vertex { IsVertex store.now.network.n vertex }
-        requires worth { length worth.now ≡ store.now.network.n + 1 }
         ensures growing { OnOk result (IsGrowing store.now.network.n self.new) }
         ensures fewer { OnOk result (waiting self.new ≤ waiting self.old) }
     {
         if cost > self.best[vertex as usize] {
             return Ok(());
         }
-        if cost < worth[vertex as usize] {
+        if cost < guide.worth(vertex) {
             self.join(store, vertex)?;
         }
-        self.expand(store, branch, vertex)
+        self.expand(store, branch, guide, vertex)
     }
 
     // The path to a vertex joins the tree, from its end on.
@@ -131,7 +141,13 @@ impl Growing {
     }
 
     // Offers each vertex that is linked with this one and not outside what it costs by there.
-    fn expand(&mut self, store: &Store, branch: &Sides, vertex: u32) -> Result<(), AllocError>
+    fn expand(
+        &mut self,
+        store: &Store,
+        branch: &Sides,
+        guide: &Guide<'_>,
+        vertex: u32,
+    ) -> Result<(), AllocError>
         requires growing { IsGrowing store.now.network.n self.old }
         requires vertex { IsVertex store.now.network.n vertex }
         ensures growing { OnOk result (IsGrowing store.now.network.n self.new) }
@@ -140,7 +156,8 @@ impl Growing {
         let cost = self.best[vertex as usize];
         for half in store.neighbours(vertex) {
             if !branch.is_outside(half.to) {
-                self.offer(cost.saturating_add(half.cost), half.to, vertex)?;
+                let further = guide.cost(half.cost, vertex, half.to);
+                self.offer(cost.saturating_add(further), half.to, vertex)?;
             }
         }
         Ok(())
@@ -149,5 +166,24 @@ impl Growing {
     // Whether the tree takes the link from one vertex to another one.
     pub fn leads(&self, tail: u32, head: u32) -> bool {
         self.joined.get(head as usize) == Some(&true) && self.from.get(head as usize) == Some(&tail)
+    }
+}
+
+impl Guide<'_> {
+    // What it is worth to reach a vertex.
+    fn worth(&self, vertex: u32) -> u64 {
+        self.worth.get(vertex as usize).copied().unwrap_or(0)
+    }
+
+    // What a link that costs so much is taken to cost, by its two ends.
+    fn cost(&self, cost: u64, tail: u32, head: u32) -> u64 {
+        let weights = (
+            self.weights.get(tail as usize),
+            self.weights.get(head as usize),
+        );
+        match weights {
+            (Some(one), Some(other)) => { cost.saturating_mul(one.saturating_add(*other)) / WHOLE }
+            _ => cost,
+        }
     }
 }

@@ -16,6 +16,6 @@ mod spread;
 mod tests;
 mod walls;
 
-pub use first::first_tree;
+pub use first::{first_tree, guided_tree};
 pub use pruning::prune;
 pub use walls::{store_wall, wall};

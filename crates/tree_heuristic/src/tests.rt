@@ -1,6 +1,6 @@
 ghost use Rattle.std.specs.Prelude.{◌≡◌, IfOk};
 
-use crate::{first_tree, prune, wall};
+use crate::{first_tree, guided_tree, prune, wall};
 use graph_store::Store;
 use st_model::{Branch, Instance, Listed, Need, Sides, Tree, is_tree, tree_cost};
 use std::alloc::{AllocError, Global};
@@ -35,6 +35,23 @@ fn first_cost(alloc: Global, instance: &Instance) -> Result<Option<u64>, AllocEr
         return Ok(Some(u64::MAX));
     }
     Ok(Some(tree_cost(instance, &tree)))
+}
+
+// What the tree costs to which weights by vertex lead, and u64::MAX where there is none.
+fn guided_cost(alloc: Global, instance: &Instance, weights: &[u64]) -> Result<u64, AllocError> {
+    let store = Store::of(alloc, instance)?;
+    let branch = Sides::of(alloc, Branch::all(alloc))?;
+    match guided_tree(alloc, &store, &branch, weights)? {
+        Some(tree) if is_tree(alloc, instance, &tree)? => Ok(tree_cost(instance, &tree)),
+        _ => Ok(u64::MAX),
+    }
+}
+
+// Two ways between the required vertices 1 and 4: over 2 for 3 and 3, and over 3 for 4 and 4.
+fn two_ways(alloc: Global) -> Result<Instance, AllocError> {
+    let links = [link(1, 2, 3), link(2, 4, 3), link(1, 3, 4), link(3, 4, 4)];
+    let needs = [(1, Need::Required), (4, Need::Required)];
+    Instance::build(alloc, 4, &links, &needs)
 }
 
 // What is left of a tree costs, and u64::MAX where the arcs are no tree.
@@ -79,6 +96,17 @@ fn finds_no_tree_of_what_is_apart(rt: HostRuntime) -> Result<(), Fail> {
 fn takes_what_is_worth_it(rt: HostRuntime) -> Result<(), Fail> {
     let cost = first_cost(rt.alloc(), &path(rt.alloc())?)?;
     assert!(rt; cost == Some(8));
+    Ok(())
+}
+
+// Where 2 weighs so much that the way over it looks dearer; a list that is too short says nothing.
+#[test]
+fn keeps_to_weights(rt: HostRuntime) -> Result<(), Fail> {
+    let instance = two_ways(rt.alloc())?;
+    assert!(rt; guided_cost(rt.alloc(), &instance, &[])? == 6);
+    assert!(rt; guided_cost(rt.alloc(), &instance, &[50, 50, 120, 50, 50])? == 8);
+    assert!(rt; guided_cost(rt.alloc(), &instance, &[50, 50, 80, 50, 50])? == 6);
+    assert!(rt; guided_cost(rt.alloc(), &instance, &[90, 90])? == 6);
     Ok(())
 }
 
