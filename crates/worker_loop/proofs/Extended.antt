@@ -1,5 +1,6 @@
 -- What an ascent makes of a node's packing.
-use Rattle.std.proofs.Common.{ℕ, ◌-◌, ◌^◌, ◌<◌, ◌≤◌, None, arith}
+use Rattle.std.proofs.Common.{ℕ, ◌-◌, ◌^◌, ◌<◌, ◌≤◌, Option, None, Some, arith}
+use Rattle.std.specs.Prelude.{IfSome}
 use Rattle.st_model.specs.Network.{Network, IsInstance}
 use Rattle.cut_packing.specs.declared.packing.Packing.{Packing}
 use Rattle.cut_packing.specs.Packing.{weight}
@@ -8,21 +9,26 @@ use Rattle.dual_ascent.specs.Extension.{IsExtension}
 use Rattle.branching.specs.declared.node.Node.{Node}
 use Rattle.worker_loop.specs.declared.step.End.{End}
 use Rattle.worker_loop.specs.declared.step.End.TheVariants.{Close, Split}
+use Rattle.worker_loop.specs.declared.step.Priced.{Priced}
 use Rattle.worker_loop.specs.declared.step.Step.{Step}
 use Rattle.worker_loop.specs.Node.{IsWritableNode}
-use Rattle.worker_loop.specs.Step.{IsEnd, IsStep, least_after}
+use Rattle.worker_loop.specs.Step.{IsBetter, IsEnd, IsStep, least_after}
 use Rattle.worker_loop.proofs.Writing.{writable_packing}
 
 -- a node whose extended packing weighs enough closes by it
-pub reached_step : (I : Network) (N : Node) (P : Packing) (root least : ℕ) → IsInstance I → weight I N.branch N.packing < least → least < 2 ^ 64
-    → IsExtension I N.branch N.packing root (least - weight I N.branch N.packing) (Reached P) → IsStep I N least (record { better = None; end = Close P })
-reached_step I N P root least instance light small e = record {
-  tree = tt;
+pub reached_step : (I : Network) (N : Node) (P : Packing) (root least : ℕ) (better : Option Priced) → IsInstance I → weight I N.branch N.packing < least → least < 2 ^ 64
+    → IfSome better (IsBetter I N.branch least) → IsExtension I N.branch N.packing root (least - weight I N.branch N.packing) (Reached P) → IsStep I N least (record { better = better; end = Close P })
+reached_step I N P root least better instance light small cheap e = record {
+  tree = cheap;
   ends = (
-    record { fits = e.0.fits; weighs = omega (arith, light, e.1) },
+    record { fits = e.0.fits; weighs = enough better cheap },
     writable_packing I N.branch P instance e.0.fits e.0.sets e.0.few (omega (arith, light, small, e.1)),
   );
 }
+  where
+    enough : (found : Option Priced) → IfSome found (IsBetter I N.branch least) → least_after least found ≤ weight I N.branch P
+    enough None _ = omega (arith, light, e.1)
+    enough (Some p) h = omega (arith, light, e.1, h.cheaper)
 
 -- the node with a full packing
 pub full_node : (I : Network) (N : Node) (P : Packing) (root least : ℕ) → IsInstance I → IsWritableNode I N → weight I N.branch N.packing < least → least < 2 ^ 64

@@ -16,7 +16,7 @@ use graph_store::Whole;
 use local_search::improve;
 use st_model::{Branch, Instance, Listed, Sides, Tree, VertexSet, tree_cost, walk};
 use std::alloc::{AllocError, Global};
-use tree_heuristic::{first_tree, prune};
+use tree_heuristic::{first_tree, guided_tree, prune};
 
 /// A tree of the branch that costs less than the least cost known, if `tree_near` is one.
 pub fn better_tree(
@@ -75,6 +75,24 @@ pub fn tree_over(
     };
     let tree = prune(alloc, &whole.instance, &narrow, tree)?;
     Ok(Some(improved(alloc, whole, branch, tree, limit)?))
+}
+
+/// A tree of the branch, if one is found: a first tree along weighted costs, pruned and improved.
+pub fn tree_along(
+    alloc: Global,
+    whole: &Whole,
+    branch: &Sides,
+    weights: &[u64],
+) -> Result<Option<Tree>, AllocError>
+    requires branch { IsBranch whole.now.instance branch.now }
+    ensures tree { IfOk result (λ tree. IfSome tree (IsTree whole.now.instance)) }
+    ensures belongs { IfOk result (λ tree. IfSome tree (Belongs branch.now)) }
+{
+    let Some(tree) = guided_tree(alloc, &whole.store, branch, weights)? else {
+        return Ok(None);
+    };
+    let tree = prune(alloc, &whole.instance, branch, tree)?;
+    Ok(Some(improve(alloc, whole, branch, tree)?))
 }
 
 /// The tree with its price, if there is one that costs less than the least cost known.

@@ -1,4 +1,3 @@
-use st_model::VertexSet;
 use std::alloc::{AllocError, Global};
 
 // The multiplier and the modulus of Park and Miller (1993).
@@ -46,21 +45,5 @@ impl Draws {
             order.push(moved)?;
         }
         Ok(order)
-    }
-
-    /// Of the vertices 1 to the last one all but one of every so many, by chance.
-    pub fn most_of(
-        &mut self,
-        alloc: Global,
-        last: u32,
-        many: u64,
-    ) -> Result<VertexSet, AllocError> {
-        let mut most = VertexSet::new(alloc, last as usize + 1)?;
-        for before in 0..last {
-            if self.below(many) > 0 {
-                most.insert(before + 1)?;
-            }
-        }
-        Ok(most)
     }
 }

@@ -5,6 +5,7 @@ ghost use Rattle.st_model.specs.Network.{IsInstance, pays};
 ghost use Rattle.cut_packing.specs.Full.{IsFull};
 ghost use Rattle.cut_packing.specs.Packing.{weight};
 ghost use Rattle.cut_packing.specs.ProofTree.{IsSplit};
+ghost use Rattle.dual_ascent.specs.Extension.{IsRootFor, IsStart};
 ghost use Rattle.branching.specs.Choice.{IsChoice, IsDecided};
 ghost use Rattle.worker_loop.specs.Finding.{IsFinding};
 ghost use Rattle.worker_loop.specs.Node.{IsWritableNode};
@@ -13,24 +14,19 @@ ghost use Rattle.worker_loop.specs.Step.{IsBetter, IsStep, least_after};
 use crate::bettering::{gap, least_after, priced};
 use crate::deciding::root_of;
 use crate::distances::near_root;
-use crate::draws::Draws;
+use crate::effort::Effort;
 use crate::guessing::{guess, together};
 use crate::picking::pick;
-use crate::refining::{Guide, raise_refined};
+use crate::refining::Guide;
+use crate::rounds::{Rounds, tree_of, work_by_rounds};
 use crate::step::{End, Finding, Priced, Step};
-use crate::trees::{Trees, trees_at};
 use branching::{Node, choose};
 use cut_packing::{Packing, weight};
 use dual_ascent::{Ascent, Extension};
 use graph_store::Whole;
 use level_packing::{Leaf, close_all};
-use st_model::{Instance, Sides, Tree};
+use st_model::{Instance, Sides, Tree, VertexSet};
 use std::alloc::{AllocError, Global};
-
-// For how many turns a node's packing is refined where it began with cuts, and where it didn't.
-const TURNS: u64 = 10;
-
-const BARE_TURNS: u64 = 60;
 
 /// Works on a node. It closes where its packing weighs as much as `least`, the least cost known of
 /// a tree, or where nothing is left to decide. Else its packing is extended until it weighs so
@@ -111,54 +107,78 @@ fn work_on(
         branch,
         packing,
     } = node;
-    let is_bare = packing.cuts.as_slice().is_empty();
+    let effort = Effort {
+        seed: id,
+        is_bare: packing.cuts.as_slice().is_empty(),
+    };
     let branch = Sides::of(alloc, branch)?;
     let Some(root) = root_of(&whole.instance, &branch, &packing) else {
-        let branch = branch.into_branch();
-        return Ok(split(
-            Node {
-                id,
-                branch,
-                packing,
-            },
-            given,
-        ));
+        return Ok(split(node_of(id, branch, packing), given));
     };
-    let mut guide = Guide {
-        known,
-        draws: Draws::of(id),
-        is_bare,
-    };
-    let turns = if is_bare { BARE_TURNS } else { TURNS };
-    let Extension { ascent, arcs } = raise_refined(
-        alloc, whole, &branch, packing, root, least, turns, &mut guide,
-    )?;
+    let Rounds {
+        extension,
+        better,
+        joints,
+    } = work_by_rounds(alloc, whole, &branch, packing, root, least, known, effort)?;
+    let Extension { ascent, arcs } = extension;
     match ascent {
-        Ascent::Reached(packing) => Ok(closed(packing)),
+        Ascent::Reached(packing) => Ok(Step {
+            better,
+            end: End::Close(packing),
+        }),
         Ascent::Full(packing) => {
-            let seed = if is_bare { Some(id) } else { None };
-            let Trees { better, joints } = trees_at(
-                alloc, whole, &branch, &arcs, &packing, known, least, seed,
-            )?;
-            let least_now = least_after(least, &better);
-            let near = near_root(
+            let price = least_after(least, &better);
+            let limit = gap(&whole.instance, &branch, &packing, price);
+            let near = near_root(alloc, &arcs, limit)?;
+            let more = guessed(
                 alloc,
-                &arcs,
-                gap(&whole.instance, &branch, &packing, least_now),
-            )?;
-            let more = guess(
-                alloc, whole, &branch, &packing, &near, root, least_now, &mut guide,
+                whole,
+                &branch,
+                &packing,
+                &near,
+                root,
+                price,
+                tree_of(known, &better),
+                effort,
             )?;
             let vertex = pick(&arcs, &whole.instance, &branch, &near, &joints, given);
-            let branch = branch.into_branch();
-            let node = Node {
-                id,
-                branch,
-                packing,
-            };
+            let node = node_of(id, branch, packing);
             Ok(concluded(&whole.instance, node, vertex, together(better, more), least))
         }
     }
+}
+
+// The node of a branch.
+fn node_of(id: u64, branch: Sides, packing: Packing) -> Node
+    ensures { result ≡ record { id = id; branch = branch; packing = packing } }
+{
+    Node {
+        id,
+        branch: branch.into_branch(),
+        packing,
+    }
+}
+
+// What is found by a guess, by a tree that costs so much.
+fn guessed(
+    alloc: Global,
+    whole: &Whole,
+    branch: &Sides,
+    packing: &Packing,
+    near: &VertexSet,
+    root: u32,
+    price: u64,
+    tree: &Tree,
+    effort: Effort,
+) -> Result<Finding, AllocError>
+    requires instance { IsInstance whole.now.instance }
+    requires start { IsStart whole.now.instance branch.now packing.now }
+    requires rooted { IsRootFor whole.now.instance branch.now packing.now root }
+    ensures { IfOk result (IsFinding whole.now.instance branch.now price) }
+{
+    let mut guide = Guide::at(tree, price, effort);
+    let found = guess(alloc, whole, branch, packing, near, root, price, &mut guide)?;
+    Ok(found)
 }
 
 // A split, with no better tree.

@@ -4,6 +4,7 @@ ghost use Rattle.dual_ascent.specs.Extension.{packing_of};
 ghost use Rattle.worker_loop.specs.Raising.{IsExtendable, IsExtendedTo, IsRefined};
 
 use crate::draws::Draws;
+use crate::effort::Effort;
 use crate::freeing::Freeing;
 use crate::raising::{heavier, is_start, raise, raise_from};
 use crate::rooted::Rooted;
@@ -13,25 +14,27 @@ use graph_store::Whole;
 use st_model::{Instance, Listed, Sides, Tree};
 use std::alloc::{AllocError, Global};
 
-// After how many turns in a row without a gain refining ends at a node that began with cuts.
-const PATIENCE: u64 = 4;
-
 // How many links are looked at for the turns of one packing, about.
 const LINKS: u64 = 400_000;
 
-/// What refining goes by: the best tree that is known, draws, and whether the node has no cuts yet.
-/// There most is to gain.
+/// What refining goes by: the best tree that is known, what it costs, draws, and how much work there is.
 #[derive(Drop)]
 pub struct Guide<'a> {
-    pub known: &'a Tree,
-    pub draws: Draws,
-    pub is_bare: bool,
+    known: &'a Tree,
+    price: u64,
+    draws: Draws,
+    pub effort: Effort,
 }
 
-impl Guide<'_> {
-    // After how many turns in a row without a gain refining ends.
-    fn patience(&self) -> u64 {
-        if self.is_bare { u64::MAX } else { PATIENCE }
+impl<'a> Guide<'a> {
+    /// By a tree that costs so much.
+    pub fn at(known: &'a Tree, price: u64, effort: Effort) -> Guide<'a> {
+        Guide {
+            known,
+            price,
+            draws: Draws::of(effort.seed),
+            effort,
+        }
     }
 }
 
@@ -55,7 +58,8 @@ pub fn raise_refined(
 }
 
 /// Refines the packing of an extension, so that it weighs `least` or is full, and is no lighter. In each
-/// turn cuts round a fault are freed, and cuts are raised again in an order that is drawn.
+/// turn cuts round a fault are freed, and cuts are raised again in an order that is drawn. It ends where
+/// the packing weighs what the best tree costs.
 pub fn refine(
     alloc: Global,
     whole: &Whole,
@@ -72,14 +76,14 @@ pub fn refine(
     ensures { IfOk result (IsRefined whole.now.instance branch.now root least extension) }
 {
     let tree = Rooted::of(alloc, &whole.instance, branch, guide.known, root)?;
-    let patience = guide.patience();
+    let patience = guide.effort.patience();
     let mut refined = extension;
     let mut idle: u64 = 0;
     for _ in 0..turns_for(whole, turns) {
-        if refined.ascent.is_reached() || idle >= patience {
+        let before = weight_of(&whole.instance, branch, &refined);
+        if refined.ascent.is_reached() || before >= u128::from(guide.price) || idle >= patience {
             break;
         }
-        let before = weight_of(&whole.instance, branch, &refined);
         let freeing = Freeing::drawn(alloc, whole, branch, &refined, &tree, &mut guide.draws)?;
         let kept = kept(
             alloc,

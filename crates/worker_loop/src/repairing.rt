@@ -13,11 +13,6 @@ use graph_store::Whole;
 use st_model::{Listed, Sides};
 use std::alloc::{AllocError, Global};
 
-// For how many turns the packing is refined at a node that began with cuts, and at one that didn't.
-const TURNS: u64 = 20;
-
-const BARE_TURNS: u64 = 120;
-
 /// A packing that closes the branch at the least cost known, made of one of a part of the branch: as
 /// much of each cut as the branch bears, extended for the root. None where that isn't enough.
 pub fn repaired(
@@ -40,7 +35,7 @@ pub fn repaired(
         return Ok(None);
     }
     let raised = raise_from(alloc, whole, branch, borne, root, &[], least)?;
-    let turns = if guide.is_bare { BARE_TURNS } else { TURNS };
+    let turns = guide.effort.repairs();
     let refined = refine(alloc, whole, branch, raised, root, least, turns, guide)?;
     Ok(reached(refined.ascent))
 }

@@ -1,12 +1,16 @@
 ghost use Rattle.std.specs.Prelude.{◌≤◌, IfOk, IfSome};
+ghost use Rattle.st_model.specs.Arborescence.{IsTree};
 ghost use Rattle.st_model.specs.Branch.{IsBranch};
 ghost use Rattle.worker_loop.specs.Step.{IsBetter};
 
-use crate::bettering::{cheaper, later, least_after, tree_over};
+use crate::bettering::{cheaper, later, least_after, tree_along};
+use crate::by_vertex::put;
 use crate::draws::Draws;
+use crate::elite::Elite;
 use crate::step::Priced;
+use bidirected_form::{Arc, Arcs};
 use graph_store::Whole;
-use st_model::Sides;
+use st_model::{Sides, Tree};
 use std::alloc::{AllocError, Global};
 
 // How many trees are drawn, at most, and how many links are looked at for them, about.
@@ -14,16 +18,26 @@ const TREES: u64 = 16;
 
 const LINKS: u64 = 400_000;
 
-// One of so many vertices is left out of a tree that is drawn.
-const ONE_OF: u64 = 8;
+// What a vertex weighs where weights are drawn alone, in hundredths, and up to how much more.
+const DRAWN: (u64, u64) = (50, 25);
 
-/// A tree of the branch that costs less than the least cost known, if one is found: of trees without
-/// vertices that are drawn, improved, the cheapest. No more are drawn where one costs what the bound is.
+// What one weighs to which an arc with nothing left leads, another one, and up to how much more.
+const USED_UP: u64 = 5;
+
+const NOT_USED_UP: u64 = 55;
+
+const MORE: u64 = 10;
+
+/// A tree of the branch that costs less than the least cost known, if one is found: of trees along costs
+/// that are drawn, improved, the cheapest. Costs are drawn alone, by what is left of the arcs, and
+/// round two of the trees found before, by turns. No more are drawn where one costs what the bound is.
 #[tactic(auto, using(crate::proofs::Found::found_later))]
 pub fn drawn_tree(
     alloc: Global,
     whole: &Whole,
     branch: &Sides,
+    arcs: &Arcs,
+    elite: &mut Elite,
     seed: u64,
     least: u64,
     bound: u128,
@@ -33,13 +47,15 @@ pub fn drawn_tree(
 {
     let mut draws = Draws::of(seed);
     let mut best = None;
-    for _ in 0..trees_for(whole) {
+    for place in 0..trees_for(whole) {
         let known = least_after(least, &best);
         if bound >= u128::from(known) {
             return Ok(best);
         }
-        let more = draw(alloc, whole, branch, &mut draws, known)?;
-        best = later(best, more);
+        let weights = drawn_weights(alloc, place, arcs, elite, &mut draws)?;
+        let tree = tree_along(alloc, whole, branch, &weights)?;
+        keep(alloc, whole, elite, &tree)?;
+        best = later(best, cheaper(&whole.instance, tree, known));
     }
     Ok(best)
 }
@@ -50,18 +66,55 @@ fn trees_for(whole: &Whole) -> u64 {
     TREES.min(LINKS / links.max(1))
 }
 
-// A tree that costs less than the least cost known, if the next that is drawn does.
-fn draw(
+// Keeps a tree among the cheapest, if there is one.
+fn keep(
     alloc: Global,
     whole: &Whole,
-    branch: &Sides,
-    draws: &mut Draws,
-    least: u64,
-) -> Result<Option<Priced>, AllocError>
-    requires branch { IsBranch whole.now.instance branch.now }
-    ensures { IfOk result (λ better. IfSome better (IsBetter whole.now.instance branch.now least)) }
+    elite: &mut Elite,
+    tree: &Option<Tree>,
+) -> Result<(), AllocError>
+    requires { IfSome tree.now (IsTree whole.now.instance) }
 {
-    let vertices = draws.most_of(alloc, whole.instance.vertices(), ONE_OF)?;
-    let tree = tree_over(alloc, whole, branch, &vertices, u64::MAX)?;
-    Ok(cheaper(&whole.instance, tree, least))
+    match tree {
+        Some(tree) => elite.keep(alloc, &whole.instance, tree),
+        None => Ok(()),
+    }
+}
+
+// By vertex, weights for the tree at this place: in turn of one kind after another.
+fn drawn_weights(
+    alloc: Global,
+    place: u64,
+    arcs: &Arcs,
+    elite: &Elite,
+    draws: &mut Draws,
+) -> Result<Vec<u64>, AllocError> {
+    let kind = place % 3;
+    if kind == 2 && elite.len() > 1 {
+        return elite.between(alloc, arcs.vertices(), draws);
+    }
+    let mut weights: Vec<u64> = vec![in alloc; 0; arcs.vertices() as usize + 1]?;
+    for before in 0..arcs.vertices() {
+        let vertex = before + 1;
+        let (least, more) = if kind == 1 {
+            (weight_by(arcs.arcs_into(vertex)), MORE)
+        } else {
+            DRAWN
+        };
+        put(
+            &mut weights,
+            vertex,
+            least.saturating_add(draws.below(more)),
+        );
+    }
+    Ok(weights)
+}
+
+// What a vertex weighs by what is left of the arcs that lead to it.
+fn weight_by(into: &[Arc]) -> u64 {
+    if into.iter().any(|arc| arc.remaining == 0) {
+        USED_UP
+    } else {
+        NOT_USED_UP
+    }
 }

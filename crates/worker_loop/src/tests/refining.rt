@@ -2,7 +2,7 @@ ghost use Rattle.std.specs.Prelude.{IsTrue};
 ghost use Rattle.st_model.specs.Network.{IsVertex, is_required};
 
 use super::starting::first_required;
-use crate::draws::Draws;
+use crate::effort::Effort;
 use crate::node::no_cuts;
 use crate::refining::{Guide, raise_refined};
 use cut_packing::weight;
@@ -25,11 +25,11 @@ fn refined_weight(
     requires required { IsTrue (is_required whole.now.instance root) }
 {
     let branch = Sides::of(alloc, Branch::all(alloc))?;
-    let mut guide = Guide {
-        known: tree,
-        draws: Draws::of(0),
+    let effort = Effort {
+        seed: 0,
         is_bare: true,
     };
+    let mut guide = Guide::at(tree, u64::MAX, effort);
     let bare = no_cuts(alloc);
     let extension = raise_refined(alloc, whole, &branch, bare, root, least, turns, &mut guide)?;
     let packing = extension.ascent.packing();

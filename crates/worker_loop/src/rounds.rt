@@ -1,0 +1,170 @@
+ghost use Rattle.std.specs.Prelude.{◌≡◌, All, IfOk, IfSome};
+ghost use Rattle.st_model.specs.Branch.{IsBranch, IsVertexSet, LeavesRequired};
+ghost use Rattle.dual_ascent.specs.Extension.{packing_of};
+ghost use Rattle.worker_loop.specs.Raising.{IsExtendable, IsExtendedTo, IsRefined};
+ghost use Rattle.worker_loop.specs.Step.{IsBetter};
+
+use crate::bettering::{gap, later, least_after};
+use crate::effort::Effort;
+use crate::elite::Elite;
+use crate::joints::Joints;
+use crate::raising::raise;
+use crate::refining::{Guide, refine};
+use crate::step::Priced;
+use crate::trees::{Trees, trees_at};
+use cut_packing::Packing;
+use dual_ascent::Extension;
+use graph_store::Whole;
+use st_model::{Sides, Tree};
+use std::alloc::{AllocError, Global};
+
+// After how many rounds in a row without a gain no more follow.
+const PATIENCE: u64 = 2;
+
+/// What is found at a node by refining its packing and looking for trees.
+#[derive(Drop)]
+pub struct Rounds {
+    pub extension: Extension,
+    /// A tree that costs less than the least cost known, if one was found.
+    pub better: Option<Priced>,
+    /// Where the trees branch.
+    pub joints: Joints,
+}
+
+/// Raises a node's packing, and then refines it and looks for trees by turns, as long as that gains
+/// something: a better tree says where to refine, and a better packing where trees are.
+pub fn work_by_rounds(
+    alloc: Global,
+    whole: &Whole,
+    branch: &Sides,
+    packing: Packing,
+    root: u32,
+    least: u64,
+    known: &Tree,
+    effort: Effort,
+) -> Result<Rounds, AllocError>
+    requires able { IsExtendable whole.now.instance branch.now packing root least }
+    ensures extended { IfOk result (λ r. IsExtendedTo whole.now.instance branch.now packing root least r.extension) }
+    ensures better { IfOk result (λ r. IfSome r.better (IsBetter whole.now.instance branch.now least)) }
+{
+    let raised = raise(alloc, whole, branch, packing, root, least)?;
+    let mut elite = Elite::new(alloc);
+    let mut rounds = Rounds {
+        extension: raised,
+        better: None,
+        joints: Joints::of_none(alloc, &whole.instance)?,
+    };
+    let mut idle: u64 = 0;
+    for place in 0..effort.rounds() {
+        let before = left(whole, branch, &rounds, least);
+        if before == 0 || idle >= PATIENCE {
+            break;
+        }
+        let work = effort.of_round(place);
+        rounds = round(
+            alloc, whole, branch, rounds, root, least, known, work, &mut elite,
+        )?;
+        let has_gained = left(whole, branch, &rounds, least) < before;
+        idle = if has_gained {
+            0
+        } else {
+            idle.saturating_add(1)
+        };
+    }
+    Ok(rounds)
+}
+
+// What the packing weighs less than the cheapest tree known costs.
+fn left(whole: &Whole, branch: &Sides, rounds: &Rounds, least: u64) -> u64
+    requires { IsBranch whole.now.instance branch.now }
+{
+    let known = least_after(least, &rounds.better);
+    gap(
+        &whole.instance,
+        branch,
+        rounds.extension.ascent.packing(),
+        known,
+    )
+}
+
+// One more round.
+#[tactic(auto, using(crate::proofs::Found::found_later))]
+fn round(
+    alloc: Global,
+    whole: &Whole,
+    branch: &Sides,
+    rounds: Rounds,
+    root: u32,
+    least: u64,
+    known: &Tree,
+    effort: Effort,
+    elite: &mut Elite,
+) -> Result<Rounds, AllocError>
+    requires branch { IsBranch whole.now.instance branch.now }
+    requires required { LeavesRequired whole.now.instance branch.now }
+    requires sets { All (λ c. IsVertexSet whole.now.instance.n c.set)
+        (packing_of rounds.extension.ascent).cuts }
+    requires better { IfSome rounds.better (IsBetter whole.now.instance branch.now least) }
+    ensures refined { IfOk result (λ r. IsRefined whole.now.instance branch.now root least
+        rounds.extension r.extension) }
+    ensures better { IfOk result (λ r. IfSome r.better (IsBetter whole.now.instance branch.now least)) }
+{
+    let Rounds {
+        extension,
+        better,
+        joints: _,
+    } = rounds;
+    let price = least_after(least, &better);
+    let tree = tree_of(known, &better);
+    let extension = refined(
+        alloc, whole, branch, extension, root, least, tree, price, effort,
+    )?;
+    let Trees {
+        better: more,
+        joints,
+    } = trees_at(alloc, whole, branch, &extension, tree, price, effort, elite)?;
+    Ok(Rounds {
+        extension,
+        better: later(better, more),
+        joints,
+    })
+}
+
+// An extension, refined by a tree that costs so much.
+fn refined(
+    alloc: Global,
+    whole: &Whole,
+    branch: &Sides,
+    extension: Extension,
+    root: u32,
+    least: u64,
+    known: &Tree,
+    price: u64,
+    effort: Effort,
+) -> Result<Extension, AllocError>
+    requires branch { IsBranch whole.now.instance branch.now }
+    requires required { LeavesRequired whole.now.instance branch.now }
+    requires sets { All (λ c. IsVertexSet whole.now.instance.n c.set) (packing_of extension.ascent).cuts }
+    ensures { IfOk result (IsRefined whole.now.instance branch.now root least extension) }
+{
+    let mut guide = Guide::at(known, price, effort);
+    let refined = refine(
+        alloc,
+        whole,
+        branch,
+        extension,
+        root,
+        least,
+        effort.turns(),
+        &mut guide,
+    )?;
+    Ok(refined)
+}
+
+/// The better tree, if there is one, and else the one known before.
+pub fn tree_of<'a>(known: &'a Tree, better: &'a Option<Priced>) -> &'a Tree {
+    match better {
+        Some(found) => &found.tree,
+        None => known,
+    }
+}
