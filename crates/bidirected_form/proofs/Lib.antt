@@ -2,4 +2,4 @@ pub mod RowLemmas
 pub mod Lookups
 pub mod Built
 pub mod Entered
-pub mod Charged
+pub mod Altered

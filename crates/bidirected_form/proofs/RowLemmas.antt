@@ -6,7 +6,8 @@ use Rattle.std.proofs.lemmas.List.Edits.{split_between, map_over_more}
 use Rattle.std.proofs.lemmas.Slice.{between_is, take-put_mid_below, drop-put_mid, between-put_mid}
 use borrow.Rule.Slice.PartMut.{put_mid}
 use Rattle.bidirected_form.specs.declared.arc.Arc.{Arc}
-use Rattle.bidirected_form.specs.Rows.{rows_from, row_of, lowered, IsLaidOut}
+use Rattle.bidirected_form.specs.declared.change.Change.{Change}
+use Rattle.bidirected_form.specs.Rows.{rows_from, row_of, after, altered, IsLaidOut}
 
 -- each row ends where it begins or later, and not past the end
 pub row_within : (b : ℕ) (es : List ℕ) (last v : ℕ) → v < length es → IsLaidOut b es last → (get_or (b ∷ es) v 0 ≤ get_or es v 0) × (get_or es v 0 ≤ last)
@@ -71,10 +72,10 @@ pub tails_kept : (f : Arc → Arc) → ((a : Arc) → (f a).tail ≡ a.tail) →
 tails_kept f keeps [] = refl
 tails_kept f keeps (a ∷ arcs) = rw (keeps a, tails_kept f keeps arcs)
 
-pub lowered_tail : (marks : List Bool) (by : ℕ) (a : Arc) → (lowered marks by a).tail ≡ a.tail
-lowered_tail marks by a = by_case (get_or marks a.tail false) refl
+pub altered_tail : (marks : List Bool) (change : Change) (a : Arc) → (altered marks change a).tail ≡ a.tail
+altered_tail marks change a = by_case (get_or marks a.tail false) refl
   where
-    by_case : (b : Bool) → get_or marks a.tail false ≡ b → (lowered marks by a).tail ≡ a.tail
+    by_case : (b : Bool) → get_or marks a.tail false ≡ b → (altered marks change a).tail ≡ a.tail
     by_case true e = rw e refl
     by_case false e = rw e refl
 
@@ -137,16 +138,16 @@ written_tails arcs begin end f keeps rise =
     map-append tail_of (take begin arcs) (map f (slice_range arcs begin end) ++ drop end arcs) ∙ ap (λ (l : List ℕ). map tail_of (take begin arcs) ++ l) (map-append tail_of (map f (slice_range arcs begin end)) (drop end arcs) ∙ ap (λ (l : List ℕ). l ++ map tail_of (drop end arcs)) (tails_kept f keeps (slice_range arcs begin end)))
     ∙ ap (λ (l : List ℕ). map tail_of (take begin arcs) ++ l) (sym (map-append tail_of (slice_range arcs begin end) (drop end arcs))) ∙ sym (map-append tail_of (take begin arcs) (slice_range arcs begin end ++ drop end arcs)) ∙ ap (map tail_of) (sym (split_between arcs begin end rise))
 
--- an arc from a vertex without a mark is lowered
-pub lowered_free : (marks : List Bool) (by : ℕ) (a : Arc) → IsFalse (get_or marks a.tail false) → lowered marks by a ≡ record { tail = a.tail; remaining = a.remaining - by }
-lowered_free marks by a free = rw free refl
+-- an arc from a vertex without a mark is altered
+pub altered_free : (marks : List Bool) (change : Change) (a : Arc) (left : ℕ) → IsFalse (get_or marks a.tail false) → left ≡ after change a.remaining → altered marks change a ≡ record { tail = a.tail; remaining = left }
+altered_free marks change a left free is = rw (free, is) refl
 
 -- and one from a vertex with a mark isn't
-pub lowered_marked : (marks : List Bool) (by : ℕ) (a : Arc) → IsTrue (get_or marks a.tail false) → lowered marks by a ≡ a
-lowered_marked marks by a marked = rw marked refl
+pub altered_marked : (marks : List Bool) (change : Change) (a : Arc) → IsTrue (get_or marks a.tail false) → altered marks change a ≡ a
+altered_marked marks change a marked = rw marked refl
 
--- one arc more is lowered
-pub lowered_more : (marks : List Bool) (by : ℕ) (before now : List Arc) (i : ℕ) (d new : Arc) → i < length before → length now ≡ length before → now ≡ map (lowered marks by) (take i before) ++ drop i before → lowered marks by (get_or now i d) ≡ new → set now i new ≡ map (lowered marks by) (take (i + 1) before) ++ drop (i + 1) before
-lowered_more marks by before now i d new below same h e =
+-- one arc more is altered
+pub altered_more : (marks : List Bool) (change : Change) (before now : List Arc) (i : ℕ) (d new : Arc) → i < length before → length now ≡ length before → now ≡ map (altered marks change) (take i before) ++ drop i before → altered marks change (get_or now i d) ≡ new → set now i new ≡ map (altered marks change) (take (i + 1) before) ++ drop (i + 1) before
+altered_more marks change before now i d new below same h e =
     let within : i < length now = omega arith in
-    rw (← e) (map_over_more (lowered marks by) before now i (get_or now i d) below h (get_or_default now i d (get_or now i d) within))
+    rw (← e) (map_over_more (altered marks change) before now i (get_or now i d) below h (get_or_default now i d (get_or now i d) within))

@@ -4,10 +4,12 @@ ghost use Rattle.st_model.specs.Lists.{has};
 ghost use Rattle.st_model.specs.Network.{IsVertex};
 ghost use Rattle.bidirected_form.specs.Bidirected.{kind_in, arc_cost};
 ghost use Rattle.bidirected_form.specs.Digraph.{kind_of, arcs_into, neighbours, remaining, IsDigraph};
-ghost use Rattle.bidirected_form.specs.Entering.{IsEntering, IsBefore, CanBear, Charges};
+ghost use Rattle.bidirected_form.specs.Entering.{Alters, IsEntering, IsBefore, CanBear, Charges, HasRoom, Returns};
+ghost use Rattle.bidirected_form.specs.Rows.{after, CanAlter};
 
 use crate::building::{kinds_of, no_marks, rows_of};
-use crate::entering::{entering_arcs, lower_entering};
+use crate::change::Change;
+use crate::entering::{alter_entering, entering_arcs};
 use crate::marks::{mark, unmark};
 use crate::rows::{Rows, find};
 use crate::{Arc, VertexKind};
@@ -62,6 +64,19 @@ impl Arcs {
             kinds,
             rows,
             marks,
+        })
+    }
+
+    /// The same arcs, with as much left of each.
+    pub fn copied(&self, alloc: Global) -> Result<Arcs, AllocError>
+        ensures { IfOk result (λ copy. copy ≡ self.now) }
+    {
+        Ok(Arcs {
+            root: self.root,
+            vertices: self.vertices,
+            kinds: Vec::from_slice(alloc, &self.kinds)?,
+            rows: self.rows.copied(alloc)?,
+            marks: Vec::from_slice(alloc, &self.marks)?,
         })
     }
 
@@ -141,8 +156,26 @@ impl Arcs {
         requires enough { CanBear self.old set.now y }
         ensures { Charges self.old self.new set.now y }
     {
+        self.alter(set, Change::Take(y));
+    }
+
+    /// Gives so much back to each arc that enters a set: the reverse of `charge`, in as much time.
+    pub fn give_back(&mut self, set: &[u32], y: u64)
+        requires set { IsVertexSet self.old.n set.now }
+        requires room { HasRoom self.old set.now y }
+        ensures { Returns self.old self.new set.now y }
+    {
+        self.alter(set, Change::Give(y));
+    }
+
+    // Changes what remains of each arc that enters a set.
+    fn alter(&mut self, set: &[u32], change: Change)
+        requires set { IsVertexSet self.old.n set.now }
+        requires allowed { CanAlter self.old set.now change }
+        ensures { Alters self.old self.new set.now (after change) }
+    {
         mark(&mut self.marks, set);
-        lower_entering(&mut self.rows, &self.marks, set, y);
+        alter_entering(&mut self.rows, &self.marks, set, change);
         unmark(&mut self.marks, set);
     }
 }

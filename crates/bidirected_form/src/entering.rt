@@ -1,24 +1,25 @@
 ghost use Rattle.std.specs.Prelude.{◌≡◌, ℕ, ◌+◌, ◌<◌, ◌≤◌, ◌↔◌, ◌++◌, false, IsTrue, IsFalse, IsSome, IfOk, OnOk, length, map, All, AllPairs, Contains, slice_index_or, if◌then◌else◌};
 ghost use Rattle.st_model.specs.Branch.{IsVertexSet};
 ghost use Rattle.st_model.specs.Lists.{has};
-ghost use Rattle.bidirected_form.specs.Rows.{row_of, lowered, unmarked, IsEnough};
+ghost use Rattle.bidirected_form.specs.Rows.{row_of, altered, unmarked, IsAllowed};
 ghost use Rattle.bidirected_form.specs.Digraph.{left_from};
 ghost use Rattle.bidirected_form.specs.Entering.{IsBefore};
 
 use crate::arc::Arc;
+use crate::change::Change;
 use crate::rows::{Rows, is_marked};
 use std::alloc::{AllocError, Global};
 
-// Lowers the arcs into the vertices of a set from vertices without a mark.
-pub fn lower_entering(rows: &mut Rows, marks: &[bool], set: &[u32], by: u64)
+// Changes the arcs into the vertices of a set from vertices without a mark.
+pub fn alter_entering(rows: &mut Rows, marks: &[bool], set: &[u32], change: Change)
     requires set { (n : ℕ) × IsVertexSet n set.now × (length rows.old ≡ n + 1) }
-    requires enough { (v : ℕ) → IsTrue (has set.now v) → All (IsEnough marks.now by) (row_of rows.old v) }
+    requires allowed { (v : ℕ) → IsTrue (has set.now v) → All (IsAllowed marks.now change) (row_of rows.old v) }
     ensures length { length rows.new ≡ length rows.old }
-    ensures lowered { (v : ℕ) → row_of rows.new v
-        ≡ (if has set.now v then map (lowered marks.now by) (row_of rows.old v) else row_of rows.old v) }
+    ensures altered { (v : ℕ) → row_of rows.new v
+        ≡ (if has set.now v then map (altered marks.now change) (row_of rows.old v) else row_of rows.old v) }
 {
     for vertex in set {
-        rows.lower(*vertex, marks, by);
+        rows.alter(*vertex, marks, change);
     }
 }
 

@@ -1,8 +1,9 @@
 ghost use Rattle.std.specs.Prelude.{◌≡◌, ◌-◌, ◌<◌, ◌≤◌, false, [], length, map, All, AllPairs, IfOk, slice_index_or, slice_range, slice_set, take, drop, ◌++◌};
-ghost use Rattle.bidirected_form.specs.Rows.{rows_from, row_of, lowered, IsLaidOut, IsEnough};
+ghost use Rattle.bidirected_form.specs.Rows.{rows_from, row_of, altered, IsLaidOut, IsAllowed};
 ghost use Rattle.bidirected_form.specs.Digraph.{left_from};
 
 use crate::arc::Arc;
+use crate::change::Change;
 use std::alloc::{AllocError, Global};
 use std::marker::Model;
 
@@ -39,6 +40,17 @@ impl Rows {
         Ok(Rows { ends, arcs, tails })
     }
 
+    // The same arcs.
+    pub fn copied(&self, alloc: Global) -> Result<Rows, AllocError>
+        ensures { IfOk result (λ copy. copy ≡ self.now) }
+    {
+        Ok(Rows {
+            ends: Vec::from_slice(alloc, &self.ends)?,
+            arcs: Vec::from_slice(alloc, &self.arcs)?,
+            tails: Vec::from_slice(alloc, &self.tails)?,
+        })
+    }
+
     // The arcs into a vertex.
     pub fn row(&self, vertex: u32) -> &[Arc]
         requires some { 1 ≤ vertex }
@@ -59,15 +71,15 @@ impl Rows {
         part(&self.tails, begin, end)
     }
 
-    // Lowers the arcs into a vertex from vertices without a mark.
-    pub fn lower(&mut self, vertex: u32, marks: &[bool], by: u64)
+    // Changes the arcs into a vertex from vertices without a mark.
+    pub fn alter(&mut self, vertex: u32, marks: &[bool], change: Change)
         requires some { 1 ≤ vertex }
         requires few { vertex < length self.old }
-        requires enough { All (IsEnough marks.now by) (row_of self.old vertex) }
-        ensures { self.new ≡ slice_set self.old vertex (map (lowered marks.now by) (row_of self.old vertex)) }
+        requires allowed { All (IsAllowed marks.now change) (row_of self.old vertex) }
+        ensures { self.new ≡ slice_set self.old vertex (map (altered marks.now change) (row_of self.old vertex)) }
     {
         let (begin, end) = bounds(&self.ends, vertex);
-        lower_part(&mut self.arcs, begin, end, marks, by);
+        alter_part(&mut self.arcs, begin, end, marks, change);
     }
 }
 
@@ -90,25 +102,25 @@ fn part<T>(items: &[T], begin: usize, end: usize) -> &[T]
     &items[begin..end]
 }
 
-// Lowers the arcs from a place up to another one that come from vertices without a mark.
-fn lower_part(arcs: &mut Vec<Arc>, begin: usize, end: usize, marks: &[bool], by: u64)
+// Changes the arcs from a place up to another one that come from vertices without a mark.
+fn alter_part(arcs: &mut Vec<Arc>, begin: usize, end: usize, marks: &[bool], change: Change)
     requires rise { begin ≤ end }
     requires within { end ≤ length arcs.old.items }
-    requires enough { All (IsEnough marks.now by) (slice_range arcs.old.items begin end) }
-    ensures { arcs.new.items ≡ take begin arcs.old.items ++ (map (lowered marks.now by)
+    requires allowed { All (IsAllowed marks.now change) (slice_range arcs.old.items begin end) }
+    ensures { arcs.new.items ≡ take begin arcs.old.items ++ (map (altered marks.now change)
         (slice_range arcs.old.items begin end) ++ drop end arcs.old.items) }
 {
-    lower_all(&mut arcs[begin..end], marks, by);
+    alter_all(&mut arcs[begin..end], marks, change);
 }
 
-// Lowers the arcs from vertices without a mark.
-fn lower_all(arcs: &mut [Arc], marks: &[bool], by: u64)
-    requires { All (IsEnough marks.now by) arcs.old }
-    ensures { arcs.new ≡ map (lowered marks.now by) arcs.old }
+// Changes the arcs from vertices without a mark.
+fn alter_all(arcs: &mut [Arc], marks: &[bool], change: Change)
+    requires { All (IsAllowed marks.now change) arcs.old }
+    ensures { arcs.new ≡ map (altered marks.now change) arcs.old }
 {
     for arc in arcs.iter_mut() {
         if !is_marked(marks, arc.tail) {
-            arc.remaining -= by;
+            arc.remaining = change.applied(arc.remaining);
         }
     }
 }

@@ -1,4 +1,4 @@
-ghost use Rattle.std.specs.Prelude.{◌≡◌, ◌≤◌, ◌↔◌, IfOk, IsTrue, IsFalse, All, unwrap_or};
+ghost use Rattle.std.specs.Prelude.{◌≡◌, ◌+◌, ◌^◌, ◌<◌, ◌≤◌, ◌↔◌, IfOk, IsTrue, IsFalse, All, unwrap_or};
 ghost use Rattle.st_model.specs.Branch.{IsVertexSet};
 ghost use Rattle.st_model.specs.Lists.{has};
 ghost use Rattle.bidirected_form.specs.Digraph.{remaining};
@@ -117,6 +117,50 @@ fn charges_what_enters(rt: HostRuntime) -> Result<(), Fail> {
         (1, 3, Some(4)),
     ] {
         assert_eq!(rt; arcs.remaining(u, v), left, "from {u} to {v}");
+    }
+    Ok(())
+}
+
+// What remains of an arc and so much more fit in 64 bits.
+fn takes(arcs: &Arcs, arc: (u32, u32), y: u64) -> bool
+    ensures { IsTrue result ↔ (unwrap_or (remaining arcs.now arc.0 arc.1) 0 + y < 2 ^ 64) }
+{
+    arcs.remaining(arc.0, arc.1).unwrap_or(0) <= u64::MAX - y
+}
+
+fn all_take(arcs: &Arcs, entering: &[(u32, u32)], y: u64) -> bool
+    ensures { IsTrue result ↔ All (λ arc. unwrap_or (remaining arcs.now arc.0 arc.1) 0 + y < 2 ^ 64) entering.now }
+{
+    entering.iter().all(|arc| takes(arcs, *arc, y))
+}
+
+// Gives so much back to the arcs that enter a set, if it fits.
+fn give_back(alloc: Global, arcs: &mut Arcs, set: &[u32], y: u64) -> Result<(), AllocError>
+    requires set { IsVertexSet arcs.old.n set.now }
+    ensures { arcs.new.n ≡ arcs.old.n }
+{
+    let entering = arcs.entering(alloc, set)?;
+    if all_take(arcs, &entering, y) {
+        arcs.give_back(set, y);
+    }
+    Ok(())
+}
+
+#[test]
+fn gives_back_to_what_enters(rt: HostRuntime) -> Result<(), Fail> {
+    let mut arcs = triangle(rt.alloc(), &[])?;
+    charge(rt.alloc(), &mut arcs, &[2], 2)?;
+    let copy = arcs.copied(rt.alloc())?;
+    give_back(rt.alloc(), &mut arcs, &[2], 1)?;
+    for (u, v, left, left_before) in [
+        (4, 2, Some(1), Some(0)),
+        (1, 2, Some(3), Some(2)),
+        (2, 1, Some(4), Some(4)),
+        (2, 4, Some(2), Some(2)),
+        (1, 3, Some(4), Some(4)),
+    ] {
+        assert_eq!(rt; arcs.remaining(u, v), left, "from {u} to {v}");
+        assert_eq!(rt; copy.remaining(u, v), left_before, "before from {u} to {v}");
     }
     Ok(())
 }

@@ -3,12 +3,12 @@ ghost use Rattle.st_model.specs.Branch.{IsVertexSet};
 ghost use Rattle.st_model.specs.Lists.{has};
 ghost use Rattle.st_model.specs.Network.{IsVertex};
 
-use super::charge;
 use super::drawn::{Case, draw_case, draw_set, holds};
 use super::plain::{
     Table, least_remaining, lower, plain_arcs_into, plain_entering, plain_kind, plain_neighbours,
-    plain_remaining, plain_table,
+    plain_remaining, plain_table, raise,
 };
+use super::{charge, give_back};
 use crate::Arcs;
 use graph_store::Store;
 use st_model::{Branch, Listed, Sides};
@@ -132,6 +132,23 @@ fn charge_both(
     Ok(())
 }
 
+// Gives so much back to a set in both.
+fn give_both(
+    alloc: Global,
+    arcs: &mut Arcs,
+    table: &mut Table,
+    set: &[bool],
+    y: u64,
+) -> Result<(), AllocError>
+    requires { arcs.old.n ≡ 6 }
+    ensures { arcs.new.n ≡ 6 }
+{
+    let list = vertex_set(alloc, set)?;
+    let plain = plain_entering(alloc, table, set)?;
+    raise(table, &plain, y);
+    give_back(alloc, arcs, &list, y)
+}
+
 fn without(mut set: [bool; 7], vertex: u32) -> [bool; 7] {
     if let Some(mark) = set.get_mut(vertex as usize) {
         *mark = false;
@@ -139,7 +156,7 @@ fn without(mut set: [bool; 7], vertex: u32) -> [bool; 7] {
     set
 }
 
-// Charges a drawn set; whether all is as in the plain program before and after.
+// Charges a drawn set and gives back to one; whether all is as in the plain program before and after.
 fn same_turn(
     alloc: Global,
     draws: &mut Draws,
@@ -154,10 +171,11 @@ fn same_turn(
     }
     let set = without(draw_set(draws, 4), arcs.root());
     charge_both(alloc, arcs, table, &set, draws.below_ten())?;
+    give_both(alloc, arcs, table, &draw_set(draws, 4), draws.below(3))?;
     Ok(same_remaining(arcs, table) && same_arcs_into(alloc, arcs, table)?)
 }
 
-// Whether a drawn case, and six charges of it, are as in the plain program.
+// Whether a drawn case, six turns with it, and a copy of it are as in the plain program.
 fn agrees(alloc: Global, seed: u64) -> Result<bool, AllocError> {
     let mut draws = Draws { state: seed };
     let case = draw_case(alloc, &mut draws)?;
@@ -172,7 +190,13 @@ fn agrees(alloc: Global, seed: u64) -> Result<bool, AllocError> {
             return Ok(false);
         }
     }
-    Ok(same_kinds(&case, &arcs) && arcs.root() == root && arcs.vertices() == 6)
+    let copy = arcs.copied(alloc)?;
+    Ok(
+        same_kinds(&case, &copy)
+            && same_remaining(&copy, &table)
+            && copy.root() == root
+            && copy.vertices() == 6,
+    )
 }
 
 #[test]

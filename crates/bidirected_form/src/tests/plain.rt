@@ -102,3 +102,11 @@ pub fn lower(table: &mut Table, arcs: &[(u32, u32)], y: u64) {
         }
     }
 }
+
+pub fn raise(table: &mut Table, arcs: &[(u32, u32)], y: u64) {
+    for (u, v) in arcs {
+        if let Some(Some(left)) = table.get_mut(place(*u, *v)) {
+            *left = left.saturating_add(y);
+        }
+    }
+}

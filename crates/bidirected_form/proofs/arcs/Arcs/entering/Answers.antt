@@ -7,7 +7,7 @@ use Rattle.st_model.specs.Lists.{has}
 use Rattle.bidirected_form.specs.Digraph.{left_from}
 use Rattle.bidirected_form.specs.Entering.{IsEntering}
 use Rattle.bidirected_form.specs.Rows.{row_of}
-use Rattle.bidirected_form.proofs.Charged.{marks_set, marks_gone, entering_is}
+use Rattle.bidirected_form.proofs.Altered.{marks_set, marks_gone, entering_is}
 use Rattle.bidirected_form.proofs.arcs.Arcs.entering.Goals as goal
 
 pub entering_arcs-found-requires-clause-ascending : goal.entering_arcs-found-requires-clause-ascending
