@@ -1,13 +1,13 @@
 -- Ends by their numbers.
-use Rattle.std.proofs.Common.{◌≡◌, ℕ, suc, ◌+◌, ◌-◌, ◌<◌, ◌≤◌, Bool, true, false, eqb, List, [], ◌∷◌, length, get_or, map, filter, cond, inl, inr, ◌⊎◌, refl, sym, ap, ◌∙◌, subst, arith}
-use Rattle.std.specs.Prelude.{All, IsTrue, nat_le}
+use Rattle.std.proofs.Common.{◌≡◌, ◌≢◌, ℕ, suc, ◌+◌, ◌-◌, ◌<◌, ◌≤◌, Bool, true, false, eqb, List, [], ◌∷◌, length, get_or, set, get_or-set_same, get_or-set_other, map, filter, cond, inl, inr, ◌⊎◌, refl, sym, ap, ◌∙◌, subst, arith}
+use Rattle.std.specs.Prelude.{All, IsTrue, nat_le, ◌==◌, if◌then◌else◌}
 use Rattle.std.specs.List.{AllByRecursion}
-use Rattle.std.proofs.lemmas.Bool.{eqb-true, false≢true, or_cases, or_left, or_right}
+use Rattle.std.proofs.lemmas.Bool.{cases_eq, eqb-true, eq-eqb, ne_eqb, false≢true, or_cases, or_left, or_right}
 use Rattle.std.proofs.lemmas.Bool.Decides.{nat_tests}
 use Rattle.std.proofs.lemmas.List.Elements.{recursion_from_All}
 use Rattle.st_model.specs.Lists.{has}
 use Rattle.st_model.specs.Network.{IsVertex}
-use Rattle.prize_transform.specs.Twins.{numbered_from, is_end, has_end, vertex_of}
+use Rattle.prize_transform.specs.Twins.{numbered_from, is_end, has_end, vertex_of, Returns}
 
 -- what is known of an end by its number
 pub record IsAt (s : ℕ) (ends : List (ℕ × ℕ)) (end : ℕ) : Type 0 where
@@ -83,3 +83,11 @@ has-filter p (x ∷ xs) v there passes = by_case (λ (h : IsTrue (has xs v)). ha
 
 pub within_range : (n v : ℕ) → IsVertex n v → nat_le v n ≡ true
 within_range n v range = let few = range.1 in grind (arith, nat_tests)
+
+-- so much more is left where one number is written
+pub given_back : (n : ℕ) (ends : List (ℕ × ℕ)) (left : List ℕ) (q y old : ℕ) → q < length left → old ≡ get_or left q 0 → Returns (record { n = n; ends = ends; left = left }) (record { n = n; ends = ends; left = set left q (old + y) }) q y
+given_back n ends left q y old below is = record { count = refl; ends = refl; left = λ v. by_case v (cases_eq q v) }
+  where
+    by_case : (v : ℕ) → (q ≡ v) ⊎ (q ≢ v) → get_or (set left q (old + y)) v 0 ≡ (if v == q then get_or left q 0 + y else get_or left v 0)
+    by_case v (inl same) = subst (λ (w : ℕ). get_or (set left q (old + y)) w 0 ≡ (if w == q then get_or left q 0 + y else get_or left w 0)) same (rw (get_or-set_same left q (old + y) 0 below, eq-eqb q q refl) (ap (λ (k : ℕ). k + y) is))
+    by_case v (inr differ) = rw (get_or-set_other left q v (old + y) 0 (λ e. differ (sym e)), ne_eqb v q (λ e. differ (sym e))) refl

@@ -60,8 +60,16 @@ pub record AreTwins (E : Ends) : Type 0 where
   -- no end, nothing left
   pub none : (v : ℕ) → has_end E.ends v ≡ false → left_of E v ≡ 0
 
--- so much less is left for one vertex, and all else is as before
-pub record Charges (old new : Ends) (q y : ℕ) : Type 0 where
+-- what is left for one vertex becomes this of what it was, and all else is as before
+pub record Alters (old new : Ends) (q : ℕ) (f : ℕ → ℕ) : Type 0 where
   pub count : new.n ≡ old.n
   pub ends : new.ends ≡ old.ends
-  pub left : (v : ℕ) → left_of new v ≡ (if v == q then left_of old q - y else left_of old v)
+  pub left : (v : ℕ) → left_of new v ≡ (if v == q then f (left_of old q) else left_of old v)
+
+-- so much less is left for one vertex, and all else is as before
+abbrev pub Charges : Ends → Ends → ℕ → ℕ → Type 0
+Charges old new q y = Alters old new q (λ left. left - y)
+
+-- so much more is left for one vertex, and all else is as before
+abbrev pub Returns : Ends → Ends → ℕ → ℕ → Type 0
+Returns old new q y = Alters old new q (λ left. left + y)

@@ -2,7 +2,7 @@
 //!
 //! `Twins` is seen as the ends and what is left for each vertex. A caller may rely on the ends'
 //! numbers, which go on from the last vertex in the order of the vertices, and on each charge
-//! lowering one number and nothing else.
+//! lowering one number and nothing else, which giving back raises again.
 #![tactic(auto)]
 
 mod sets;

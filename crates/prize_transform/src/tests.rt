@@ -99,3 +99,23 @@ fn goes_back_to_the_vertex(rt: HostRuntime) -> Result<(), Fail> {
     }
     Ok(())
 }
+
+// Gives so much back to a vertex, if it has an end and there is room.
+fn give_back(twins: &mut Twins, q: u32, y: u64) {
+    if ends_at(twins, q) && twins.left(q) <= u64::MAX - y {
+        twins.give_back(q, y);
+    }
+}
+
+#[test]
+fn gives_back_to_the_one_end(rt: HostRuntime) -> Result<(), Fail> {
+    let mut twins = twins_of_pair(rt.alloc())?;
+    charge(&mut twins, 1, 3);
+    let copy = twins.copied(rt.alloc())?;
+    give_back(&mut twins, 1, 2);
+    assert_eq!(rt; twins.left(1), 2);
+    assert_eq!(rt; twins.left(2), 0);
+    assert_eq!(rt; copy.left(1), 0);
+    assert_eq!(rt; copy.ends(), twins.ends());
+    Ok(())
+}

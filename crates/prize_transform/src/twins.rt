@@ -1,7 +1,7 @@
-ghost use Rattle.std.specs.Prelude.{◌≡◌, ℕ, ◌+◌, ◌++◌, ◌∷◌, [], ◌<◌, ◌≤◌, IsTrue, IfOk, OnOk, length, filter, nat_le, nat_lt, if◌then◌else◌};
+ghost use Rattle.std.specs.Prelude.{◌≡◌, ℕ, ◌+◌, ◌^◌, ◌++◌, ◌∷◌, [], ◌<◌, ◌≤◌, IsTrue, IfOk, OnOk, length, filter, nat_le, nat_lt, if◌then◌else◌};
 ghost use Rattle.st_model.specs.Lists.{has};
 ghost use Rattle.st_model.specs.Network.{IsVertex};
-ghost use Rattle.prize_transform.specs.Twins.{left_of, is_end, vertex_of, has_end, prized, numbered_from, prize_in, AreTwins, Charges};
+ghost use Rattle.prize_transform.specs.Twins.{left_of, is_end, vertex_of, has_end, prized, numbered_from, prize_in, AreTwins, Charges, Returns};
 
 use crate::sets::below;
 use bidirected_form::{Arcs, VertexKind};
@@ -50,6 +50,17 @@ impl Twins {
         })
     }
 
+    /// The same ends, with as much left for each.
+    pub fn copied(&self, alloc: Global) -> Result<Twins, AllocError>
+        ensures { IfOk result (λ copy. copy ≡ self.now) }
+    {
+        Ok(Twins {
+            vertices: self.vertices,
+            ends: Vec::from_slice(alloc, &self.ends)?,
+            left: Vec::from_slice(alloc, &self.left)?,
+        })
+    }
+
     /// Each end with its vertex, ascending.
     pub fn ends(&self) -> &[(u32, u32)]
         ensures all { result.now ≡ self.now.ends }
@@ -72,6 +83,16 @@ impl Twins {
         ensures { Charges self.old self.new q y }
     {
         self.left[q as usize] -= y;
+    }
+
+    /// Gives so much of a vertex's prize back: the reverse of `charge`.
+    pub fn give_back(&mut self, q: u32, y: u64)
+        requires end { IsTrue (has_end self.old.ends q) }
+        requires room { left_of self.old q + y < 2 ^ 64 }
+        ensures { Returns self.old self.new q y }
+    {
+        let left = self.left(q);
+        self.left[q as usize] = left + y;
     }
 
     /// The vertices of a set that holds an end and its vertex, without its ends, and that vertex.

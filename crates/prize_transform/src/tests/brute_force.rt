@@ -1,6 +1,6 @@
 ghost use Rattle.st_model.specs.Network.{IsVertex};
 
-use super::{charge, go_back};
+use super::{charge, give_back, go_back};
 use crate::Twins;
 use bidirected_form::Arcs;
 use graph_store::Store;
@@ -97,6 +97,14 @@ fn lower(prizes: &mut [(u32, u64)], v: u32, y: u64) {
     }
 }
 
+fn raise(prizes: &mut [(u32, u64)], v: u32, y: u64) {
+    for (q, left) in prizes.iter_mut() {
+        if *q == v {
+            *left = left.saturating_add(y);
+        }
+    }
+}
+
 fn plain_vertices(alloc: Global, list: &[u32]) -> Result<Vec<u32>, AllocError> {
     let mut vertices = Vec::new(alloc);
     for v in list {
@@ -135,13 +143,17 @@ fn same_back(
     Ok(true)
 }
 
-// Whether what is left after drawn charges is as in the plain program.
+// Whether what is left is as in the plain program after drawn charges, each of which is followed by
+// giving back to a drawn vertex.
 fn same_charges(draws: &mut Draws, twins: &mut Twins, prizes: &mut [(u32, u64)]) -> bool {
     for _turn in 0..9 {
         let q = draws.below_ten() as u32 + 1;
         let y = draws.below_ten().min(plain_left(prizes, q));
         charge(twins, q, y);
         lower(prizes, q, y);
+        let other = draws.below_ten() as u32 + 1;
+        give_back(twins, other, 1);
+        raise(prizes, other, 1);
         if !same_left(twins, prizes) {
             return false;
         }
