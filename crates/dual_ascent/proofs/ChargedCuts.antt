@@ -67,6 +67,14 @@ before_taking (Some s) less r e = (s, refl, let rest : s - less ≡ r = cc in re
 pub kinds_kept : (D D' : Digraph) (cuts : List Cut) → AreLowered D D' cuts → (v : ℕ) → kind_of D' v ≡ kind_of D v
 kinds_kept D D' cuts lowered v = rw lowered.kinds refl
 
+-- the ends are still those of the vertices that may be left out
+pub ends_after : (D D' : Digraph) (E E' : Ends) (cuts : List Cut) → AreLowered D D' cuts → AreSpent E E' cuts → AreEndsOf D E → AreEndsOf D' E'
+ends_after D D' E E' cuts lowered spent ends = record {
+  count = spent.count ∙ ends.count ∙ sym lowered.count;
+  ends = rw (lowered.count, lowered.kinds) (spent.ends ∙ ends.ends);
+  within = λ v. omega (arith, spent.left v, ends.within v, ap prize_for (kinds_kept D D' cuts lowered v));
+}
+
 -- what is raisable over what they leave is raisable after them
 pub raisable_after : (D D' : Digraph) (E E' : Ends) (cuts : List Cut) → AreLowered D D' cuts → AreSpent E E' cuts → (v : ℕ) → IsRaisable D' E' [] v → IsRaisable D E cuts v
 raisable_after D D' E E' cuts lowered spent v (inl must) = inl (sym (kinds_kept D D' cuts lowered v) ∙ must)

@@ -1,56 +1,35 @@
 -- What an ascent over what a packing leaves makes of it.
-use Rattle.std.proofs.Common.{◌≡◌, ◌≢◌, ℕ, ◌+◌, ◌-◌, ◌^◌, ◌<◌, ◌≤◌, Bool, true, false, length, get_or, Some, inl, inr, refl, sym, ap, ◌∙◌, subst, arith}
-use Rattle.std.specs.Prelude.{IsTrue, IsFalse}
+use Rattle.std.proofs.Common.{◌≡◌, ◌≢◌, ℕ, ◌+◌, ◌-◌, ◌^◌, ◌<◌, ◌≤◌, length, get_or, Some, inr, sym, ap, ◌∙◌, subst, arith}
+use Rattle.std.specs.Prelude.{All, IsFalse}
 use Rattle.std.specs.Option.{option_map}
-use Rattle.std.proofs.lemmas.Bool.{cases_Bool, both_ways}
-use Rattle.std.proofs.lemmas.List.Elements.{All-append, All-weaker, recursion_from_All}
+use Rattle.std.proofs.lemmas.List.Elements.{All-append}
 use Rattle.st_model.specs.declared.branch.Branch.{Branch}
 use Rattle.st_model.specs.Lists.{has}
-use Rattle.st_model.specs.Branch.{IsVertexSet, is_certain}
+use Rattle.st_model.specs.Branch.{IsVertexSet}
+use Rattle.st_model.specs.Network.{IsVertex}
 use Rattle.graph_store.specs.Graph.{Graph, IsGraph}
 use Rattle.bidirected_form.specs.declared.kind.VertexKind.TheVariants.{Must}
-use Rattle.bidirected_form.specs.Bidirected.{is_open, kind_in, arc_cost}
+use Rattle.bidirected_form.specs.Bidirected.{kind_in, arc_cost}
 use Rattle.bidirected_form.specs.Digraph.{Digraph, kind_of, remaining}
 use Rattle.prize_transform.specs.Twins.{Ends, left_of, prize_for, prize_in}
-use Rattle.cut_packing.specs.declared.cut.Cut.{Cut}
 use Rattle.cut_packing.specs.declared.packing.Packing.{Packing}
-use Rattle.cut_packing.specs.Packing.{load, named, CutFits, Fits, weight}
-use Rattle.cut_packing.proofs.Duality.{named_vertex}
+use Rattle.cut_packing.specs.Packing.{load, named, Fits, weight}
+use Rattle.dual_ascent.specs.declared.ascent.Ascent.{Ascent}
 use Rattle.dual_ascent.specs.declared.ascent.Ascent.TheVariants.{Full, Reached}
 use Rattle.graph_store.specs.Whole.{IsWhole}
-use Rattle.dual_ascent.specs.Left.{AreBorne, AreLeft, FitsLeft, raised}
-use Rattle.dual_ascent.specs.Ascent.{IsAscended, ReachesAll}
-use Rattle.dual_ascent.specs.Extension.{IsStart, IsRootFor, IsExtended, IsExtension}
-use Rattle.dual_ascent.specs.Laws.{joined, IsCharged}
-use Rattle.dual_ascent.proofs.ChargedCuts.{lowered_twice}
-use Rattle.dual_ascent.proofs.OpenVertices.{open_vertex, open_in_range, must_certain, may_free, cost_linked}
+use Rattle.dual_ascent.specs.Left.{AreBorne, AreEndsOf, FitsLeft, raised}
+use Rattle.dual_ascent.specs.Ascent.{IsAscended, IsAscent}
+use Rattle.dual_ascent.specs.Extension.{IsStart, IsRootFor, IsExtended, IsExtension, packing_of}
+use Rattle.dual_ascent.specs.Laws.{joined, joined_ascent, IsCharged}
+use Rattle.dual_ascent.proofs.ChargedCuts.{ends_after, kinds_kept, lowered_twice, named-append}
+use Rattle.dual_ascent.proofs.OpenVertices.{cost_linked}
 use Rattle.dual_ascent.proofs.Raised.{raises_sum}
-use Rattle.dual_ascent.proofs.Joined.{named_none, packed_apart, together_fit, joined_full}
+use Rattle.dual_ascent.proofs.Joined.{named_within, packed_apart, together_fit, joined_full}
 
 module _ (g : Graph) (B : Branch) (P : Packing) (root : ℕ) (graph : IsGraph g) (whole : IsWhole g) (start : IsStart g.network B P) (rooted : IsRootFor g.network B P root) where
   module _ (D : Digraph) (E : Ends) (is_root : D.root ≡ root) (count : D.n ≡ g.network.n) (kinds : (v : ℕ) → kind_of D v ≡ kind_in g B v) (costs : (u v : ℕ) → remaining D u v ≡ arc_cost g B u v) (prizes : (v : ℕ) → left_of E v ≡ prize_in D v) where
-    -- what isn't open is named by no cut that fits
-    unnamed : (v : ℕ) → is_open g B v ≡ false → named P.cuts v ≡ 0
-    unnamed v gone = named_none v P.cuts (recursion_from_All (λ c. c.q ≢ v) P.cuts (All-weaker (CutFits g.network B) (λ c. c.q ≢ v) other P.cuts start.fits.cuts))
-      where
-        other : (c : Cut) → CutFits g.network B c → c.q ≢ v
-        other c fits same = both_ways (is_open g B v) gone (subst (λ w. IsTrue (is_open g B w)) same (open_vertex g B c.q whole (named_vertex g.network B c fits) fits.present))
-
     prizes_borne : (v : ℕ) → kind_of D v ≢ Must → named P.cuts v ≤ left_of E v
-    prizes_borne v free = by_open (is_open g B v) refl
-      where
-        priced : is_open g B v ≡ true → is_certain g.network B v ≡ false → named P.cuts v ≤ left_of E v
-        priced is_here apart =
-            let prize = ap prize_for (kinds v ∙ may_free g B v is_here apart) in
-            omega (arith, prizes v, prize, start.fits.prizes v (open_in_range g B v graph is_here) apart)
-
-        by_open : (b : Bool) → is_open g B v ≡ b → named P.cuts v ≤ left_of E v
-        by_open false gone = omega (arith, unnamed v gone)
-        by_open true is_here =
-            elim (cases_Bool (is_certain g.network B v)) [
-              | inl certain ↦ absurd (free (kinds v ∙ must_certain g B v is_here certain))
-              | inr apart ↦ priced is_here apart
-            ]
+    prizes_borne v free = omega (arith, prizes v, ap prize_for (kinds v), named_within g B P v graph whole start.fits (λ must. free (kinds v ∙ must)))
 
     arcs_borne : (u v r : ℕ) → remaining D u v ≡ Some r → load P.cuts (u, v) ≤ r
     arcs_borne u v r left =
@@ -64,35 +43,58 @@ module _ (g : Graph) (B : Branch) (P : Packing) (root : ℕ) (graph : IsGraph g)
       prizes = prizes_borne;
     }
 
-  pub charged : (D : Digraph) (E : Ends) → D.root ≡ root → AreLeft g B P.cuts D E → IsCharged g B P D E
-  charged D E is_root left = record {
-    whole = whole;
-    branch = start.branch;
-    required = start.required;
-    fits = start.fits;
-    left = left;
-    certain = rw is_root rooted.certain;
-    root = rw is_root rooted.same;
-  }
+-- from a packing that was charged an ascent can go on
+module _ (g : Graph) (B : Branch) (P : Packing) (D : Digraph) (E : Ends) (h : IsCharged g B P D E) where
+  pub charged_start : All (λ c. IsVertexSet g.network.n c.set) P.cuts → IsStart g.network B P
+  charged_start sets = record { branch = h.branch; required = h.required; fits = h.fits; sets = sets }
 
-  module _ (D D' : Digraph) (E E' : Ends) (target : ℕ) (A : Packing) (is_root : D.root ≡ root) (h : IsCharged g B P D E) (fits : FitsLeft D E A) (ascended : IsAscended D D' E E' target A) where
+  pub charged_root : IsVertex g.network.n D.root → IsRootFor g.network B P D.root
+  charged_root vertex = record { vertex = vertex; certain = h.certain; same = h.root }
+
+-- an ascent over what a packing leaves
+module _ (g : Graph) (B : Branch) (P : Packing) (D D' : Digraph) (E E' : Ends) (target : ℕ) (graph : IsGraph g) (vertex : IsVertex g.network.n D.root) (h : IsCharged g B P D E) where
+  module _ (A : Packing) (fits : FitsLeft D E A) (ascended : IsAscended D D' E E' target A) where
     both_fit : Fits g.network B (joined P A) × (weight g.network B (joined P A) ≡ weight g.network B P + raised A.cuts)
-    both_fit = together_fit g B P D E h A graph (rw is_root rooted.vertex) fits
+    both_fit = together_fit g B P D E h A graph vertex fits
 
-    both_extend : length (joined P A).cuts < 2 ^ 64 → IsExtended g.network B P (joined P A) root
-    both_extend few = record {
-      rooted = fits.root ∙ ap Some is_root;
+    both_extend : All (λ c. IsVertexSet g.network.n c.set) P.cuts → length (joined P A).cuts < 2 ^ 64 → IsExtended g.network B P (joined P A) D.root
+    both_extend sets few = record {
+      rooted = fits.root;
       fits = both_fit.0;
       no_lighter = omega (arith, both_fit.1);
-      sets = All-append (λ c. IsVertexSet g.network.n c.set) P.cuts A.cuts start.sets (λ k d below. subst (λ n. IsVertexSet n (get_or A.cuts k d).set) h.left.count (fits.borne.sets k d below).0);
+      sets = All-append (λ c. IsVertexSet g.network.n c.set) P.cuts A.cuts sets (λ k d below. subst (λ n. IsVertexSet n (get_or A.cuts k d).set) h.left.count (fits.borne.sets k d below).0);
       few = few;
     }
 
-    pub extended_reached : (new : Packing) → new ≡ joined P A → length new.cuts < 2 ^ 64 → target ≤ raised A.cuts → IsExtension g.network B P root target (Reached new)
-    extended_reached new same few reached = rw same (both_extend (rw same at few), omega (arith, both_fit.1, reached, raises_sum D E target A.cuts ascended.cuts))
+    both_charged : IsCharged g B (joined P A) D' E'
+    both_charged = record {
+      whole = h.whole;
+      branch = h.branch;
+      required = h.required;
+      fits = both_fit.0;
+      left = record {
+        count = ascended.arcs.count ∙ h.left.count;
+        kinds = λ v. kinds_kept D D' A.cuts ascended.arcs v ∙ h.left.kinds v;
+        remaining = λ u v. ascended.arcs.remaining u v ∙ ap (option_map (λ r. r - load A.cuts (u, v))) (h.left.remaining u v) ∙ lowered_twice P.cuts A.cuts (u, v) (arc_cost g B u v);
+        prizes = λ v. omega (arith, ascended.ends.left v, h.left.prizes v, named-append P.cuts A.cuts v, ap prize_for (kinds_kept D D' A.cuts ascended.arcs v));
+      };
+      certain = rw ascended.arcs.root h.certain;
+      root = inr (fits.root ∙ ap Some (sym ascended.arcs.root));
+    }
 
-    pub extended_full : (new : Packing) → new ≡ joined P A → length new.cuts < 2 ^ 64 → raised A.cuts < target → ReachesAll D E A.cuts → IsExtension g.network B P root target (Full new)
-    extended_full new same few below all = rw same (both_extend (rw same at few), omega (arith, both_fit.1, below), joined_full g B P D E h A fits.root all)
+  -- with the packing's cuts before its own
+  pub extended_by : (a both : Ascent) → All (λ c. IsVertexSet g.network.n c.set) P.cuts → IsAscent D D' E E' target a → FitsLeft D E (packing_of a) → both ≡ joined_ascent P a → length (packing_of both).cuts < 2 ^ 64 → IsExtension g.network B P D.root target both
+  extended_by (Full A) both sets ascent fits is few = rw is (both_extend A fits ascent.0 sets (rw is at few), omega (arith, (both_fit A fits ascent.0).1, ascent.1), joined_full g B P D E h A fits.root ascent.2)
+  extended_by (Reached A) both sets ascent fits is few = rw is (both_extend A fits ascent.0 sets (rw is at few), omega (arith, (both_fit A fits ascent.0).1, ascent.1, raises_sum D E target A.cuts ascent.0.cuts))
 
-    pub both_left : (new : Packing) → new ≡ joined P A → (u v : ℕ) → remaining D' u v ≡ option_map (λ cost. cost - load new.cuts (u, v)) (arc_cost g B u v)
-    both_left new same u v = rw same (ascended.arcs.remaining u v ∙ ap (option_map (λ r. r - load A.cuts (u, v))) (h.left.remaining u v) ∙ lowered_twice P.cuts A.cuts (u, v) (arc_cost g B u v))
+  pub charged_by : (a both : Ascent) → IsAscent D D' E E' target a → FitsLeft D E (packing_of a) → both ≡ joined_ascent P a → IsCharged g B (packing_of both) D' E'
+  charged_by (Full A) both ascent fits is = rw is (both_charged A fits ascent.0)
+  charged_by (Reached A) both ascent fits is = rw is (both_charged A fits ascent.0)
+
+  pub ends_by : (a : Ascent) → IsAscent D D' E E' target a → AreEndsOf D E → AreEndsOf D' E'
+  ends_by (Full A) ascent ends = ends_after D D' E E' A.cuts ascent.0.arcs ascent.0.ends ends
+  ends_by (Reached A) ascent ends = ends_after D D' E E' A.cuts ascent.0.arcs ascent.0.ends ends
+
+  pub root_by : (a : Ascent) → IsAscent D D' E E' target a → D'.root ≡ D.root
+  root_by (Full A) ascent = ascent.0.arcs.root
+  root_by (Reached A) ascent = ascent.0.arcs.root

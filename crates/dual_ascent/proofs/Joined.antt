@@ -13,25 +13,45 @@ use Rattle.st_model.proofs.Halves.{has-with_vertex}
 use Rattle.st_model.proofs.Sums.{total-append}
 use Rattle.graph_store.specs.Graph.{Graph, IsGraph}
 use Rattle.bidirected_form.specs.declared.kind.VertexKind.TheVariants.{Must}
-use Rattle.bidirected_form.specs.Bidirected.{is_open, arc_cost}
+use Rattle.bidirected_form.specs.Bidirected.{is_open, kind_in, arc_cost}
 use Rattle.bidirected_form.specs.Digraph.{Digraph, kind_of, remaining}
 use Rattle.prize_transform.specs.Twins.{Ends, left_of, prize_for}
 use Rattle.cut_packing.specs.declared.cut.Cut.{Cut}
 use Rattle.cut_packing.specs.declared.packing.Packing.{Packing}
 use Rattle.cut_packing.specs.Packing.{load, named, IsRoot, CutFits, ArcsFit, PrizesFit, Fits, weight}
 use Rattle.cut_packing.specs.Full.{IsUsedUp, IsReached, IsFull, here as at_root, there as along}
+use Rattle.graph_store.specs.Whole.{IsWhole}
+use Rattle.cut_packing.proofs.Duality.{named_vertex}
 use Rattle.dual_ascent.specs.Left.{FitsLeft, raised}
 use Rattle.dual_ascent.specs.Levels.{IsCutFor, AreCutsFor}
 use Rattle.dual_ascent.specs.Raises.{IsUsedUp as HasNothingLeft, Reaches, here, there, IsRaisable}
 use Rattle.dual_ascent.specs.Ascent.{ReachesAll}
 use Rattle.dual_ascent.specs.Laws.{joined, IsCharged}
 use Rattle.dual_ascent.proofs.ChargedCuts.{before_taking, load-append, named-append}
-use Rattle.dual_ascent.proofs.OpenVertices.{certain_present, undecided_present, open_vertex, open_present, open_must, open_there, must_certain, may_free, free_prize, linked_cost, cost_linked}
+use Rattle.dual_ascent.proofs.OpenVertices.{certain_present, undecided_present, open_vertex, open_in_range, open_present, open_must, open_there, must_certain, may_free, free_prize, linked_cost, cost_linked}
 
 -- cuts that all name other vertices don't name v
 pub named_none : (v : ℕ) (cuts : List Cut) → AllByRecursion (λ c. c.q ≢ v) cuts → named cuts v ≡ 0
 named_none v [] h = refl
 named_none v (c ∷ cuts) h = rw (ne_eqb c.q v h.0) (omega (arith, named_none v cuts h.1))
+
+-- no vertex that may be left out is named beyond its prize by a packing that fits, and none that isn't open at all
+pub named_within : (g : Graph) (B : Branch) (P : Packing) (v : ℕ) → IsGraph g → IsWhole g → Fits g.network B P → kind_in g B v ≢ Must → named P.cuts v ≤ prize_for (kind_in g B v)
+named_within g B P v graph whole fits free = by_open (is_open g B v) refl
+  where
+    other : is_open g B v ≡ false → (c : Cut) → CutFits g.network B c → c.q ≢ v
+    other gone c cut same = both_ways (is_open g B v) gone (subst (λ w. IsTrue (is_open g B w)) same (open_vertex g B c.q whole (named_vertex g.network B c cut) cut.present))
+
+    unnamed : is_open g B v ≡ false → named P.cuts v ≡ 0
+    unnamed gone = named_none v P.cuts (recursion_from_All (λ c. c.q ≢ v) P.cuts (All-weaker (CutFits g.network B) (λ c. c.q ≢ v) (other gone) P.cuts fits.cuts))
+
+    by_open : (b : Bool) → is_open g B v ≡ b → named P.cuts v ≤ prize_for (kind_in g B v)
+    by_open false gone = omega (arith, unnamed gone)
+    by_open true is_here =
+        elim (cases_Bool (is_certain g.network B v)) [
+          | inl certain ↦ absurd (free (must_certain g B v is_here certain))
+          | inr apart ↦ omega (arith, ap prize_for (may_free g B v is_here apart), fits.prizes v (open_in_range g B v graph is_here) apart)
+        ]
 
 -- no cut of a packing that fits holds its root
 pub packed_apart : (I : Network) (B : Branch) (P : Packing) (root : ℕ) → Fits I B P → (P.cuts ≡ []) ⊎ (P.root ≡ Some root) → All (λ c. IsFalse (has c.set root)) P.cuts

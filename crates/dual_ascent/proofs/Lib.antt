@@ -3,6 +3,7 @@ pub mod OpenVertices
 pub mod Joined
 pub mod ChargedCuts
 pub mod Extended
+pub mod FreedCuts
 pub mod Reaching
 pub mod SoFar
 pub mod Bordering

@@ -1,5 +1,5 @@
 -- What a vertex of a branch is, by whether it is present and certain.
-use Rattle.std.proofs.Common.{◌≡◌, ◌≢◌, ℕ, ◌≤◌, Bool, true, false, ◌&&◌, not, Some, None, inl, inr, refl, ap, ◌∙◌, arith}
+use Rattle.std.proofs.Common.{◌≡◌, ◌≢◌, ℕ, ◌≤◌, Bool, true, false, ◌&&◌, ◌||◌, not, Some, None, inl, inr, refl, ap, ◌∙◌, arith}
 use Rattle.std.specs.Prelude.{IsTrue, IsFalse, if◌then◌else◌}
 use Rattle.std.specs.Option.{is_some}
 use Rattle.std.proofs.lemmas.Bool.{and_parts, and_from, or_cases, both_ways, cases_Bool}
@@ -76,6 +76,15 @@ module _ (g : Graph) (B : Branch) (v : ℕ) where
       by_case : (here : Bool) → is_open g B v ≡ here → prize_for (kind_in g B v) ≤ pays g.network v
       by_case true here = rw (may_free here free) (omega arith)
       by_case false gone = rw gone (omega arith)
+
+-- no prize is above what the vertex pays
+pub prize_most : (g : Graph) (B : Branch) (v : ℕ) → prize_for (kind_in g B v) ≤ pays g.network v
+prize_most g B v = by_case (is_open g B v) (is_required g.network v || has B.inside v)
+  where
+    by_case : (here certain : Bool) → prize_for (if here then (if certain then Must else May (pays g.network v)) else Outside) ≤ pays g.network v
+    by_case true true = omega arith
+    by_case true false = omega arith
+    by_case false certain = omega arith
 
 -- a link between vertices that aren't outside is an arc
 pub linked_cost : (g : Graph) (B : Branch) (u v price : ℕ) → IsGraph g → IsWhole g → IsTrue (is_present B u) → IsTrue (is_present B v) → link g.network.links u v ≡ Some price → arc_cost g B u v ≡ Some price

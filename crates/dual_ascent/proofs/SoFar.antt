@@ -86,14 +86,6 @@ module _ (D D' : Digraph) (E E' : Ends) (target room : ℕ) (cuts : List Cut) (h
     least = least_after c r.positive r.least;
   }
 
-  -- the ends are still those of the vertices that may be left out
-  pub ends_now : AreEndsOf D E → AreEndsOf D' E'
-  ends_now ends = record {
-    count = h.ends.count ∙ ends.count ∙ sym h.arcs.count;
-    ends = rw (h.arcs.count, h.arcs.kinds) (h.ends.ends ∙ ends.ends);
-    within = λ v. omega (arith, h.ends.left v, ends.within v, ap prize_for (kinds_same v));
-  }
-
   ascended : (P : Packing) → P ≡ record { root = Some D'.root; cuts = cuts } → target < 2 ^ 64 → IsAscended D D' E E' target P
   ascended P is small = rw is (record {
     root = ap Some h.arcs.root;

@@ -10,6 +10,8 @@ use Rattle.cut_packing.specs.declared.packing.Packing.{Packing}
 use Rattle.cut_packing.specs.Packing.{Fits, weight}
 use Rattle.cut_packing.specs.Full.{IsFull}
 use Rattle.graph_store.specs.Whole.{IsWhole}
+use Rattle.dual_ascent.specs.declared.ascent.Ascent.{Ascent}
+use Rattle.dual_ascent.specs.declared.ascent.Ascent.TheVariants.{Full, Reached}
 use Rattle.dual_ascent.specs.Left.{AreLeft, FitsLeft, raised}
 use Rattle.dual_ascent.specs.Ascent.{ReachesAll}
 use Rattle.dual_ascent.specs.Levels.{AreCutsFor}
@@ -17,6 +19,11 @@ use Rattle.dual_ascent.specs.Levels.{AreCutsFor}
 -- the packing with the cuts of another after its own, and the other's root
 abbrev pub joined : Packing → Packing → Packing
 joined P A = record { root = A.root; cuts = P.cuts ++ A.cuts }
+
+-- the ascent with the cuts of a packing before its own
+abbrev pub joined_ascent : Packing → Ascent → Ascent
+joined_ascent P (Full A) = Full (joined P A)
+joined_ascent P (Reached A) = Reached (joined P A)
 
 -- a packing that fits a branch, and what it leaves of the branch's arcs and prizes
 pub record IsCharged (g : Graph) (B : Branch) (P : Packing) (D : Digraph) (E : Ends) : Type 0 where

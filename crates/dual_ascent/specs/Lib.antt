@@ -6,3 +6,4 @@ pub mod Levels
 pub mod Laws
 pub mod Turns
 pub mod Searching
+pub mod Freed

@@ -1,12 +1,13 @@
-ghost use Rattle.std.specs.Prelude.{◌≡◌, ◌<◌, ◌≤◌, ◌∷◌, [], ◌↔◌, IsTrue, IsFalse};
+ghost use Rattle.std.specs.Prelude.{◌≡◌, ◌+◌, ◌^◌, ◌<◌, ◌≤◌, ◌∷◌, [], ◌↔◌, nat_lt, IsTrue, IsFalse, if◌then◌else◌};
 ghost use Rattle.std.specs.Bool.{OnTrue};
 ghost use Rattle.st_model.specs.Branch.{IsVertexSet};
 ghost use Rattle.st_model.specs.Lists.{has};
-ghost use Rattle.bidirected_form.specs.Entering.{CanBear};
-ghost use Rattle.prize_transform.specs.Twins.{left_of, has_end};
+ghost use Rattle.st_model.specs.Network.{IsVertex};
+ghost use Rattle.bidirected_form.specs.Entering.{CanBear, HasRoom, Returns};
+ghost use Rattle.prize_transform.specs.Twins.{left_of, prize_in, has_end, Alters};
 ghost use Rattle.dual_ascent.specs.Left.{AreBorne, AreEndsOf, AreLowered, AreSpent};
 
-use bidirected_form::Arcs;
+use bidirected_form::{Arcs, VertexKind};
 use cut_packing::Cut;
 use prize_transform::Twins;
 
@@ -35,6 +36,36 @@ pub fn charge_cut(arcs: &mut Arcs, twins: &mut Twins, cut: &Cut)
     arcs.charge(cut.set.as_slice(), cut.y);
     if has_left(twins, cut.q) {
         twins.charge(cut.q, cut.y);
+    }
+}
+
+// Gives the value of a cut back to the arcs that enter its set, and to the prize of its vertex, if
+// that has one: the reverse of charging it.
+pub fn give_back_cut(arcs: &mut Arcs, twins: &mut Twins, cut: &Cut)
+    requires ends { AreEndsOf arcs.old twins.old }
+    requires set { IsVertexSet arcs.old.n cut.now.set }
+    requires vertex { IsVertex arcs.old.n cut.now.q }
+    requires room { HasRoom arcs.old cut.now.set cut.now.y }
+    requires prize { 0 < prize_in arcs.old cut.now.q → left_of twins.old cut.now.q + cut.now.y < 2 ^ 64 }
+    ensures arcs { Returns arcs.old arcs.new cut.now.set cut.now.y }
+    ensures ends { Alters twins.old twins.new cut.now.q
+        (λ left. if nat_lt 0 (prize_in arcs.old cut.now.q) then left + cut.now.y else left) }
+{
+    let is_prized = has_prize(arcs, cut.q);
+    arcs.give_back(cut.set.as_slice(), cut.y);
+    if is_prized {
+        twins.give_back(cut.q, cut.y);
+    }
+}
+
+// Whether a vertex may be left out for more than 0.
+fn has_prize(arcs: &Arcs, vertex: u32) -> bool
+    requires { IsVertex arcs.now.n vertex }
+    ensures { result ≡ nat_lt 0 (prize_in arcs.now vertex) }
+{
+    match arcs.kind(vertex) {
+        VertexKind::May(prize) => prize > 0,
+        VertexKind::Outside | VertexKind::Must => false,
     }
 }
 

@@ -1,12 +1,9 @@
-ghost use Rattle.std.specs.Prelude.{◌≡◌, ℕ, ◌-◌, ◌<◌, ◌^◌, length, IfOk};
-ghost use Rattle.std.specs.Option.{option_map};
+ghost use Rattle.std.specs.Prelude.{◌≡◌, ◌<◌, ◌^◌, length, All, IfOk};
+ghost use Rattle.st_model.specs.Branch.{IsVertexSet};
 ghost use Rattle.graph_store.specs.Graph.{IsGraph};
-ghost use Rattle.bidirected_form.specs.Bidirected.{arc_cost};
-ghost use Rattle.bidirected_form.specs.Digraph.{remaining};
-ghost use Rattle.cut_packing.specs.Packing.{load};
-ghost use Rattle.dual_ascent.specs.Extension.{IsStart, IsRootFor, IsExtension, packing_of};
-ghost use Rattle.dual_ascent.specs.Laws.{IsCharged, joined};
 ghost use Rattle.graph_store.specs.Whole.{IsWhole};
+ghost use Rattle.dual_ascent.specs.Extension.{IsStart, IsRootFor, IsExtension, packing_of};
+ghost use Rattle.dual_ascent.specs.Laws.{IsCharged, joined, joined_ascent};
 ghost use Rattle.dual_ascent.specs.Left.{AreEndsOf};
 
 use crate::{Ascent, ascend, charge_cuts};
@@ -26,13 +23,25 @@ pub struct Remainder {
     pub twins: Twins,
 }
 
+impl Remainder {
+    /// The same arcs and ends, with as much left of each.
+    pub fn copied(&self, alloc: Global) -> Result<Remainder, AllocError>
+        ensures { IfOk result (λ copy. copy ≡ self.now) }
+    {
+        Ok(Remainder {
+            arcs: self.arcs.copied(alloc)?,
+            twins: self.twins.copied(alloc)?,
+        })
+    }
+}
+
 /// What an ascent makes of a packing.
 #[derive(Drop)]
 pub struct Extension {
     /// The packing's cuts and then those of the ascent.
     pub ascent: Ascent,
-    /// The branch's arcs with what all these cuts leave of them.
-    pub arcs: Arcs,
+    /// What all these cuts leave of the branch.
+    pub left: Remainder,
 }
 
 /// Ascends over what a packing leaves of a branch's arcs and prizes, until the cuts added weigh as
@@ -50,23 +59,54 @@ pub fn extend(
     requires start { IsStart store.now.network branch.now packing }
     requires root { IsRootFor store.now.network branch.now packing root }
     ensures extended { IfOk result (λ e. IsExtension store.now.network branch.now packing root target e.ascent) }
-    ensures count { IfOk result (λ e. e.arcs.n ≡ store.now.network.n) }
-    ensures left { IfOk result (λ e. (u v : ℕ) → remaining e.arcs u v
-        ≡ option_map (λ cost. cost - load (packing_of e.ascent).cuts (u, v))
-        (arc_cost store.now branch.now u v)) }
+    ensures root { IfOk result (λ e. e.left.arcs.root ≡ root) }
+    ensures charged { IfOk result (λ e. IsCharged store.now branch.now (packing_of e.ascent) e.left.arcs e.left.twins) }
+    ensures ends { IfOk result (λ e. AreEndsOf e.left.arcs e.left.twins) }
 {
     let left = left_by(alloc, store, branch, &packing, root)?;
+    let raised = raise_over(alloc, store, branch, packing, left, order, target)?;
+    Ok(raised)
+}
+
+/// Ascends over what is left of a branch where a packing was charged, until the cuts added weigh as
+/// much as the target or none can be added. Vertices that `order` names are raised first.
+pub fn raise_over(
+    alloc: Global,
+    store: &Store,
+    branch: &Sides,
+    packing: Packing,
+    left: Remainder,
+    order: &[u32],
+    target: u64,
+) -> Result<Extension, AllocError>
+    requires charged { IsCharged store.now branch.now packing left.arcs left.twins }
+    requires ends { AreEndsOf left.arcs left.twins }
+    requires sets { All (λ c. IsVertexSet store.now.network.n c.set) packing.cuts }
+    ensures extended { IfOk result (λ e.
+        IsExtension store.now.network branch.now packing left.arcs.root target e.ascent) }
+    ensures root { IfOk result (λ e. e.left.arcs.root ≡ left.arcs.root) }
+    ensures charged { IfOk result (λ e. IsCharged store.now branch.now (packing_of e.ascent) e.left.arcs e.left.twins) }
+    ensures ends { IfOk result (λ e. AreEndsOf e.left.arcs e.left.twins) }
+{
+    prove!(left.arcs.vertices() == store.vertices());
     let mut arcs = left.arcs;
     let mut twins = left.twins;
-    match ascend(alloc, &mut arcs, &mut twins, order, target)? {
-        Ascent::Full(found) => Ok(Extension {
-            ascent: Ascent::Full(join(packing, found)?),
-            arcs,
-        }),
-        Ascent::Reached(found) => Ok(Extension {
-            ascent: Ascent::Reached(join(packing, found)?),
-            arcs,
-        }),
+    let found = ascend(alloc, &mut arcs, &mut twins, order, target)?;
+    let ascent = join_ascent(packing, found)?;
+    Ok(Extension {
+        ascent,
+        left: Remainder { arcs, twins },
+    })
+}
+
+// The ascent with the cuts of a packing before its own.
+fn join_ascent(packing: Packing, ascent: Ascent) -> Result<Ascent, AllocError>
+    ensures joined { IfOk result (λ both. both ≡ joined_ascent packing ascent) }
+    ensures few { IfOk result (λ both. length (packing_of both).cuts < 2 ^ 64) }
+{
+    match ascent {
+        Ascent::Full(found) => Ok(Ascent::Full(join(packing, found)?)),
+        Ascent::Reached(found) => Ok(Ascent::Reached(join(packing, found)?)),
     }
 }
 

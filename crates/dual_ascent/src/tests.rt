@@ -1,3 +1,4 @@
 mod ascending;
 mod extending;
 mod fixing;
+mod freeing;

@@ -16,13 +16,13 @@ use std::test::Fail;
 use test_instances::{link, triangle_with_centre};
 
 // Two terminals, 1 and 3, and between them a vertex that pays 3 where it is left out.
-fn path(alloc: Global) -> Result<Instance, AllocError> {
+pub fn path(alloc: Global) -> Result<Instance, AllocError> {
     let links = [link(1, 2, 5), link(2, 3, 4)];
     let needs = [(1, Need::Required), (2, Need::Pays(3)), (3, Need::Required)];
     Instance::build(alloc, 3, &links, &needs)
 }
 
-fn cut(alloc: Global, set: &[u32], q: u32, y: u64) -> Result<Cut, AllocError> {
+pub fn cut(alloc: Global, set: &[u32], q: u32, y: u64) -> Result<Cut, AllocError> {
     Ok(Cut {
         set: SharedSet::of(Vec::from_slice(alloc, set)?)?,
         q,
@@ -30,7 +30,7 @@ fn cut(alloc: Global, set: &[u32], q: u32, y: u64) -> Result<Cut, AllocError> {
     })
 }
 
-fn packing(root: u32, cuts: Vec<Cut>) -> Packing {
+pub fn packing(root: u32, cuts: Vec<Cut>) -> Packing {
     Packing {
         root: Some(root),
         cuts: Listed::of(cuts),
@@ -81,7 +81,7 @@ fn has_root(packing: &Packing, root: u32) -> bool
 }
 
 // Whether an ascent can go on from a packing, from this root.
-fn can_extend(
+pub fn can_extend(
     alloc: Global,
     instance: &Instance,
     branch: &Sides,

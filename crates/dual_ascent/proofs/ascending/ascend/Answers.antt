@@ -4,7 +4,8 @@ use Rattle.dual_ascent.specs.Turns.{AreWaiting, Entry}
 use Rattle.dual_ascent.proofs.Fresh.{raise_borne, raise_paid}
 use Rattle.dual_ascent.proofs.Queued.{growth_still, leading_again, leading_from, none_waiting, passed_over, waiting_again, waiting_from}
 use Rattle.dual_ascent.proofs.Raised.{raises_fit}
-use Rattle.dual_ascent.proofs.SoFar.{none_so_far, one_more, ends_now, ends_full}
+use Rattle.dual_ascent.proofs.ChargedCuts.{ends_after}
+use Rattle.dual_ascent.proofs.SoFar.{none_so_far, one_more, ends_full}
 use Rattle.dual_ascent.proofs.ascending.ascend.Goals as goal
 
 pub returns-in_default-clause-ascent : goal.returns-in_default-clause-ascent
@@ -62,7 +63,7 @@ charge_cut-requires-clause-enough c = raise_borne c.loop-room.arcs c.loop-room.t
 
 pub charge_cut-requires-clause-prize : goal.charge_cut-requires-clause-prize
 charge_cut-requires-clause-prize c =
-    let ends = ends_now c.args.arcs.now c.loop-room.arcs c.args.twins.now c.loop-room.twins c.args.target c.loop-room.room c.loop-room.cuts.items c.loop-room.invariant.so_far c.requires in
+    let ends = ends_after c.args.arcs.now c.loop-room.arcs c.args.twins.now c.loop-room.twins c.loop-room.cuts.items c.loop-room.invariant.so_far.arcs c.loop-room.invariant.so_far.ends c.requires in
     raise_paid c.loop-room.arcs c.loop-room.twins c.loop-room.room c.in-Some-2.raise.cut ends (rw c.in-Some-2.is at c.in_ok-raise.ensures).0
 
 pub loop-room-preserved : goal.loop-room-preserved
