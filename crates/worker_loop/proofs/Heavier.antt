@@ -5,6 +5,7 @@ use Rattle.std.proofs.lemmas.List.Elements.{All-nil}
 use Rattle.st_model.specs.declared.branch.Branch.{Branch}
 use Rattle.st_model.specs.Branch.{IsVertexSet}
 use Rattle.st_model.specs.Network.{Network, link}
+use Rattle.graph_store.specs.Graph.{Graph}
 use Rattle.cut_packing.specs.declared.cut.Cut.{Cut}
 use Rattle.cut_packing.specs.declared.packing.Packing.{Packing}
 use Rattle.cut_packing.specs.Packing.{CutFits, Fits, weight}
@@ -39,20 +40,20 @@ second_extends I B P E root least first (Reached new) small light h s worse =
     (extends_other I B E P new root (omega (arith, s.1, small, light)) s.0, omega (arith, s.1, small, light))
 
 -- the second of two extensions, where it is no worse
-pub other_extends : (I : Network) (B : Branch) (P E : Packing) (root least : ℕ) (first second : Extension) → IsExtendable I B P root least → weight I B E ≤ least
-    → IsExtendedTo I B P root least first → IsExtendedTo I B E root least second → IsNoWorse I B first.ascent second.ascent → IsExtendedTo I B P root least second
-other_extends I B P E root least first second able small h s worse = record {
+pub other_extends : (I : Network) (g : Graph) (B : Branch) (P E : Packing) (root least : ℕ) (first second : Extension) → IsExtendable I B P root least → weight I B E ≤ least
+    → IsExtendedTo I g B P root least first → IsExtendedTo I g B E root least second → IsNoWorse I B first.ascent second.ascent → IsExtendedTo I g B P root least second
+other_extends I g B P E root least first second able small h s worse = record {
   extended = second_extends I B P E root least first.ascent second.ascent small able.light h.extended s.extended worse;
-  count = s.count;
+  raised = s.raised;
 }
 
 -- the heavier of two extensions, the second of which began without cuts
-pub either_extends : (I : Network) (B : Branch) (P : Packing) (root least : ℕ) (first second chosen : Extension) → IsExtendable I B P root least
-    → IsExtendedTo I B P root least first → IsExtendedTo I B no_cuts root least second → IsHeavier I B first second chosen
-    → IsExtendedTo I B P root least chosen
-either_extends I B P root least first second chosen able h s (inl (is, lighter)) = subst (IsExtendedTo I B P root least) (sym is) h
-either_extends I B P root least first second chosen able h s (inr (is, worse)) = subst (IsExtendedTo I B P root least) (sym is)
-    (other_extends I B P no_cuts root least first second able (omega (arith, lighter_without I B P, able.light)) h s worse)
+pub either_extends : (I : Network) (g : Graph) (B : Branch) (P : Packing) (root least : ℕ) (first second chosen : Extension) → IsExtendable I B P root least
+    → IsExtendedTo I g B P root least first → IsExtendedTo I g B no_cuts root least second → IsHeavier I B first second chosen
+    → IsExtendedTo I g B P root least chosen
+either_extends I g B P root least first second chosen able h s (inl (is, lighter)) = subst (IsExtendedTo I g B P root least) (sym is) h
+either_extends I g B P root least first second chosen able h s (inr (is, worse)) = subst (IsExtendedTo I g B P root least) (sym is)
+    (other_extends I g B P no_cuts root least first second able (omega (arith, lighter_without I B P, able.light)) h s worse)
 
 -- no cuts fit every branch
 pub no_cuts_fit : (I : Network) (B : Branch) → Fits I B no_cuts

@@ -120,7 +120,7 @@ fn work_on(
         better,
         joints,
     } = work_by_rounds(alloc, whole, &branch, packing, root, least, known, effort)?;
-    let Extension { ascent, arcs } = extension;
+    let Extension { ascent, left } = extension;
     match ascent {
         Ascent::Reached(packing) => Ok(Step {
             better,
@@ -129,7 +129,7 @@ fn work_on(
         Ascent::Full(packing) => {
             let price = least_after(least, &better);
             let limit = gap(&whole.instance, &branch, &packing, price);
-            let near = near_root(alloc, &arcs, limit)?;
+            let near = near_root(alloc, &left.arcs, limit)?;
             let more = guessed(
                 alloc,
                 whole,
@@ -141,7 +141,7 @@ fn work_on(
                 tree_of(known, &better),
                 effort,
             )?;
-            let vertex = pick(&arcs, &whole.instance, &branch, &near, &joints, given);
+            let vertex = pick(&left.arcs, &whole.instance, &branch, &near, &joints, given);
             let node = node_of(id, branch, packing);
             Ok(concluded(&whole.instance, node, vertex, together(better, more), least))
         }

@@ -33,7 +33,7 @@ pub fn drawn_fault(
     for before in 0..whole.instance.vertices() {
         let vertex = before + 1;
         let is_fault = match tree.tail(vertex) {
-            Some(tail) => extension.arcs.remaining(tail, vertex).unwrap_or(0) > 0,
+            Some(tail) => extension.left.arcs.remaining(tail, vertex).unwrap_or(0) > 0,
             None => {
                 !tree.has(vertex)
                     && branch.is_free(&whole.instance, vertex)

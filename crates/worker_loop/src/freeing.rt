@@ -52,8 +52,22 @@ impl Freeing {
         })
     }
 
-    /// Whether the cut at a place is freed.
-    pub fn frees(&self, place: usize, cut: &Cut, draws: &mut Draws) -> bool {
+    /// At the place of each cut of a packing, whether that is freed.
+    pub fn marks(
+        &self,
+        alloc: Global,
+        packing: &Packing,
+        draws: &mut Draws,
+    ) -> Result<Vec<bool>, AllocError> {
+        let mut marks = Vec::new(alloc);
+        for (place, cut) in packing.cuts.as_slice().iter().enumerate() {
+            marks.push(self.frees(place, cut, draws))?;
+        }
+        Ok(marks)
+    }
+
+    // Whether the cut at a place is freed.
+    fn frees(&self, place: usize, cut: &Cut, draws: &mut Draws) -> bool {
         self.faulty == Some(place) || self.meets(cut) && draws.below(100) < self.percent
     }
 

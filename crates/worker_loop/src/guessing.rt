@@ -47,7 +47,7 @@ pub fn guess(
     if weight(&whole.instance, part.branch(), &bare) >= u128::from(least) {
         return Ok(nothing());
     }
-    let Extension { ascent, arcs } = raise_refined(
+    let Extension { ascent, left } = raise_refined(
         alloc, whole, &part, bare, root, least, TURNS, guide,
     )?;
     match ascent {
@@ -60,7 +60,7 @@ pub fn guess(
         }
         Ascent::Full(found) => {
             let gap = gap(&whole.instance, &part, &found, least);
-            let better = better_tree(alloc, whole, branch, &arcs, least, gap)?;
+            let better = better_tree(alloc, whole, branch, &left.arcs, least, gap)?;
             Ok(Finding {
                 better,
                 closing: None,

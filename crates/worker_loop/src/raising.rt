@@ -24,7 +24,7 @@ pub fn raise(
     least: u64,
 ) -> Result<Extension, AllocError>
     requires { IsExtendable whole.now.instance branch.now packing root least }
-    ensures { IfOk result (IsExtendedTo whole.now.instance branch.now packing root least) }
+    ensures { IfOk result (IsExtendedTo whole.now.instance whole.now.store branch.now packing root least) }
 {
     let has_cuts = !packing.cuts.as_slice().is_empty();
     let first = raise_from(alloc, whole, branch, packing, root, &[], least)?;
@@ -47,7 +47,7 @@ pub fn raise_from(
     least: u64,
 ) -> Result<Extension, AllocError>
     requires { IsExtendable whole.now.instance branch.now packing root least }
-    ensures { IfOk result (IsExtendedTo whole.now.instance branch.now packing root least) }
+    ensures { IfOk result (IsExtendedTo whole.now.instance whole.now.store branch.now packing root least) }
 {
     let start = weight(&whole.instance, branch.branch(), &packing) as u64;
     let raised = extend(

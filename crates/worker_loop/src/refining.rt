@@ -1,17 +1,16 @@
-ghost use Rattle.std.specs.Prelude.{◌≡◌, ℕ, All, IfOk, Some};
-ghost use Rattle.st_model.specs.Branch.{IsBranch, IsVertexSet, LeavesRequired};
-ghost use Rattle.dual_ascent.specs.Extension.{packing_of};
-ghost use Rattle.worker_loop.specs.Raising.{IsExtendable, IsExtendedTo, IsRefined};
+ghost use Rattle.std.specs.Prelude.{IfOk};
+ghost use Rattle.st_model.specs.Branch.{IsBranch};
+ghost use Rattle.worker_loop.specs.Raising.{IsExtendable, IsExtendedTo, IsRaised, IsRefined};
 
 use crate::draws::Draws;
 use crate::effort::Effort;
 use crate::freeing::Freeing;
-use crate::raising::{heavier, is_start, raise, raise_from};
+use crate::raising::{heavier, raise};
 use crate::rooted::Rooted;
 use cut_packing::{Packing, weight};
-use dual_ascent::Extension;
+use dual_ascent::{Extension, free, raise_over};
 use graph_store::Whole;
-use st_model::{Instance, Listed, Sides, Tree};
+use st_model::{Instance, Sides, Tree};
 use std::alloc::{AllocError, Global};
 
 // How many links are looked at for the turns of one packing, about.
@@ -50,7 +49,7 @@ pub fn raise_refined(
     guide: &mut Guide<'_>,
 ) -> Result<Extension, AllocError>
     requires { IsExtendable whole.now.instance branch.now packing root least }
-    ensures { IfOk result (IsExtendedTo whole.now.instance branch.now packing root least) }
+    ensures { IfOk result (IsExtendedTo whole.now.instance whole.now.store branch.now packing root least) }
 {
     let raised = raise(alloc, whole, branch, packing, root, least)?;
     let refined = refine(alloc, whole, branch, raised, root, least, turns, guide)?;
@@ -71,9 +70,8 @@ pub fn refine(
     guide: &mut Guide<'_>,
 ) -> Result<Extension, AllocError>
     requires branch { IsBranch whole.now.instance branch.now }
-    requires required { LeavesRequired whole.now.instance branch.now }
-    requires sets { All (λ c. IsVertexSet whole.now.instance.n c.set) (packing_of extension.ascent).cuts }
-    ensures { IfOk result (IsRefined whole.now.instance branch.now root least extension) }
+    requires raised { IsRaised whole.now.instance whole.now.store branch.now root least extension }
+    ensures { IfOk result (IsRefined whole.now.instance whole.now.store branch.now root least extension) }
 {
     let tree = Rooted::of(alloc, &whole.instance, branch, guide.known, root)?;
     let patience = guide.effort.patience();
@@ -85,15 +83,9 @@ pub fn refine(
             break;
         }
         let freeing = Freeing::drawn(alloc, whole, branch, &refined, &tree, &mut guide.draws)?;
-        let kept = kept(
-            alloc,
-            refined.ascent.packing(),
-            root,
-            &freeing,
-            &mut guide.draws,
-        )?;
+        let freed = freeing.marks(alloc, refined.ascent.packing(), &mut guide.draws)?;
         let order = guide.draws.order(alloc, whole.instance.vertices())?;
-        refined = raised_again(alloc, whole, branch, refined, kept, root, &order, least)?;
+        refined = raised_again(alloc, whole, branch, refined, &freed, root, &order, least)?;
         let has_gained = weight_of(&whole.instance, branch, &refined) > before;
         idle = if has_gained {
             0
@@ -117,51 +109,34 @@ fn weight_of(instance: &Instance, branch: &Sides, extension: &Extension) -> u128
     weight(instance, branch.branch(), extension.ascent.packing())
 }
 
-// The cuts of a packing that aren't freed, for a root.
-fn kept(
-    alloc: Global,
-    packing: &Packing,
-    root: u32,
-    freeing: &Freeing,
-    draws: &mut Draws,
-) -> Result<Packing, AllocError>
-    ensures root { IfOk result (λ P. P.root ≡ Some root) }
-    ensures sets { IfOk result (λ P. (n : ℕ) → All (λ c. IsVertexSet n c.set) packing.now.cuts
-        → All (λ c. IsVertexSet n c.set) P.cuts) }
-{
-    let mut cuts = Vec::new(alloc);
-    for (place, cut) in packing.cuts.as_slice().iter().enumerate() {
-        if freeing.frees(place, cut, draws) {
-            continue;
-        }
-        cuts.push(cut.shared()?)?;
-    }
-    Ok(Packing {
-        root: Some(root),
-        cuts: Listed::of(cuts),
-    })
-}
-
-// What is raised from a packing for the root, unless it is lighter than an extension, and else this one.
+// What is raised for the root from what the packing of an extension is without the cuts that are freed,
+// unless it is lighter than this extension, and else this one.
 fn raised_again(
     alloc: Global,
     whole: &Whole,
     branch: &Sides,
     extension: Extension,
-    packing: Packing,
+    freed: &[bool],
     root: u32,
     order: &[u32],
     least: u64,
 ) -> Result<Extension, AllocError>
     requires branch { IsBranch whole.now.instance branch.now }
-    requires required { LeavesRequired whole.now.instance branch.now }
-    requires root { packing.root ≡ Some root }
-    requires sets { All (λ c. IsVertexSet whole.now.instance.n c.set) packing.cuts }
-    ensures { IfOk result (IsRefined whole.now.instance branch.now root least extension) }
+    requires raised { IsRaised whole.now.instance whole.now.store branch.now root least extension }
+    ensures { IfOk result (IsRefined whole.now.instance whole.now.store branch.now root least extension) }
 {
-    if !is_start(alloc, &whole.instance, branch, &packing, least)? {
-        return Ok(extension);
-    }
-    let raised = raise_from(alloc, whole, branch, packing, root, order, least)?;
+    let mut left = extension.left.copied(alloc)?;
+    let packing = extension.ascent.packing();
+    let kept = free(alloc, &whole.store, branch, packing, &mut left, freed)?;
+    let start = weight(&whole.instance, branch.branch(), &kept) as u64;
+    let raised = raise_over(
+        alloc,
+        &whole.store,
+        branch,
+        kept,
+        left,
+        order,
+        least - start,
+    )?;
     Ok(heavier(&whole.instance, branch, raised, extension))
 }

@@ -1,7 +1,6 @@
-ghost use Rattle.std.specs.Prelude.{◌≡◌, All, IfOk, IfSome};
-ghost use Rattle.st_model.specs.Branch.{IsBranch, IsVertexSet, LeavesRequired};
-ghost use Rattle.dual_ascent.specs.Extension.{packing_of};
-ghost use Rattle.worker_loop.specs.Raising.{IsExtendable, IsExtendedTo, IsRefined};
+ghost use Rattle.std.specs.Prelude.{IfOk, IfSome};
+ghost use Rattle.st_model.specs.Branch.{IsBranch};
+ghost use Rattle.worker_loop.specs.Raising.{IsExtendable, IsExtendedTo, IsRaised, IsRefined};
 ghost use Rattle.worker_loop.specs.Step.{IsBetter};
 
 use crate::bettering::{gap, later, least_after};
@@ -44,7 +43,7 @@ pub fn work_by_rounds(
     effort: Effort,
 ) -> Result<Rounds, AllocError>
     requires able { IsExtendable whole.now.instance branch.now packing root least }
-    ensures extended { IfOk result (λ r. IsExtendedTo whole.now.instance branch.now packing root least r.extension) }
+    ensures extended { IfOk result (λ r. IsExtendedTo whole.now.instance whole.now.store branch.now packing root least r.extension) }
     ensures better { IfOk result (λ r. IfSome r.better (IsBetter whole.now.instance branch.now least)) }
 {
     let raised = raise(alloc, whole, branch, packing, root, least)?;
@@ -101,11 +100,9 @@ fn round(
     elite: &mut Elite,
 ) -> Result<Rounds, AllocError>
     requires branch { IsBranch whole.now.instance branch.now }
-    requires required { LeavesRequired whole.now.instance branch.now }
-    requires sets { All (λ c. IsVertexSet whole.now.instance.n c.set)
-        (packing_of rounds.extension.ascent).cuts }
+    requires raised { IsRaised whole.now.instance whole.now.store branch.now root least rounds.extension }
     requires better { IfSome rounds.better (IsBetter whole.now.instance branch.now least) }
-    ensures refined { IfOk result (λ r. IsRefined whole.now.instance branch.now root least
+    ensures refined { IfOk result (λ r. IsRefined whole.now.instance whole.now.store branch.now root least
         rounds.extension r.extension) }
     ensures better { IfOk result (λ r. IfSome r.better (IsBetter whole.now.instance branch.now least)) }
 {
@@ -143,9 +140,8 @@ fn refined(
     effort: Effort,
 ) -> Result<Extension, AllocError>
     requires branch { IsBranch whole.now.instance branch.now }
-    requires required { LeavesRequired whole.now.instance branch.now }
-    requires sets { All (λ c. IsVertexSet whole.now.instance.n c.set) (packing_of extension.ascent).cuts }
-    ensures { IfOk result (IsRefined whole.now.instance branch.now root least extension) }
+    requires raised { IsRaised whole.now.instance whole.now.store branch.now root least extension }
+    ensures { IfOk result (IsRefined whole.now.instance whole.now.store branch.now root least extension) }
 {
     let mut guide = Guide::at(known, price, effort);
     let refined = refine(

@@ -38,7 +38,7 @@ pub fn trees_at(
     ensures { IfOk result (λ trees. IfSome trees.better (IsBetter whole.now.instance branch.now least)) }
 {
     let below = gap(&whole.instance, branch, extension.ascent.packing(), least);
-    let tree = tree_near(alloc, whole, branch, &extension.arcs, least, below)?;
+    let tree = tree_near(alloc, whole, branch, &extension.left.arcs, least, below)?;
     let mut joints = Joints::of_none(alloc, &whole.instance)?;
     joints.count(alloc, known)?;
     if let Some(tree) = &tree {
@@ -83,7 +83,7 @@ fn or_drawn(
         alloc,
         whole,
         branch,
-        &extension.arcs,
+        &extension.left.arcs,
         elite,
         seed,
         known,

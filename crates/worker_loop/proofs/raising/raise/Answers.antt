@@ -9,4 +9,4 @@ pub returns-then-not-is_reached : goal.returns-then-not-is_reached
 returns-then-not-is_reached c =
     let I = c.args.whole.now.instance in
     let second = rw c.no_cuts.ensures at c.in_ok-second.ensures in
-    either_extends I c.args.branch.now c.args.packing c.args.root c.args.least c.in_ok-first.first c.in_ok-second.second c.heavier.result c.requires c.in_ok-first.ensures second c.heavier.ensures
+    either_extends I c.args.whole.now.store c.args.branch.now c.args.packing c.args.root c.args.least c.in_ok-first.first c.in_ok-second.second c.heavier.result c.requires c.in_ok-first.ensures second c.heavier.ensures

@@ -1,8 +1,24 @@
-use Rattle.worker_loop.proofs.Refined.{refined_by}
+use Rattle.std.proofs.Common.{◌≡◌, ℕ, ◌-◌, ◌∙◌, All, ap, subst, sym}
+use Rattle.st_model.specs.Branch.{IsVertexSet}
+use Rattle.st_model.specs.Network.{Network}
+use Rattle.cut_packing.specs.Packing.{weight}
+use Rattle.dual_ascent.specs.Extension.{packing_of}
+use Rattle.worker_loop.proofs.Refined.{raised_again_by}
 use Rattle.worker_loop.proofs.refining.raised_again.Goals as goal
+
+pub free-requires-clause-sets : goal.free-requires-clause-sets
+free-requires-clause-sets c =
+    let network = c.args.whole.now.whole.network in
+    rw c.packing-packing.ensures (subst (λ (I : Network). All (λ d. IsVertexSet I.n d.set) (packing_of c.args.extension.ascent).cuts) (sym network) c.requires.raised.sets)
 
 pub returns : goal.returns
 returns c =
-    let started = rw c.if-not-branch.false at c.in_ok-is_start.ensures in
-    refined_by c.args.whole.now.instance c.args.branch.now c.args.packing c.args.root c.args.least c.in_ok-raised.raised c.args.extension c.heavier.result
-    started.1 c.in_ok-raised.ensures c.heavier.ensures
+    let I = c.args.whole.now.instance in
+    let B = c.args.branch.now in
+    let r = c.requires.raised in
+    let e = c.in_ok-raised.ensures in
+    let kept = c.in_ok-kept.ensures in
+    let start : c.weight-start.result ≡ weight I B c.in_ok-kept.kept = rw c.branch-branch.ensures at c.weight-start.ensures in
+    let root = rw c.in_ok-left.ensures at kept.root in
+    raised_again_by I c.args.whole.now.store B c.in_ok-kept.kept c.args.root c.args.least _ _ c.in_ok-raised.raised c.args.extension c.heavier.result c.args.whole.now.whole.network r
+    (rw c.packing-packing.ensures at kept.lighter) (root ∙ r.rooted) (ap (λ (k : ℕ). c.args.least - k) start) e.extended e.root e.charged e.ends c.heavier.ensures

@@ -1,15 +1,6 @@
-use Rattle.std.proofs.Common.{◌-◌}
-use Rattle.cut_packing.specs.Packing.{weight}
 use Rattle.worker_loop.specs.Raising.{IsExtendable}
 use Rattle.worker_loop.proofs.Found.{fitting_root, reached_closes}
-use Rattle.worker_loop.proofs.Refined.{extended_sets}
 use Rattle.worker_loop.proofs.repairing.repaired.Goals as goal
-
-pub refine-requires-clause-sets : goal.refine-requires-clause-sets
-refine-requires-clause-sets c =
-    let I = c.args.whole.now.instance in
-    let least = c.args.least - weight I c.args.branch.now c.in_ok-borne.borne in
-    extended_sets I c.args.branch.now c.in_ok-borne.borne c.args.root least c.in_ok-raised.raised.ascent c.in_ok-raised.ensures.extended
 
 pub returns : goal.returns
 returns c =
