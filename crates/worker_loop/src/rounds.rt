@@ -43,7 +43,8 @@ pub fn work_by_rounds(
     effort: Effort,
 ) -> Result<Rounds, AllocError>
     requires able { IsExtendable whole.now.instance branch.now packing root least }
-    ensures extended { IfOk result (λ r. IsExtendedTo whole.now.instance whole.now.store branch.now packing root least r.extension) }
+    ensures extended { IfOk result (λ r. IsExtendedTo whole.now.instance whole.now.store branch.now packing
+        root least r.extension) }
     ensures better { IfOk result (λ r. IfSome r.better (IsBetter whole.now.instance branch.now least)) }
 {
     let raised = raise(alloc, whole, branch, packing, root, least)?;
