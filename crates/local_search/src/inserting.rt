@@ -5,7 +5,7 @@ use st_model::Tree;
 use std::alloc::{AllocError, Global};
 
 // How often each vertex is tried at most.
-const PASSES: u32 = 10;
+const PASSES: u32 = 2;
 
 // The tree with vertices put in, one after another, where each makes it cheaper.
 pub fn with_more(alloc: Global, ground: &Ground, tree: &Tree) -> Result<Tree, AllocError> {

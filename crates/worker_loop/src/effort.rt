@@ -12,7 +12,7 @@ const STEP: u64 = 1_000_003;
 impl Effort {
     /// For how many rounds packings are refined and trees are looked for, at most.
     pub fn rounds(self) -> u64 {
-        if self.is_bare { 8 } else { 1 }
+        if self.is_bare { 6 } else { 1 }
     }
 
     /// For how many turns a packing is refined in a round.

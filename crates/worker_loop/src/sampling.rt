@@ -14,9 +14,9 @@ use st_model::{Sides, Tree};
 use std::alloc::{AllocError, Global};
 
 // How many trees are drawn, at most, and how many links are looked at for them, about.
-const TREES: u64 = 16;
+const TREES: u64 = 8;
 
-const LINKS: u64 = 400_000;
+const LINKS: u64 = 200_000;
 
 // What a vertex weighs where weights are drawn alone, in hundredths, and up to how much more.
 const DRAWN: (u64, u64) = (50, 25);
