@@ -20,7 +20,7 @@ use Rattle.graph_store.specs.Neighbours.{AreNeighbours}
 use Rattle.bidirected_form.specs.declared.arc.Arc.{Arc}
 use Rattle.bidirected_form.specs.declared.kind.VertexKind.{VertexKind}
 use Rattle.bidirected_form.specs.declared.kind.VertexKind.TheVariants.{Outside, Must, May}
-use Rattle.bidirected_form.specs.Bidirected.{is_open, kind_in, kind_by, arc_cost}
+use Rattle.bidirected_form.specs.Bidirected.{is_open, kind_in, arc_cost}
 use Rattle.bidirected_form.specs.Building.{is_off, is_out, cost_by, arc_of}
 use Rattle.bidirected_form.specs.Digraph.{IsDigraph, AreArcsInto, left_from}
 use Rattle.bidirected_form.specs.Rows.{row_of, rows_from, IsLaidOut}

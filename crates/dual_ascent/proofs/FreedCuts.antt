@@ -14,9 +14,8 @@ use Rattle.st_model.specs.Network.{Network, IsVertex, joins, link, pays}
 use Rattle.st_model.proofs.Costs.{sum_to_part}
 use Rattle.st_model.proofs.Sums.{total-append}
 use Rattle.graph_store.specs.Graph.{Graph, IsGraph}
-use Rattle.bidirected_form.specs.declared.kind.VertexKind.TheVariants.{Outside, Must}
 use Rattle.bidirected_form.specs.Bidirected.{arc_cost}
-use Rattle.bidirected_form.specs.Digraph.{Digraph, kind_of, remaining}
+use Rattle.bidirected_form.specs.Digraph.{Digraph, remaining}
 use Rattle.bidirected_form.specs.Entering.{enters, HasRoom, Returns}
 use Rattle.prize_transform.specs.Twins.{Ends, left_of, prize_for, prize_in, has_end, Alters}
 use Rattle.prize_transform.proofs.Numbered.{has-filter}

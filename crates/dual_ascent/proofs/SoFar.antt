@@ -7,13 +7,13 @@ use Rattle.st_model.specs.Lists.{has}
 use Rattle.st_model.specs.Branch.{IsVertexSet}
 use Rattle.st_model.proofs.Sums.{total-append}
 use Rattle.bidirected_form.specs.Digraph.{Digraph, kind_of, remaining}
-use Rattle.prize_transform.specs.Twins.{Ends, prize_for}
+use Rattle.prize_transform.specs.Twins.{Ends}
 use Rattle.cut_packing.specs.declared.cut.Cut.{Cut}
 use Rattle.cut_packing.specs.Packing.{load}
 use Rattle.cut_packing.specs.declared.packing.Packing.{Packing}
 use Rattle.dual_ascent.specs.declared.ascent.Ascent.TheVariants.{Full, Reached}
 use Rattle.dual_ascent.specs.Ascent.{IsAscent, IsAscended, ReachesAll}
-use Rattle.dual_ascent.specs.Left.{AreEndsOf, AreLowered, AreSpent, raised}
+use Rattle.dual_ascent.specs.Left.{AreLowered, AreSpent, raised}
 use Rattle.dual_ascent.specs.Raises.{IsUsedUp, Reaches, IsRaisable, UsesUpAnArc, ReachesTarget, SpendsThePrize, IsLeast, IsRaise, AreRaises}
 use Rattle.dual_ascent.proofs.ChargedCuts.{AreLowered-none, AreLowered-append, AreSpent-none, AreSpent-append, before_taking, kinds_kept, raisable_after}
 use Rattle.dual_ascent.proofs.Raised.{nil_apart, raises_load, raises_push}

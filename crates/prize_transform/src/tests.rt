@@ -107,15 +107,17 @@ fn give_back(twins: &mut Twins, q: u32, y: u64) {
     }
 }
 
+// Whether so much is left for the first vertex of a pair.
+fn has_left(twins: &Twins, left: u64) -> bool {
+    twins.left(1) == left && twins.left(2) == 0
+}
+
 #[test]
 fn gives_back_to_the_one_end(rt: HostRuntime) -> Result<(), Fail> {
     let mut twins = twins_of_pair(rt.alloc())?;
     charge(&mut twins, 1, 3);
     let copy = twins.copied(rt.alloc())?;
     give_back(&mut twins, 1, 2);
-    assert_eq!(rt; twins.left(1), 2);
-    assert_eq!(rt; twins.left(2), 0);
-    assert_eq!(rt; copy.left(1), 0);
-    assert_eq!(rt; copy.ends(), twins.ends());
+    assert!(rt; has_left(&twins, 2) && has_left(&copy, 0));
     Ok(())
 }

@@ -143,6 +143,13 @@ fn same_back(
     Ok(true)
 }
 
+// Gives 1 back to a drawn vertex in both.
+fn give_one_back(draws: &mut Draws, twins: &mut Twins, prizes: &mut [(u32, u64)]) {
+    let q = draws.below_ten() as u32 + 1;
+    give_back(twins, q, 1);
+    raise(prizes, q, 1);
+}
+
 // Whether what is left is as in the plain program after drawn charges, each of which is followed by
 // giving back to a drawn vertex.
 fn same_charges(draws: &mut Draws, twins: &mut Twins, prizes: &mut [(u32, u64)]) -> bool {
@@ -151,9 +158,7 @@ fn same_charges(draws: &mut Draws, twins: &mut Twins, prizes: &mut [(u32, u64)])
         let y = draws.below_ten().min(plain_left(prizes, q));
         charge(twins, q, y);
         lower(prizes, q, y);
-        let other = draws.below_ten() as u32 + 1;
-        give_back(twins, other, 1);
-        raise(prizes, other, 1);
+        give_one_back(draws, twins, prizes);
         if !same_left(twins, prizes) {
             return false;
         }

@@ -1,7 +1,6 @@
-use Rattle.std.proofs.Common.{◌≡◌, ℕ, ◌+◌, ◌<◌, ◌∙◌, List, ap, arith, inl, inr}
+use Rattle.std.proofs.Common.{◌≡◌, ℕ, ◌+◌, ◌∙◌, ap, arith, inl, inr}
 use Rattle.std.proofs.lemmas.Bool.{cases_lt}
 use Rattle.std.proofs.lemmas.List.{get_or_past, length_push}
-use Rattle.st_model.specs.Lists.{has}
 use Rattle.bidirected_form.specs.declared.kind.VertexKind.{VertexKind}
 use Rattle.bidirected_form.specs.declared.kind.VertexKind.TheVariants.{Outside}
 use Rattle.bidirected_form.specs.Bidirected.{kind_in}
