@@ -6,7 +6,7 @@ use Rattle.std.proofs.lemmas.List.Elements.{All-append}
 use Rattle.st_model.specs.declared.branch.Branch.{Branch}
 use Rattle.st_model.specs.Lists.{has}
 use Rattle.st_model.specs.Branch.{IsVertexSet}
-use Rattle.st_model.specs.Network.{IsVertex}
+use Rattle.st_model.specs.Network.{Network, IsVertex}
 use Rattle.graph_store.specs.Graph.{Graph, IsGraph}
 use Rattle.bidirected_form.specs.declared.kind.VertexKind.TheVariants.{Must}
 use Rattle.bidirected_form.specs.Bidirected.{kind_in, arc_cost}
@@ -83,9 +83,12 @@ module _ (g : Graph) (B : Branch) (P : Packing) (D D' : Digraph) (E E' : Ends) (
     }
 
   -- with the packing's cuts before its own
-  pub extended_by : (a both : Ascent) → All (λ c. IsVertexSet g.network.n c.set) P.cuts → IsAscent D D' E E' target a → FitsLeft D E (packing_of a) → both ≡ joined_ascent P a → length (packing_of both).cuts < 2 ^ 64 → IsExtension g.network B P D.root target both
-  extended_by (Full A) both sets ascent fits is few = rw is (both_extend A fits ascent.0 sets (rw is at few), omega (arith, (both_fit A fits ascent.0).1, ascent.1), joined_full g B P D E h A fits.root ascent.2)
-  extended_by (Reached A) both sets ascent fits is few = rw is (both_extend A fits ascent.0 sets (rw is at few), omega (arith, (both_fit A fits ascent.0).1, ascent.1, raises_sum D E target A.cuts ascent.0.cuts))
+  pub extended_by : (a both : Ascent) → All (λ c. IsVertexSet g.network.n c.set) P.cuts → IsAscent D D' E E' target a → FitsLeft D E (packing_of a) → both ≡ joined_ascent P a
+      → length (packing_of both).cuts < 2 ^ 64 → IsExtension g.network B P D.root target both
+  extended_by (Full A) both sets ascent fits is few =
+      rw is (both_extend A fits ascent.0 sets (rw is at few), omega (arith, (both_fit A fits ascent.0).1, ascent.1), joined_full g B P D E h A fits.root ascent.2)
+  extended_by (Reached A) both sets ascent fits is few =
+      rw is (both_extend A fits ascent.0 sets (rw is at few), omega (arith, (both_fit A fits ascent.0).1, ascent.1, raises_sum D E target A.cuts ascent.0.cuts))
 
   pub charged_by : (a both : Ascent) → IsAscent D D' E E' target a → FitsLeft D E (packing_of a) → both ≡ joined_ascent P a → IsCharged g B (packing_of both) D' E'
   charged_by (Full A) both ascent fits is = rw is (both_charged A fits ascent.0)
@@ -98,3 +101,8 @@ module _ (g : Graph) (B : Branch) (P : Packing) (D D' : Digraph) (E E' : Ends) (
   pub root_by : (a : Ascent) → IsAscent D D' E E' target a → D'.root ≡ D.root
   root_by (Full A) ascent = ascent.0.arcs.root
   root_by (Reached A) ascent = ascent.0.arcs.root
+
+-- the sets of what extends a packing
+pub extended_sets : (I : Network) (B : Branch) (P : Packing) (root target : ℕ) (a : Ascent) → IsExtension I B P root target a → All (λ c. IsVertexSet I.n c.set) (packing_of a).cuts
+extended_sets I B P root target (Full new) h = h.0.sets
+extended_sets I B P root target (Reached new) h = h.0.sets

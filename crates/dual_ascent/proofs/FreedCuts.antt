@@ -83,7 +83,8 @@ pub prized_end : (D : Digraph) (E : Ends) (q : ℕ) → AreEndsOf D E → IsVert
 prized_end D E q ends range some = rw ends.ends (has_end-numbered (D.n + 1) (prized_to D D.n) q ∙ has-filter (λ v. nat_lt 0 (prize_in D v)) _ q (has_up_to D.n q range) some)
 
 -- a packing that was charged, and one of its cuts
-module _ (g : Graph) (B : Branch) (root : Option ℕ) (before : List Cut) (c : Cut) (after : List Cut) (D : Digraph) (E : Ends) (graph : IsGraph g) (h : IsCharged g B (packed root (before ++ c ∷ after)) D E) where
+module _ (g : Graph) (B : Branch) (root : Option ℕ) (before : List Cut) (c : Cut) (after : List Cut) (D : Digraph) (E : Ends)
+    (graph : IsGraph g) (h : IsCharged g B (packed root (before ++ c ∷ after)) D E) where
   load_is : (u v : ℕ) → load (before ++ c ∷ after) (u, v) ≡ (if enters c.set u v then c.y else 0) + load (before ++ after) (u, v)
   load_is u v = around (λ d. if enters d.set u v then d.y else 0) before c after
 
@@ -125,7 +126,10 @@ module _ (g : Graph) (B : Branch) (root : Option ℕ) (before : List Cut) (c : C
     arcs_left : (u v : ℕ) → remaining D' u v ≡ option_map (λ cost. cost - load (before ++ after) (u, v)) (arc_cost g B u v)
     arcs_left u v = rw (back.remaining u v, h.left.remaining u v) (by_case (enters c.set u v) (load_is u v) (arc_cost g B u v) (arc_bears u v))
       where
-        by_case : (b : Bool) → load (before ++ c ∷ after) (u, v) ≡ (if b then c.y else 0) + load (before ++ after) (u, v) → (o : Option ℕ) → ((price : ℕ) → o ≡ Some price → load (before ++ c ∷ after) (u, v) ≤ price) → (if b then option_map (λ r. r + c.y) (option_map (λ cost. cost - load (before ++ c ∷ after) (u, v)) o) else option_map (λ cost. cost - load (before ++ c ∷ after) (u, v)) o) ≡ option_map (λ cost. cost - load (before ++ after) (u, v)) o
+        by_case : (b : Bool) → load (before ++ c ∷ after) (u, v) ≡ (if b then c.y else 0) + load (before ++ after) (u, v) → (o : Option ℕ)
+            → ((price : ℕ) → o ≡ Some price → load (before ++ c ∷ after) (u, v) ≤ price)
+            → (if b then option_map (λ r. r + c.y) (option_map (λ cost. cost - load (before ++ c ∷ after) (u, v)) o)
+            else option_map (λ cost. cost - load (before ++ c ∷ after) (u, v)) o) ≡ option_map (λ cost. cost - load (before ++ after) (u, v)) o
         by_case true e None bears = refl
         by_case true e (Some price) bears = ap Some (omega (arith, e, bears price refl))
         by_case false e None bears = refl
@@ -203,26 +207,38 @@ no_marks [] = refl
 no_marks (c ∷ cuts) = refl
 
 -- one cut is looked at: it is freed, or is the next one that is kept
-next_kept : (freed : List Bool) (cuts : List Cut) (i : ℕ) (d : Cut) → i < length cuts → kept (drop i freed) (drop i cuts) ≡ (if get_or freed i false then kept (drop (i + 1) freed) (drop (i + 1) cuts) else get_or cuts i d ∷ kept (drop (i + 1) freed) (drop (i + 1) cuts))
+next_kept : (freed : List Bool) (cuts : List Cut) (i : ℕ) (d : Cut) → i < length cuts
+    → kept (drop i freed) (drop i cuts) ≡ (if get_or freed i false then kept (drop (i + 1) freed) (drop (i + 1) cuts) else get_or cuts i d ∷ kept (drop (i + 1) freed) (drop (i + 1) cuts))
 next_kept freed cuts i d below = rw (drop_more cuts i d below) (by_case (cases_lt i (length freed)))
   where
-    by_case : (i < length freed) ⊎ (length freed ≤ i) → kept (drop i freed) (get_or cuts i d ∷ drop (i + 1) cuts) ≡ (if get_or freed i false then kept (drop (i + 1) freed) (drop (i + 1) cuts) else get_or cuts i d ∷ kept (drop (i + 1) freed) (drop (i + 1) cuts))
+    by_case : (i < length freed) ⊎ (length freed ≤ i)
+        → kept (drop i freed) (get_or cuts i d ∷ drop (i + 1) cuts)
+        ≡ (if get_or freed i false then kept (drop (i + 1) freed) (drop (i + 1) cuts) else get_or cuts i d ∷ kept (drop (i + 1) freed) (drop (i + 1) cuts))
     by_case (inl marked) = rw (drop_more freed i false marked) refl
     by_case (inr past) = rw (drop_all i freed past, drop_all (i + 1) freed (omega (arith, past)), get_or_past freed i false past, no_marks (drop (i + 1) cuts)) refl
 
-pub next_freed : (freed : List Bool) (cuts all seen : List Cut) (i : ℕ) (d : Cut) → i < length cuts → get_or freed i false ≡ true → all ≡ seen ++ kept (drop i freed) (drop i cuts) → all ≡ seen ++ kept (drop (i + 1) freed) (drop (i + 1) cuts)
+pub next_freed : (freed : List Bool) (cuts all seen : List Cut) (i : ℕ) (d : Cut) → i < length cuts → get_or freed i false ≡ true → all ≡ seen ++ kept (drop i freed) (drop i cuts)
+    → all ≡ seen ++ kept (drop (i + 1) freed) (drop (i + 1) cuts)
 next_freed freed cuts all seen i d below marked is = is ∙ ap (λ (cs : List Cut). seen ++ cs) (next_kept freed cuts i d below ∙ rw marked refl)
 
-pub next_held : (freed : List Bool) (cuts all seen : List Cut) (i : ℕ) (c : Cut) → i < length cuts → c ≡ get_or cuts i c → get_or freed i false ≡ false → all ≡ seen ++ kept (drop i freed) (drop i cuts) → all ≡ (seen ++ c ∷ []) ++ kept (drop (i + 1) freed) (drop (i + 1) cuts)
-next_held freed cuts all seen i c below item free is = is ∙ ap (λ (cs : List Cut). seen ++ cs) (next_kept freed cuts i c below ∙ rw free (ap (λ (x : Cut). x ∷ kept (drop (i + 1) freed) (drop (i + 1) cuts)) (sym item))) ∙ sym (append_assoc seen (c ∷ []) (kept (drop (i + 1) freed) (drop (i + 1) cuts)))
+pub next_held : (freed : List Bool) (cuts all seen : List Cut) (i : ℕ) (c : Cut) → i < length cuts → c ≡ get_or cuts i c → get_or freed i false ≡ false
+    → all ≡ seen ++ kept (drop i freed) (drop i cuts) → all ≡ (seen ++ c ∷ []) ++ kept (drop (i + 1) freed) (drop (i + 1) cuts)
+next_held freed cuts all seen i c below item free is =
+    let later = kept (drop (i + 1) freed) (drop (i + 1) cuts) in
+    let here = next_kept freed cuts i c below ∙ rw free (ap (λ (x : Cut). x ∷ later) (sym item)) in
+    is ∙ ap (λ (cs : List Cut). seen ++ cs) here ∙ sym (append_assoc seen (c ∷ []) later)
 
 -- all are looked at
 pub all_kept : (freed : List Bool) (cuts seen : List Cut) (i : ℕ) → length cuts ≤ i → kept freed cuts ≡ seen ++ kept (drop i freed) (drop i cuts) → seen ≡ kept freed cuts
 all_kept freed cuts seen i past is = sym (is ∙ ap (λ (cs : List Cut). seen ++ kept (drop i freed) cs) (drop_all i cuts past) ∙ append-nil seen)
 
 -- of what was charged, the next one
-pub next_cut : (g : Graph) (B : Branch) (root : Option ℕ) (seen cuts : List Cut) (i : ℕ) (c : Cut) (D : Digraph) (E : Ends) → i < length cuts → c ≡ get_or cuts i c → IsCharged g B (packed root (seen ++ drop i cuts)) D E → IsCharged g B (packed root (seen ++ c ∷ drop (i + 1) cuts)) D E
-next_cut g B root seen cuts i c D E below is h = subst (λ (rest : List Cut). IsCharged g B (packed root (seen ++ rest)) D E) (drop_more cuts i c below ∙ ap (λ (x : Cut). x ∷ drop (i + 1) cuts) (sym is)) h
+pub next_cut : (g : Graph) (B : Branch) (root : Option ℕ) (seen cuts : List Cut) (i : ℕ) (c : Cut) (D : Digraph) (E : Ends) → i < length cuts → c ≡ get_or cuts i c
+    → IsCharged g B (packed root (seen ++ drop i cuts)) D E → IsCharged g B (packed root (seen ++ c ∷ drop (i + 1) cuts)) D E
+next_cut g B root seen cuts i c D E below is h =
+    subst (λ (rest : List Cut). IsCharged g B (packed root (seen ++ rest)) D E) (drop_more cuts i c below ∙ ap (λ (x : Cut). x ∷ drop (i + 1) cuts) (sym is)) h
 
-pub held_cut : (g : Graph) (B : Branch) (root : Option ℕ) (seen cuts : List Cut) (i : ℕ) (c : Cut) (D : Digraph) (E : Ends) → i < length cuts → c ≡ get_or cuts i c → IsCharged g B (packed root (seen ++ drop i cuts)) D E → IsCharged g B (packed root ((seen ++ c ∷ []) ++ drop (i + 1) cuts)) D E
-held_cut g B root seen cuts i c D E below is h = subst (λ (cs : List Cut). IsCharged g B (packed root cs) D E) (sym (append_assoc seen (c ∷ []) (drop (i + 1) cuts))) (next_cut g B root seen cuts i c D E below is h)
+pub held_cut : (g : Graph) (B : Branch) (root : Option ℕ) (seen cuts : List Cut) (i : ℕ) (c : Cut) (D : Digraph) (E : Ends) → i < length cuts → c ≡ get_or cuts i c
+    → IsCharged g B (packed root (seen ++ drop i cuts)) D E → IsCharged g B (packed root ((seen ++ c ∷ []) ++ drop (i + 1) cuts)) D E
+held_cut g B root seen cuts i c D E below is h =
+    subst (λ (cs : List Cut). IsCharged g B (packed root cs) D E) (sym (append_assoc seen (c ∷ []) (drop (i + 1) cuts))) (next_cut g B root seen cuts i c D E below is h)

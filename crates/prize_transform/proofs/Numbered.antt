@@ -85,9 +85,11 @@ pub within_range : (n v : ℕ) → IsVertex n v → nat_le v n ≡ true
 within_range n v range = let few = range.1 in grind (arith, nat_tests)
 
 -- so much more is left where one number is written
-pub given_back : (n : ℕ) (ends : List (ℕ × ℕ)) (left : List ℕ) (q y old : ℕ) → q < length left → old ≡ get_or left q 0 → Returns (record { n = n; ends = ends; left = left }) (record { n = n; ends = ends; left = set left q (old + y) }) q y
+pub given_back : (n : ℕ) (ends : List (ℕ × ℕ)) (left : List ℕ) (q y old : ℕ) → q < length left → old ≡ get_or left q 0
+    → Returns (record { n = n; ends = ends; left = left }) (record { n = n; ends = ends; left = set left q (old + y) }) q y
 given_back n ends left q y old below is = record { count = refl; ends = refl; left = λ v. by_case v (cases_eq q v) }
   where
     by_case : (v : ℕ) → (q ≡ v) ⊎ (q ≢ v) → get_or (set left q (old + y)) v 0 ≡ (if v == q then get_or left q 0 + y else get_or left v 0)
-    by_case v (inl same) = subst (λ (w : ℕ). get_or (set left q (old + y)) w 0 ≡ (if w == q then get_or left q 0 + y else get_or left w 0)) same (rw (get_or-set_same left q (old + y) 0 below, eq-eqb q q refl) (ap (λ (k : ℕ). k + y) is))
+    by_case v (inl same) = subst (λ (w : ℕ). get_or (set left q (old + y)) w 0 ≡ (if w == q then get_or left q 0 + y else get_or left w 0)) same
+        (rw (get_or-set_same left q (old + y) 0 below, eq-eqb q q refl) (ap (λ (k : ℕ). k + y) is))
     by_case v (inr differ) = rw (get_or-set_other left q v (old + y) 0 (λ e. differ (sym e)), ne_eqb v q (λ e. differ (sym e))) refl

@@ -1,7 +1,6 @@
 -- What an ascent raises, and that a packing that is raised again from some of its cuts extends what it did.
-use Rattle.std.proofs.Common.{◌≡◌, ℕ, ◌-◌, ◌≤◌, All, inl, inr, sym, ◌∙◌, subst, arith}
+use Rattle.std.proofs.Common.{◌≡◌, ℕ, ◌-◌, ◌≤◌, inl, inr, sym, ◌∙◌, subst, arith}
 use Rattle.st_model.specs.declared.branch.Branch.{Branch}
-use Rattle.st_model.specs.Branch.{IsVertexSet}
 use Rattle.st_model.specs.Network.{Network}
 use Rattle.graph_store.specs.Graph.{Graph}
 use Rattle.cut_packing.specs.declared.packing.Packing.{Packing}
@@ -12,13 +11,9 @@ use Rattle.dual_ascent.specs.declared.extension.Extension.{Extension}
 use Rattle.dual_ascent.specs.Extension.{IsExtension, packing_of}
 use Rattle.dual_ascent.specs.Laws.{IsCharged}
 use Rattle.dual_ascent.specs.Left.{AreEndsOf}
+use Rattle.dual_ascent.proofs.Extended.{extended_sets}
 use Rattle.worker_loop.specs.Raising.{IsExtendedTo, IsHeavier, IsNoWorse, IsRaised, IsRefined}
 use Rattle.worker_loop.proofs.Heavier.{other_extends}
-
--- the sets of what extends a packing
-extended_sets : (I : Network) (B : Branch) (P : Packing) (root target : ℕ) (a : Ascent) → IsExtension I B P root target a → All (λ c. IsVertexSet I.n c.set) (packing_of a).cuts
-extended_sets I B P root target (Full new) h = h.0.sets
-extended_sets I B P root target (Reached new) h = h.0.sets
 
 -- it weighs no more than what was asked for
 extended_light : (I : Network) (B : Branch) (P : Packing) (root least : ℕ) (a : Ascent) → weight I B P ≤ least → IsExtension I B P root (least - weight I B P) a → weight I B (packing_of a) ≤ least

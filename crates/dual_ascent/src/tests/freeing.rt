@@ -1,5 +1,11 @@
+ghost use Rattle.std.specs.Prelude.{All};
+ghost use Rattle.st_model.specs.Branch.{IsVertexSet};
+ghost use Rattle.dual_ascent.specs.Extension.{packing_of};
+ghost use Rattle.dual_ascent.specs.Laws.{IsCharged};
+ghost use Rattle.dual_ascent.specs.Left.{AreEndsOf};
+
 use crate::tests::extending::{can_extend, cut, packing, path};
-use crate::{Remainder, extend, free, left_by};
+use crate::{Extension, Remainder, extend, free, left_by};
 use cut_packing::Packing;
 use graph_store::Store;
 use st_model::{Branch, Instance, Sides};
@@ -57,19 +63,19 @@ fn keeps(
     }
 }
 
+// Whether so much is kept and left where no cut is freed, the first, the second, or all.
+fn all_keep(alloc: Global) -> Result<bool, AllocError> {
+    Ok(
+        keeps(alloc, &[], 3, [2, 5, 3, 2], 1)?
+            && keeps(alloc, &[true], 2, [4, 5, 3, 4], 3)?
+            && keeps(alloc, &[false, true, false], 2, [3, 5, 3, 2], 1)?
+            && keeps(alloc, &[true, true, true, true], 0, [5, 5, 4, 4], 3)?,
+    )
+}
+
 #[test]
 fn frees_cuts_of_the_path(rt: HostRuntime) -> Result<(), Fail> {
-    let alloc = rt.alloc();
-    assert!(rt; keeps(alloc, &[], 3, [2, 5, 3, 2], 1)?, "none");
-    assert!(rt; keeps(alloc, &[true], 2, [4, 5, 3, 4], 3)?, "the first");
-    assert!(rt;
-        keeps(alloc, &[false, true, false], 2, [3, 5, 3, 2], 1)?,
-        "the second"
-    );
-    assert!(rt;
-        keeps(alloc, &[true, true, true, true], 0, [5, 5, 4, 4], 3)?,
-        "all"
-    );
+    assert!(rt; all_keep(rt.alloc())?);
     Ok(())
 }
 
@@ -95,30 +101,62 @@ fn same_left(one: &Remainder, other: &Remainder) -> bool {
     true
 }
 
-// Whether drawn cuts of an ascent, once they are freed, leave what the others leave that are charged
-// anew.
-fn leaves_as_anew(alloc: Global, draws: &mut Draws) -> Result<bool, AllocError> {
-    let instance = draws.instance(alloc)?;
+// Whether marked cuts of an extension, once they are freed, leave what the others leave that are
+// charged anew.
+fn leaves_as_anew(
+    alloc: Global,
+    store: &Store,
+    branch: &Sides,
+    raised: &Extension,
+    marks: &[bool],
+) -> Result<bool, AllocError>
+    requires charged { IsCharged store.now branch.now (packing_of raised.now.ascent)
+        raised.now.left.arcs raised.now.left.twins }
+    requires ends { AreEndsOf raised.now.left.arcs raised.now.left.twins }
+    requires sets { All (λ c. IsVertexSet store.now.network.n c.set) (packing_of raised.now.ascent).cuts }
+{
+    let mut left = raised.left.copied(alloc)?;
+    let kept = free(
+        alloc,
+        store,
+        branch,
+        raised.ascent.packing(),
+        &mut left,
+        marks,
+    )?;
+    let anew = left_by(alloc, store, branch, &kept, left.arcs.root())?;
+    Ok(same_left(&left, &anew))
+}
+
+// Whether drawn cuts of an ascent over an instance do so, if one can be made from a root.
+fn frees_drawn(
+    alloc: Global,
+    draws: &mut Draws,
+    instance: &Instance,
+    root: u32,
+) -> Result<bool, AllocError> {
     let branch = Sides::of(alloc, Branch::all(alloc))?;
-    let root = draws.vertex();
     let bare = packing(root, Vec::new(alloc));
-    if !can_extend(alloc, &instance, &branch, &bare, root)? {
+    if !can_extend(alloc, instance, &branch, &bare, root)? {
         return Ok(true);
     }
-    let store = Store::of(alloc, &instance)?;
+    let store = Store::of(alloc, instance)?;
     let raised = extend(alloc, &store, &branch, bare, root, &[], draws.below(20))?;
-    let mut left = raised.left.copied(alloc)?;
-    let all = raised.ascent.packing();
-    let kept = free(alloc, &store, &branch, all, &mut left, &drawn_marks(draws))?;
-    let anew = left_by(alloc, &store, &branch, &kept, root)?;
-    Ok(same_left(&left, &anew))
+    leaves_as_anew(alloc, &store, &branch, &raised, &drawn_marks(draws))
+}
+
+// Whether they do so over a drawn instance.
+fn is_right(alloc: Global, draws: &mut Draws) -> Result<bool, AllocError> {
+    let instance = draws.instance(alloc)?;
+    let root = draws.vertex();
+    frees_drawn(alloc, draws, &instance, root)
 }
 
 #[test]
 fn leaves_what_the_others_leave(rt: HostRuntime) -> Result<(), Fail> {
     let mut draws = Draws { state: 7 };
     for _ in 0..100 {
-        assert!(rt; leaves_as_anew(rt.alloc(), &mut draws)?);
+        assert!(rt; is_right(rt.alloc(), &mut draws)?);
     }
     Ok(())
 }
