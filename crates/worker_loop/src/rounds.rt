@@ -17,8 +17,11 @@ use graph_store::Whole;
 use st_model::{Sides, Tree};
 use std::alloc::{AllocError, Global};
 
-// After how many rounds in a row without a gain no more follow.
+// After how many rounds in a row without a gain no more follow, and which part of what is left at a
+// round's beginning counts as one.
 const PATIENCE: u64 = 2;
+
+const GAIN: u64 = 8;
 
 /// What is found at a node by refining its packing and looking for trees.
 #[derive(Drop)]
@@ -64,7 +67,7 @@ pub fn work_by_rounds(
         rounds = round(
             alloc, whole, branch, rounds, root, least, known, work, &mut elite,
         )?;
-        let has_gained = left(whole, branch, &rounds, least) < before;
+        let has_gained = left(whole, branch, &rounds, least) < before.saturating_sub(before / GAIN);
         idle = if has_gained {
             0
         } else {

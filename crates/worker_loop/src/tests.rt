@@ -15,6 +15,7 @@ use test_instances::{link, triangle_with_centre};
 
 mod alone;
 mod brute_force;
+mod elite;
 mod gates;
 mod refining;
 mod starting;

@@ -1,8 +1,10 @@
 ghost use Rattle.std.specs.Prelude.{IfOk, IfSome};
 ghost use Rattle.st_model.specs.Branch.{IsBranch};
+ghost use Rattle.worker_loop.specs.Node.{IsPartOf};
 ghost use Rattle.worker_loop.specs.Step.{IsBetter};
 
-use crate::bettering::{cheaper, gap, later, least_after, tree_near};
+use crate::bettering::{cheaper, gap, later, least_after, narrowed, tree_near};
+use crate::distances::near_root;
 use crate::effort::Effort;
 use crate::elite::Elite;
 use crate::joints::Joints;
@@ -61,8 +63,8 @@ pub fn trees_at(
     Ok(Trees { better, joints })
 }
 
-// A tree that is drawn, where it is cheaper than a better tree that was found, and else that one.
-#[tactic(auto, using(crate::proofs::Found::found_later))]
+// A tree that is drawn, where it is cheaper than a better tree that was found, and else that one. None
+// that costs less than all reaches a vertex that isn't near the root, so the others are left out.
 fn or_drawn(
     alloc: Global,
     whole: &Whole,
@@ -79,10 +81,11 @@ fn or_drawn(
 {
     let bound = weight(&whole.instance, branch.branch(), extension.ascent.packing());
     let known = least_after(least, &better);
+    let part = near_part(alloc, whole, branch, extension, known)?;
     let drawn = drawn_tree(
         alloc,
         whole,
-        branch,
+        &part,
         &extension.left.arcs,
         elite,
         seed,
@@ -90,4 +93,23 @@ fn or_drawn(
         bound,
     )?;
     Ok(later(better, drawn))
+}
+
+// The part of the branch where also those are outside that aren't near the root.
+fn near_part(
+    alloc: Global,
+    whole: &Whole,
+    branch: &Sides,
+    extension: &Extension,
+    least: u64,
+) -> Result<Sides, AllocError>
+    requires { IsBranch whole.now.instance branch.now }
+    ensures branch { IfOk result (IsBranch whole.now.instance) }
+    ensures part { IfOk result (IsPartOf branch.now) }
+{
+    let below = gap(&whole.instance, branch, extension.ascent.packing(), least);
+    let near = near_root(alloc, &extension.left.arcs, below)?;
+    let part = narrowed(alloc, &whole.instance, branch, &near)?;
+    let part = Sides::of(alloc, part)?;
+    Ok(part)
 }
