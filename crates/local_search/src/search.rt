@@ -36,6 +36,8 @@ pub struct Bridge {
 pub struct Search {
     offers: BinaryHeap<Reverse<(u64, u32)>>,
     marks: ByVertex<Mark>,
+    // What the cheapest link of each vertex costs.
+    cheapest: ByVertex<u64>,
     // The vertices that are marked, and how many can be.
     marked: Vec<u32>,
     count: usize,
@@ -50,6 +52,7 @@ impl Search {
         Ok(Search {
             offers: BinaryHeap::new(alloc),
             marks: ByVertex::new(alloc, ground.count(), UNMARKED)?,
+            cheapest: cheapest_links(alloc, ground)?,
             marked: Vec::new(alloc),
             count: ground.count(),
             parts: 0,
@@ -163,7 +166,12 @@ impl Search {
         Ok(())
     }
 
+    // Goes over the links of a vertex, if its cheapest one can be of use.
     fn expand(&mut self, ground: &Ground, draft: &Draft, vertex: u32) -> Result<(), AllocError> {
+        let here = self.marks.at(vertex).cost;
+        if here.saturating_add(self.cheapest.at(vertex)) >= self.limit {
+            return Ok(());
+        }
         for half in ground.neighbours(vertex) {
             if ground.is_open(half.to) {
                 self.offer(draft, vertex, *half)?;
@@ -211,4 +219,15 @@ impl Search {
         self.bridges.push(bridge)?;
         Ok(())
     }
+}
+
+// By vertex, what its cheapest link costs.
+fn cheapest_links(alloc: Global, ground: &Ground) -> Result<ByVertex<u64>, AllocError> {
+    let mut cheapest = ByVertex::new(alloc, ground.count(), u64::MAX)?;
+    for before in 0..ground.vertices() {
+        let vertex = before + 1;
+        let costs = ground.neighbours(vertex).iter().map(|half| half.cost);
+        cheapest.put(vertex, costs.min().unwrap_or(u64::MAX));
+    }
+    Ok(cheapest)
 }
