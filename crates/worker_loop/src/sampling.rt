@@ -10,13 +10,13 @@ use crate::elite::Elite;
 use crate::step::Priced;
 use bidirected_form::{Arc, Arcs};
 use graph_store::Whole;
-use st_model::{Sides, Tree};
+use st_model::{Instance, Sides, Tree};
 use std::alloc::{AllocError, Global};
 
-// How many trees are drawn, at most, and how many links are looked at for them, about.
-const TREES: u64 = 8;
+// How many trees are drawn, at most, and how many vertices they can reach together, about.
+const TREES: u64 = 24;
 
-const LINKS: u64 = 200_000;
+const VERTICES: u64 = 8_000;
 
 // What a vertex weighs where weights are drawn alone, in hundredths, and up to how much more.
 const DRAWN: (u64, u64) = (50, 25);
@@ -47,7 +47,7 @@ pub fn drawn_tree(
 {
     let mut draws = Draws::of(seed);
     let mut best = None;
-    for place in 0..trees_for(whole) {
+    for place in 0..trees_for(&whole.instance, branch) {
         let known = least_after(least, &best);
         if bound >= u128::from(known) {
             return Ok(best);
@@ -60,10 +60,11 @@ pub fn drawn_tree(
     Ok(best)
 }
 
-// How many trees are drawn: fewer, where there are many links.
-fn trees_for(whole: &Whole) -> u64 {
-    let links = whole.instance.links().len() as u64;
-    TREES.min(LINKS / links.max(1))
+// How many trees are drawn: more, where fewer vertices are open.
+fn trees_for(instance: &Instance, branch: &Sides) -> u64 {
+    let outside = branch.branch().outside.as_slice().len() as u64;
+    let open = u64::from(instance.vertices()).saturating_sub(outside);
+    TREES.min(VERTICES / open.max(1))
 }
 
 // Keeps a tree among the cheapest, if there is one.
