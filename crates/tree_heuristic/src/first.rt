@@ -30,7 +30,7 @@ pub fn first_tree(alloc: Global, store: &Store, branch: &Sides) -> Result<Option
 }
 
 /// As `first_tree`, but its paths are cheapest where each link costs so many hundredths of its cost
-/// as its two ends weigh together. A vertex past the end of the weights leaves its links as they are.
+/// as its two ends weigh together; a vertex past the end of the weights weighs 50.
 pub fn guided_tree(
     alloc: Global,
     store: &Store,

@@ -11,7 +11,7 @@ use std::collections::BinaryHeap;
 // How many hundredths a link costs as it does.
 const WHOLE: u64 = 100;
 
-// What paths are chosen by.
+// What paths are chosen by. Where there are weights, costs and worths are counted in hundredths.
 #[derive(Clone, Copy)]
 pub struct Guide<'a> {
     // By vertex, what it is worth to reach it.
@@ -172,18 +172,27 @@ impl Growing {
 impl Guide<'_> {
     // What it is worth to reach a vertex.
     fn worth(&self, vertex: u32) -> u64 {
-        self.worth.get(vertex as usize).copied().unwrap_or(0)
+        let worth = self.worth.get(vertex as usize).copied().unwrap_or(0);
+        if self.weights.is_empty() {
+            worth
+        } else {
+            worth.saturating_mul(WHOLE)
+        }
     }
 
     // What a link that costs so much is taken to cost, by its two ends.
     fn cost(&self, cost: u64, tail: u32, head: u32) -> u64 {
-        let weights = (
-            self.weights.get(tail as usize),
-            self.weights.get(head as usize),
-        );
-        match weights {
-            (Some(one), Some(other)) => { cost.saturating_mul(one.saturating_add(*other)) / WHOLE }
-            _ => cost,
+        if self.weights.is_empty() {
+            return cost;
         }
+        let weights = self.weight(tail).saturating_add(self.weight(head));
+        cost.saturating_mul(weights)
+    }
+
+    fn weight(&self, vertex: u32) -> u64 {
+        self.weights
+            .get(vertex as usize)
+            .copied()
+            .unwrap_or(WHOLE / 2)
     }
 }

@@ -99,7 +99,7 @@ fn takes_what_is_worth_it(rt: HostRuntime) -> Result<(), Fail> {
     Ok(())
 }
 
-// Where 2 weighs so much that the way over it looks dearer; a list that is too short says nothing.
+// Where 2 weighs so much that the way over it looks dearer; a vertex past the list's end weighs 50.
 #[test]
 fn keeps_to_weights(rt: HostRuntime) -> Result<(), Fail> {
     let instance = two_ways(rt.alloc())?;
