@@ -1,71 +1,53 @@
-use Rattle.std.proofs.Common.{◌≡◌, ◌≤◌, ◌<◌, ◌∙◌, length, get_or, subst, sym, arith}
+use Rattle.std.proofs.Common.{◌≡◌, ◌≤◌, ◌<◌, ◌∙◌, ◌+◌, ◌++◌, ◌∷◌, drop, length, get_or, subst, sym, arith}
 use Rattle.st_model.specs.Branch.{IsVertexSet}
 use Rattle.cut_packing.specs.declared.cut.Cut.{Cut}
-use Rattle.dual_ascent.proofs.FreedCuts.{all_kept, arcs_room, freed_charged, freed_ends, held_cut, kept_all, kept_total, names_vertex, next_cut, next_freed, next_held, prize_room}
+use Rattle.dual_ascent.specs.Laws.{IsCharged}
+use Rattle.dual_ascent.proofs.FreedCuts.{all_kept, arcs_room, freed_charged, freed_ends, held_cut, packed, kept_all, kept_total, names_vertex, next_cut, next_freed, next_held, prize_room}
 use Rattle.dual_ascent.proofs.freeing.free.Goals as goal
-use Rattle.dual_ascent.proofs.freeing.free.Goals.{then-is_marked, else-is_marked+in_ok-shared+in_ok-push}
+use Rattle.dual_ascent.proofs.freeing.free.Goals.{After-is_marked, then-is_marked, else-is_marked+in_ok-shared+in_ok-push}
+
+-- the place of the cut in hand is one of the packing's, and the cut stands there
+low_here : (c : After-is_marked) → c.loop-place.place < length c.args.packing.now.cuts
+low_here c = rw c.as_slice-cut-items.ensures at c.loop-place-test.true
+
+is_here : (c : After-is_marked) → c.cut-item.result ≡ get_or c.args.packing.now.cuts c.loop-place.place c.cut-item.result
+is_here c = rw c.as_slice-cut-items.ensures at c.cut-item.is
+
+-- what is left now is what the cuts that are kept so far, the cut in hand and those to come leave
+charged_here : (c : After-is_marked) → IsCharged c.args.store.now c.args.branch.now
+    (packed c.args.packing.now.root (c.loop-place.cuts.items ++ c.cut-item.result ∷ drop (c.loop-place.place + 1) c.args.packing.now.cuts)) c.loop-place.left.arcs c.loop-place.left.twins
+charged_here c =
+    let loop = c.loop-place in
+    next_cut c.args.store.now c.args.branch.now c.args.packing.now.root loop.cuts.items c.args.packing.now.cuts loop.place c.cut-item.result loop.left.arcs loop.left.twins
+    (low_here c) (is_here c) loop.invariant.charged
 
 pub give_back_cut-requires-clause-set : goal.give_back_cut-requires-clause-set
 give_back_cut-requires-clause-set c =
-    let g = c.args.store.now in
-    let B = c.args.branch.now in
-    let root = c.args.packing.now.root in
-    let cuts = c.args.packing.now.cuts in
-    let loop = c.loop-place in
-    let seen = loop.cuts.items in
-    let i = loop.place in
-    let cut = c.cut-item.result in
-    let low : i < length cuts = rw c.as_slice-cut-items.ensures at c.loop-place-test.true in
-    let is : cut ≡ get_or cuts i cut = rw c.as_slice-cut-items.ensures at c.cut-item.is in
-    rw c.loop-place.invariant.charged.left.count (subst (λ (d : Cut). IsVertexSet c.args.store.now.network.n d.set) (sym is) (c.requires.sets i cut low))
+    let here = (goal.at.give_back_cut-requires-clause-set c).After-is_marked in
+    let is_set : Cut → Type 0 = λ d. IsVertexSet c.args.store.now.network.n d.set in
+    rw c.loop-place.invariant.charged.left.count (subst is_set (sym (is_here here)) (c.requires.sets c.loop-place.place c.cut-item.result (low_here here)))
 
 pub give_back_cut-requires-clause-vertex : goal.give_back_cut-requires-clause-vertex
 give_back_cut-requires-clause-vertex c =
-    let g = c.args.store.now in
-    let B = c.args.branch.now in
-    let root = c.args.packing.now.root in
-    let cuts = c.args.packing.now.cuts in
-    let loop = c.loop-place in
-    let seen = loop.cuts.items in
-    let i = loop.place in
-    let cut = c.cut-item.result in
-    let low : i < length cuts = rw c.as_slice-cut-items.ensures at c.loop-place-test.true in
-    let is : cut ≡ get_or cuts i cut = rw c.as_slice-cut-items.ensures at c.cut-item.is in
-    let h = next_cut g B root seen cuts i cut loop.left.arcs loop.left.twins low is loop.invariant.charged in
-    names_vertex g B root seen cut _ loop.left.arcs loop.left.twins c.vertices-2.ensures.graph h
+    let here = (goal.at.give_back_cut-requires-clause-vertex c).After-is_marked in
+    names_vertex c.args.store.now c.args.branch.now c.args.packing.now.root c.loop-place.cuts.items c.cut-item.result _ c.loop-place.left.arcs c.loop-place.left.twins
+    c.vertices-2.ensures.graph (charged_here here)
 
 pub give_back_cut-requires-clause-room : goal.give_back_cut-requires-clause-room
 give_back_cut-requires-clause-room c =
-    let g = c.args.store.now in
-    let B = c.args.branch.now in
-    let root = c.args.packing.now.root in
-    let cuts = c.args.packing.now.cuts in
-    let loop = c.loop-place in
-    let seen = loop.cuts.items in
-    let i = loop.place in
-    let cut = c.cut-item.result in
-    let low : i < length cuts = rw c.as_slice-cut-items.ensures at c.loop-place-test.true in
-    let is : cut ≡ get_or cuts i cut = rw c.as_slice-cut-items.ensures at c.cut-item.is in
-    let h = next_cut g B root seen cuts i cut loop.left.arcs loop.left.twins low is loop.invariant.charged in
-    arcs_room g B root seen cut _ loop.left.arcs loop.left.twins c.vertices-2.ensures.graph h
+    let here = (goal.at.give_back_cut-requires-clause-room c).After-is_marked in
+    arcs_room c.args.store.now c.args.branch.now c.args.packing.now.root c.loop-place.cuts.items c.cut-item.result _ c.loop-place.left.arcs c.loop-place.left.twins
+    c.vertices-2.ensures.graph (charged_here here)
 
 pub give_back_cut-requires-clause-prize : goal.give_back_cut-requires-clause-prize
 give_back_cut-requires-clause-prize c =
-    let g = c.args.store.now in
-    let B = c.args.branch.now in
-    let root = c.args.packing.now.root in
-    let cuts = c.args.packing.now.cuts in
-    let loop = c.loop-place in
-    let seen = loop.cuts.items in
-    let i = loop.place in
-    let cut = c.cut-item.result in
-    let low : i < length cuts = rw c.as_slice-cut-items.ensures at c.loop-place-test.true in
-    let is : cut ≡ get_or cuts i cut = rw c.as_slice-cut-items.ensures at c.cut-item.is in
-    let h = next_cut g B root seen cuts i cut loop.left.arcs loop.left.twins low is loop.invariant.charged in
-    prize_room g B root seen cut _ loop.left.arcs loop.left.twins c.vertices-2.ensures.graph h
+    let here = (goal.at.give_back_cut-requires-clause-prize c).After-is_marked in
+    prize_room c.args.store.now c.args.branch.now c.args.packing.now.root c.loop-place.cuts.items c.cut-item.result _ c.loop-place.left.arcs c.loop-place.left.twins
+    c.vertices-2.ensures.graph (charged_here here)
 
 pub loop-place-preserved : goal.loop-place-preserved
 loop-place-preserved c =
+    let here = (goal.at.loop-place-preserved c).After-is_marked in
     let g = c.args.store.now in
     let B = c.args.branch.now in
     let root = c.args.packing.now.root in
@@ -74,9 +56,9 @@ loop-place-preserved c =
     let seen = loop.cuts.items in
     let i = loop.place in
     let cut = c.cut-item.result in
-    let low : i < length cuts = rw c.as_slice-cut-items.ensures at c.loop-place-test.true in
-    let is : cut ≡ get_or cuts i cut = rw c.as_slice-cut-items.ensures at c.cut-item.is in
-    let h = next_cut g B root seen cuts i cut loop.left.arcs loop.left.twins low is loop.invariant.charged in
+    let low = low_here here in
+    let is = is_here here in
+    let h = charged_here here in
     let so_far = loop.invariant in
     elim c.if-is_marked.branch [
       | then-is_marked w ↦
