@@ -23,12 +23,14 @@ pub fn choose(node: &Node, instance: &Instance) -> Option<u32>
     best
 }
 
-// Whether a branch may be split at a vertex.
-fn may_split(instance: &Instance, branch: &Branch, vertex: u32) -> bool
-    requires branch { IsBranch instance.now branch.now }
-    requires vertex { IsVertex instance.now.n vertex }
+/// Whether a branch may be split at a vertex: where it is one that is neither required nor inside nor outside.
+pub fn may_split(instance: &Instance, branch: &Branch, vertex: u32) -> bool
+    requires { IsBranch instance.now branch.now }
     ensures { IsTrue result ↔ IsSplit instance.now branch.now vertex }
 {
+    if vertex < 1 || instance.vertices() < vertex {
+        return false;
+    }
     instance.need(vertex) != Need::Required && branch.is_undecided(vertex)
 }
 

@@ -12,7 +12,7 @@ mod node;
 #[cfg(test)]
 mod tests;
 
-pub use choosing::choose;
+pub use choosing::{choose, may_split};
 pub use halving::halves;
 pub use law::halves_are_no_lighter;
 pub use node::Node;
