@@ -1,4 +1,4 @@
-ghost use Rattle.std.specs.Prelude.{◌≡◌, ℕ, IfOk, IsFalse, IsTrue, All, map};
+ghost use Rattle.std.specs.Prelude.{◌≡◌, ℕ, IfOk, IfSome, IsFalse, IsTrue, All, map};
 ghost use Rattle.std.specs.Bool.{OnTrue};
 ghost use Rattle.st_model.specs.Arborescence.{IsArborescence, IsTree, reached};
 ghost use Rattle.st_model.specs.Branch.{Belongs, IsBranch};
@@ -40,13 +40,46 @@ fn is_better(
     requires tree { IsArborescence instance.now tree.now }
     ensures { IfOk result (λ answer. OnTrue answer (IsCheaper instance.now branch.now tree.now other.now)) }
 {
-    if !is_tree(alloc, instance, other)? {
-        return Ok(false);
-    }
-    if !belongs(alloc, instance, branch, other)? {
+    if !is_of_branch(alloc, instance, branch, other)? {
         return Ok(false);
     }
     Ok(tree_cost(instance, other) < tree_cost(instance, tree))
+}
+
+/// The tree, where it is judged to be one of the branch.
+pub fn judged(
+    alloc: Global,
+    instance: &Instance,
+    branch: &Sides,
+    tree: Tree,
+) -> Result<Option<Tree>, AllocError>
+    requires { IsBranch instance.now branch.now }
+    ensures same { IfOk result (λ found. IfSome found (λ t. t ≡ tree)) }
+    ensures tree { IfOk result (λ found. IfSome found (IsTree instance.now)) }
+    ensures belongs { IfOk result (λ found. IfSome found (Belongs branch.now)) }
+{
+    if is_of_branch(alloc, instance, branch, &tree)? {
+        Ok(Some(tree))
+    } else {
+        Ok(None)
+    }
+}
+
+// Whether this is a tree of the branch.
+fn is_of_branch(
+    alloc: Global,
+    instance: &Instance,
+    branch: &Sides,
+    tree: &Tree,
+) -> Result<bool, AllocError>
+    requires { IsBranch instance.now branch.now }
+    ensures { IfOk result (λ answer. OnTrue answer (IsTree instance.now tree.now × Belongs branch.now tree.now)) }
+{
+    if !is_tree(alloc, instance, tree)? {
+        return Ok(false);
+    }
+    let answer = belongs(alloc, instance, branch, tree)?;
+    Ok(answer)
 }
 
 // Whether a tree reaches all vertices inside, and none outside.

@@ -4,7 +4,7 @@
 //! of what is reached, branches that aren't worth their links taken off, vertices put in, key
 //! paths exchanged, and key vertices taken out (Uchoa and Werneck 2010, Fast local search for
 //! Steiner trees in graphs). A caller may rely on what comes out: a tree of the branch that costs
-//! no more. Which moves are tried, and in which order, is free: what they lay out is judged.
+//! no more. A tree that was found elsewhere is judged by `judged`. Which moves are tried, and in which order, is free: what they lay out is judged.
 #![tactic(auto)]
 
 mod branches;
@@ -22,3 +22,4 @@ mod spanning;
 mod tests;
 
 pub use improving::improve;
+pub use judging::judged;

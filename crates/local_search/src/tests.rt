@@ -1,6 +1,6 @@
 ghost use Rattle.std.specs.Prelude.{◌≡◌};
 
-use crate::improve;
+use crate::{improve, judged};
 use graph_store::Whole;
 use st_model::{Branch, Instance, Link, Listed, Need, Sides, Tree, is_tree, tree_cost};
 use std::alloc::{AllocError, Global};
@@ -123,5 +123,28 @@ fn weighs_prizes(rt: HostRuntime) -> Result<(), Fail> {
     let instance = two_prizes(rt.alloc())?;
     let cost = improved_cost(rt.alloc(), instance, 1, &[(1, 2), (2, 3)])?;
     assert_eq!(rt; cost, 11);
+    Ok(())
+}
+
+// Whether arcs from 1 are judged to be a tree.
+fn is_judged_so(alloc: Global, arcs: &[(u32, u32)]) -> Result<bool, AllocError> {
+    let instance = two_paths(alloc)?;
+    let branch = Sides::of(alloc, Branch::all(alloc))?;
+    let tree = Tree {
+        start: 1,
+        arcs: Listed::of(Vec::from_slice(alloc, arcs)?),
+    };
+    let found = judged(alloc, &instance, &branch, tree)?;
+    Ok(found.is_some())
+}
+
+#[test]
+fn judges_what_was_found_elsewhere(rt: HostRuntime) -> Result<(), Fail> {
+    assert!(rt; is_judged_so(rt.alloc(), &[(1, 4), (4, 5), (5, 2)])?);
+    assert!(rt; !is_judged_so(rt.alloc(), &[(1, 2)])?, "over no link");
+    assert!(rt;
+        !is_judged_so(rt.alloc(), &[(1, 4), (4, 5)])?,
+        "without a required vertex"
+    );
     Ok(())
 }
