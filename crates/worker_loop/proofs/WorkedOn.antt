@@ -1,5 +1,5 @@
 -- What a worker does with a node that it claimed.
-use Rattle.std.proofs.Common.{◌≡◌, ℕ, ◌+◌, ◌<◌, ◌≤◌, min, List, [], ◌∷◌, ◌++◌, Option, Some, None, ◌⊎◌, inl, inr, refl, sym, ap, ◌∙◌, subst, arith}
+use Rattle.std.proofs.Common.{◌≡◌, ℕ, Bool, true, false, ◌+◌, ◌<◌, ◌≤◌, min, List, [], ◌∷◌, ◌++◌, Option, Some, None, ◌⊎◌, inl, inr, refl, sym, ap, ◌∙◌, subst, arith}
 use Rattle.std.specs.Prelude.{IfSome}
 use Rattle.std.specs.List.{sum_by}
 use Rattle.std.proofs.lemmas.List.Elements.{All-cons, All-nil}
@@ -23,11 +23,11 @@ use Rattle.search_core.specs.Complete.{without_gone}
 use Rattle.search_core.specs.Needs.{IsFullBelow}
 use Rattle.search_core.specs.declared.done.Done.{Done}
 use Rattle.search_core.specs.declared.done.Done.TheVariants as recorded
-use Rattle.worker_loop.specs.declared.step.End.TheVariants.{Close, Split}
+use Rattle.worker_loop.specs.declared.step.End.TheVariants.{Close}
 use Rattle.worker_loop.specs.declared.step.Priced.{Priced}
 use Rattle.worker_loop.specs.declared.work.Work.{Work}
 use Rattle.worker_loop.specs.Node.{IsPartOf}
-use Rattle.worker_loop.specs.Progress.{Adopts, AreDrawnBelow, HasSeen, IsClosed, IsHalved, IsWorkedOn, Moment, as_of}
+use Rattle.worker_loop.specs.Progress.{Adopts, AreDrawnBelow, HasSeen, IsClosed, IsHalved, IsWorkedOn, Moment, as_of, half_of, other_of}
 use Rattle.worker_loop.specs.Run.{IsFound, IsSplitTask, halves_by}
 use Rattle.worker_loop.specs.Sound.{IsSound}
 use Rattle.worker_loop.specs.Step.{IsBetter, IsEnd, SplitsAt, least_after}
@@ -179,27 +179,42 @@ least_low : (r : ℕ) (better : Option Priced) (I : Network) (B : Branch) → If
 least_low r None I B h = omega arith
 least_low r (Some p) I B h = omega (arith, h.cheaper)
 
+-- the half to go on with is sound
+pub sound_half : (I : Network) (gone : List ℕ) (N : Node) (v i o : ℕ) (deleted : Bool) → IsSound I gone N → IsSplit I N.branch v → IsSound I gone (half_of deleted N v i o)
+sound_half I gone N v i o true sound split = sound_outside I gone N v o sound split
+sound_half I gone N v i o false sound split = sound_inside I gone N v i sound split
+
+-- however nodes are weighed, both halves weigh as much in either order
+both_halves : (w : Node → ℕ) (N : Node) (v i o : ℕ) (deleted : Bool) → w (half_of deleted N v i o) + w (other_of deleted N v i o) ≡ w (inside_half N v i) + w (outside_half N v o)
+both_halves w N v i o true = swapped (w (outside_half N v o)) (w (inside_half N v i))
+  where
+    swapped : (a b : ℕ) → a + b ≡ b + a
+    swapped a b = omega arith
+both_halves w N v i o false = refl
+
 -- a node was split as a step says
-pub split_on : (I : Network) (gone : List ℕ) (start seat workers r : ℕ) (N M inside : Node) (v : ℕ) (q : Station) (u : Account) (s s' : Sight) (next : ℕ) (k k' : Work) (m : Moment)
+pub split_on : (I : Network) (gone : List ℕ) (start seat workers r : ℕ) (N M half : Node) (v : ℕ) (deleted : Bool) (q : Station) (u : Account) (s s' : Sight) (next : ℕ) (k k' : Work) (m : Moment)
     (better : Option Priced) → IsSound I gone N
-    → r ≤ s.lowest → s.lowest ≤ start → IfSome better (IsBetter I N.branch r) → IsEnd I N (least_after r better) (Split M v)
-    → Adopts better (having_seen s r) s' (record { done = k.done; best = k.best; seen = r }) k' → IsHalved workers N.id M v (as_of q u s' next k') m inside
-    → IsWorkedOn I gone start seat workers N (as_of q u s next k) m (inside ∷ []) (recorded.Split N.id v next (next + workers) M.packing)
-split_on I gone start seat workers r N M inside v q u s s' next k k' m better sound low first is_better end adopts halved =
+    → r ≤ s.lowest → s.lowest ≤ start → IfSome better (IsBetter I N.branch r) → SplitsAt I N (least_after r better) M v
+    → Adopts better (having_seen s r) s' (record { done = k.done; best = k.best; seen = r }) k' → IsHalved workers N.id M v deleted (as_of q u s' next k') m half
+    → IsWorkedOn I gone start seat workers N (as_of q u s next k) m (half ∷ []) (recorded.Split N.id v next (next + workers) M.packing)
+split_on I gone start seat workers r N M half v deleted q u s s' next k k' m better sound low first is_better end adopts halved =
     let a = adopted I gone start r N s s' k k' better sound low is_better adopts in
     let d = recorded.Split N.id v next (next + workers) M.packing in
     let grown : m.work.done.items ≡ k.done.items ++ d ∷ [] = halved.done ∙ ap (λ (ds : List Done). ds ++ d ∷ []) a.done in
     let less : least_after r better ≤ start = omega (arith, least_low r better I N.branch is_better, low, first) in
-    let inner : IsSound I gone (inside_half M v next) = sound_inside I gone M v next (split_sound I gone N M (least_after r better) v sound end) (split_vertex I N M (least_after r better) v end) in
+    let halves_sound : IsSound I gone (half_of deleted M v next (next + workers)) =
+    sound_half I gone M v next (next + workers) deleted (split_sound I gone N M (least_after r better) v sound end) (split_vertex I N M (least_after r better) v end) in
     record {
       task = record { sound = sound; same = refl; done_right = split_task I N M (least_after r better) start v less end };
       records = grown;
-      held_sound = All-cons (IsSound I gone) inside [] (subst (IsSound I gone) (sym halved.inside_is) inner) (All-nil (IsSound I gone));
+      held_sound = All-cons (IsSound I gone) half [] (subst (IsSound I gone) (sym halved.half_is) halves_sound) (All-nil (IsSound I gone));
       nodes = λ w.
           let halves : sum_by w (halves_by N.branch d) ≡ sum_by w (inside_half M v next ∷ outside_half M v (next + workers) ∷ []) = ap (sum_by w)
           (same_halves N.branch M N.id v next (next + workers) end.same) in
-          let one : sum_by w (inside ∷ []) ≡ sum_by w (inside_half M v next ∷ []) = ap (λ (n : Node). sum_by w (n ∷ [])) halved.inside_is in
-          balance (gave w q) (gave w m.pass) (took w q) (took w m.pass) _ (w (inside_half M v next)) (w (outside_half M v (next + workers))) _ (halved.pass w) one halves;
+          let one : sum_by w (half ∷ []) ≡ sum_by w (half_of deleted M v next (next + workers) ∷ []) = ap (λ (n : Node). sum_by w (n ∷ [])) halved.half_is in
+          balance (gave w q) (gave w m.pass) (took w q) (took w m.pass) _ (w (half_of deleted M v next (next + workers))) (w (other_of deleted M v next (next + workers)))
+          (w (inside_half M v next)) (w (outside_half M v (next + workers))) _ (halved.pass w) one (both_halves w M v next (next + workers) deleted) halves;
       drawn = λ h.
           subst (λ (n : ℕ). AreDrawnBelow seat workers n m.work.done.items) (sym halved.next)
           (subst (λ (ds : List Done). AreDrawnBelow seat workers (next + workers + workers) ds) (sym grown) (drawn_split seat workers next N.id v k.done.items M.packing h));
@@ -212,8 +227,8 @@ split_on I gone start seat workers r N M inside v q u s s' next k k' m better so
       halts = ap (λ (v : Account). v.tally.halts) halved.account;
     }
   where
-    balance : (g g' t t' here inner outer both : ℕ) → g' + t + 0 ≡ g + t' + (0 + outer) → here ≡ 0 + inner → both ≡ 0 + inner + outer → g' + t + here ≡ g + t' + both
-    balance g g' t t' here inner outer both a b c = omega arith
+    balance : (g g' t t' here half other inner outer both : ℕ) → g' + t + 0 ≡ g + t' + (0 + other) → here ≡ 0 + half → half + other ≡ inner + outer → both ≡ 0 + inner + outer → g' + t + here ≡ g + t' + both
+    balance g g' t t' here half other inner outer both a b c d = omega arith
 
     plain : (a : ℕ) → a ≡ a + 0
     plain a = omega arith

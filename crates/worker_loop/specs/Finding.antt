@@ -25,4 +25,4 @@ later better (Some p) = Some p
 
 -- what was found before and after a better tree was
 abbrev pub together : Option Priced → Finding → Finding
-together better f = record { better = later better f.better; closing = f.closing }
+together better f = record { better = later better f.better; closing = f.closing; plan = f.plan }

@@ -1,5 +1,5 @@
 -- What a worker did since its run began, at some moment of it. Helpers' clauses cite this, and no public one.
-use Rattle.std.specs.Prelude.{◌≡◌, ℕ, ◌+◌, ◌*◌, ◌<◌, ◌≤◌, min, List, [], ◌∷◌, ◌++◌, length, map, All, Option, Some, None}
+use Rattle.std.specs.Prelude.{◌≡◌, ℕ, Bool, if◌then◌else◌, ◌+◌, ◌*◌, ◌<◌, ◌≤◌, min, List, [], ◌∷◌, ◌++◌, length, map, All, Option, Some, None}
 use Rattle.std.specs.List.{flat_map, sum_by}
 use Rattle.std.specs.Option.{option_to_list}
 use Rattle.st_model.specs.declared.tree.Tree.{Tree}
@@ -107,10 +107,18 @@ pub record IsClosed (id : ℕ) (P : Packing) (m m' : Moment) : Type 0 where
   pub best : m'.work.best ≡ m.work.best
   pub seen : m'.work.seen ≡ m.work.seen
 
--- the node under an id was split, with the packing of N: the half outside was given, and the one inside is in hand
-pub record IsHalved (workers id : ℕ) (N : Node) (v : ℕ) (m m' : Moment) (inside : Node) : Type 0 where
-  pub inside_is : inside ≡ inside_half N v m.next
-  pub pass : Moves m.pass m'.pass (outside_half N v (m.next + workers) ∷ []) []
+-- of the two halves of a node, the one to go on with: where the vertex is deleted, the one outside
+abbrev pub half_of : Bool → Node → ℕ → ℕ → ℕ → Node
+half_of deleted N v i o = if deleted then outside_half N v o else inside_half N v i
+
+-- and the other one
+abbrev pub other_of : Bool → Node → ℕ → ℕ → ℕ → Node
+other_of deleted N v i o = if deleted then inside_half N v i else outside_half N v o
+
+-- the node under an id was split, with the packing of N: one half is in hand, and the other one was given
+pub record IsHalved (workers id : ℕ) (N : Node) (v : ℕ) (deleted : Bool) (m m' : Moment) (half : Node) : Type 0 where
+  pub half_is : half ≡ half_of deleted N v m.next (m.next + workers)
+  pub pass : Moves m.pass m'.pass (other_of deleted N v m.next (m.next + workers) ∷ []) []
   pub account : m'.account ≡ counting m.account (with_up m.account.tally)
   pub sight : m'.sight ≡ m.sight
   pub next : m'.next ≡ m.next + workers + workers

@@ -8,73 +8,48 @@ ghost use Rattle.worker_loop.specs.Finding.{later};
 ghost use Rattle.worker_loop.specs.Node.{IsPartOf};
 ghost use Rattle.worker_loop.specs.Step.{IsBetter, least_after};
 
+use crate::growing::grown;
 use crate::step::Priced;
-use crate::used_up::used_up;
 use bidirected_form::Arcs;
 use cut_packing::{Packing, weight};
 use graph_store::Whole;
-use local_search::improve;
-use st_model::{Branch, Instance, Listed, Sides, Tree, VertexSet, tree_cost, walk};
+use local_search::{improve, judged};
+use st_model::{Branch, Instance, Listed, Sides, Tree, VertexSet, tree_cost};
 use std::alloc::{AllocError, Global};
-use tree_heuristic::{first_tree, guided_tree, prune};
+use tree_heuristic::{guided_tree, prune};
 
-/// A tree of the branch that costs less than the least cost known, if `tree_near` is one.
+/// A tree of the branch that costs less than the least cost known, if `used_up_tree` is one.
 pub fn better_tree(
     alloc: Global,
     whole: &Whole,
     branch: &Sides,
     arcs: &Arcs,
     least: u64,
-    gap: u64,
 ) -> Result<Option<Priced>, AllocError>
     requires branch { IsBranch whole.now.instance branch.now }
     ensures { IfOk result (λ better. IfSome better (IsBetter whole.now.instance branch.now least)) }
 {
-    let tree = tree_near(alloc, whole, branch, arcs, least, gap)?;
+    let tree = used_up_tree(alloc, whole, branch, arcs)?;
     Ok(cheaper(&whole.instance, tree, least))
 }
 
-/// A tree of the branch over the vertices to which arcs with nothing left lead from the root, if one is
-/// found. One that costs more than the least cost known by over twice the gap hardly becomes the
-/// cheapest, and isn't improved. The gap is what the bound is below that cost.
-pub fn tree_near(
+/// A tree of the branch over arcs with nothing left, if there is one: pruned and improved.
+pub fn used_up_tree(
     alloc: Global,
     whole: &Whole,
     branch: &Sides,
     arcs: &Arcs,
-    least: u64,
-    gap: u64,
 ) -> Result<Option<Tree>, AllocError>
     requires branch { IsBranch whole.now.instance branch.now }
     ensures tree { IfOk result (λ tree. IfSome tree (IsTree whole.now.instance)) }
     ensures belongs { IfOk result (λ tree. IfSome tree (Belongs branch.now)) }
 {
-    let heads = used_up(alloc, arcs)?;
-    let reached = walk(alloc, &heads, arcs.root())?;
-    let limit = least.saturating_add(gap.saturating_mul(2));
-    tree_over(alloc, whole, branch, &reached, limit)
-}
-
-/// A tree of the branch, if one is found: a first tree, pruned, over the vertices of a set and those
-/// that have to be reached; improved, where it costs no more than a limit.
-pub fn tree_over(
-    alloc: Global,
-    whole: &Whole,
-    branch: &Sides,
-    vertices: &VertexSet,
-    limit: u64,
-) -> Result<Option<Tree>, AllocError>
-    requires branch { IsBranch whole.now.instance branch.now }
-    ensures tree { IfOk result (λ tree. IfSome tree (IsTree whole.now.instance)) }
-    ensures belongs { IfOk result (λ tree. IfSome tree (Belongs branch.now)) }
-{
-    let narrow = narrowed(alloc, &whole.instance, branch, vertices)?;
-    let narrow = Sides::of(alloc, narrow)?;
-    let Some(tree) = first_tree(alloc, &whole.store, &narrow)? else {
+    let tree = grown(alloc, whole, branch, arcs)?;
+    let Some(tree) = judged(alloc, &whole.instance, branch, tree)? else {
         return Ok(None);
     };
-    let tree = prune(alloc, &whole.instance, &narrow, tree)?;
-    Ok(Some(improved(alloc, whole, branch, tree, limit)?))
+    let tree = prune(alloc, &whole.instance, branch, tree)?;
+    Ok(Some(improve(alloc, whole, branch, tree)?))
 }
 
 /// A tree of the branch, if one is found: a first tree along weighted costs, pruned and improved.
@@ -101,26 +76,6 @@ pub fn cheaper(instance: &Instance, tree: Option<Tree>, least: u64) -> Option<Pr
     ensures { (B : Part) → IfSome tree (Belongs B) → IfSome result (IsBetter instance.now B least) }
 {
     priced(instance, tree?, least)
-}
-
-// The tree, or where it costs no more than a limit one that local search makes of it.
-fn improved(
-    alloc: Global,
-    whole: &Whole,
-    branch: &Sides,
-    tree: Tree,
-    limit: u64,
-) -> Result<Tree, AllocError>
-    requires branch { IsBranch whole.now.instance branch.now }
-    requires tree { IsTree whole.now.instance tree }
-    requires belongs { Belongs branch.now tree }
-    ensures tree { IfOk result (IsTree whole.now.instance) }
-    ensures belongs { IfOk result (Belongs branch.now) }
-{
-    if tree_cost(&whole.instance, &tree) > limit {
-        return Ok(tree);
-    }
-    improve(alloc, whole, branch, tree)
 }
 
 /// What a packing of the branch weighs less than the least cost known.

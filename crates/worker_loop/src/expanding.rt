@@ -15,8 +15,10 @@ use crate::bettering::{gap, least_after, priced};
 use crate::deciding::root_of;
 use crate::distances::near_root;
 use crate::effort::Effort;
+use crate::following::follow;
 use crate::guessing::{guess, together};
 use crate::picking::pick;
+use crate::plan::Plan;
 use crate::refining::Guide;
 use crate::rounds::{Rounds, tree_of, work_by_rounds};
 use crate::step::{End, Finding, Priced, Step};
@@ -32,13 +34,14 @@ use std::alloc::{AllocError, Global};
 /// a tree, or where nothing is left to decide. Else its packing is extended until it weighs so
 /// much, or is full; a full one leads to a tree, which may be cheaper, and unless it weighs as much
 /// as the cheapest one known the node splits. `known` is the best tree that is known: where it
-/// branches a split tells most.
+/// branches a split tells most. Where a plan was made for the node, it is followed.
 pub fn expand(
     alloc: Global,
     whole: &Whole,
     node: Node,
     least: u64,
     known: &Tree,
+    plan: Option<Plan>,
 ) -> Result<Step, AllocError>
     requires instance { IsInstance whole.now.instance }
     requires node { IsWritableNode whole.now.instance node }
@@ -50,7 +53,10 @@ pub fn expand(
         return Ok(closed(node.packing));
     }
     match choose(&node, &whole.instance) {
-        Some(vertex) => work_on(alloc, whole, node, vertex, least, known),
+        Some(vertex) => match plan {
+            Some(plan) => follow(alloc, whole, node, vertex, least, known, plan),
+            None => work_on(alloc, whole, node, vertex, least, known),
+        },
         None => close(alloc, &whole.instance, node, least),
     }
 }
@@ -77,7 +83,7 @@ fn close(alloc: Global, instance: &Instance, node: Node, least: u64) -> Result<S
 }
 
 // A close, with no better tree.
-fn closed(packing: Packing) -> Step
+pub fn closed(packing: Packing) -> Step
     ensures { result ≡ record { better = None; end = End.Close packing } }
 {
     Step {
@@ -88,7 +94,7 @@ fn closed(packing: Packing) -> Step
 
 // Works on a node that weighs less than the least cost known, and that can be split at the vertex
 // given. Where no vertex is certain, so that there is no root for cuts, it splits there.
-fn work_on(
+pub fn work_on(
     alloc: Global,
     whole: &Whole,
     node: Node,
@@ -149,7 +155,7 @@ fn work_on(
 }
 
 // The node of a branch.
-fn node_of(id: u64, branch: Sides, packing: Packing) -> Node
+pub fn node_of(id: u64, branch: Sides, packing: Packing) -> Node
     ensures { result ≡ record { id = id; branch = branch; packing = packing } }
 {
     Node {
@@ -182,7 +188,7 @@ fn guessed(
 }
 
 // A split, with no better tree.
-fn split(node: Node, vertex: u32) -> Step
+pub fn split(node: Node, vertex: u32) -> Step
     ensures { result ≡ record { better = None; end = End.Split node vertex } }
 {
     Step {
@@ -200,19 +206,30 @@ fn concluded(instance: &Instance, node: Node, vertex: u32, finding: Finding, lea
     requires finding { IsFinding instance.now node.branch least finding }
     ensures { IsStep instance.now node least result }
 {
-    let Finding { better, closing } = finding;
+    let Finding {
+        better,
+        closing,
+        plan,
+    } = finding;
     match closing {
         Some(packing) => Step {
             better,
             end: End::Close(packing),
         },
-        None => ended(instance, node, vertex, better, least),
+        None => ended(instance, node, vertex, better, least, plan),
     }
 }
 
 // Ends a node with a full packing: it closes where this weighs as much as the cheapest tree known,
-// and else it splits.
-fn ended(instance: &Instance, node: Node, vertex: u32, better: Option<Priced>, least: u64) -> Step
+// and else it splits, by a plan if there is one.
+fn ended(
+    instance: &Instance,
+    node: Node,
+    vertex: u32,
+    better: Option<Priced>,
+    least: u64,
+    plan: Option<Plan>,
+) -> Step
     requires node { IsWritableNode instance.now node }
     requires full { IsFull instance.now node.branch node.packing }
     requires vertex { IsSplit instance.now node.branch vertex }
@@ -225,6 +242,14 @@ fn ended(instance: &Instance, node: Node, vertex: u32, better: Option<Priced>, l
             better,
             end: End::Close(node.packing),
         };
+    }
+    if let Some(plan) = plan {
+        if let Some(next) = plan.next(instance, &node.branch) {
+            return Step {
+                better,
+                end: End::Delete(node, next, plan),
+            };
+        }
     }
     Step {
         better,

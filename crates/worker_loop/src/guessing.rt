@@ -3,8 +3,10 @@ ghost use Rattle.st_model.specs.Network.{IsInstance};
 ghost use Rattle.dual_ascent.specs.Extension.{IsRootFor, IsStart};
 ghost use Rattle.worker_loop.specs.Finding.{IsFinding, together};
 
-use crate::bettering::{better_tree, gap, later, narrowed};
+use crate::bettering::{better_tree, later, narrowed};
+use crate::deleting::needed;
 use crate::node::no_cuts;
+use crate::plan::Plan;
 use crate::refining::{Guide, raise_refined};
 use crate::repairing::repaired;
 use crate::step::{Finding, Priced};
@@ -17,12 +19,16 @@ use std::alloc::{AllocError, Global};
 // Of how many free vertices one at least has to be far, for a guess to be worth its time.
 const FREE_FOR_ONE_FAR: u64 = 50;
 
+// How many vertices are deleted by a plan, at most.
+const MOST_DELETED: usize = 20;
+
 // For how many turns the packing of the guess is refined.
 const TURNS: u64 = 10;
 
 /// What is found by the guess that whoever isn't near the root is outside: cuts raised there for the
-/// root lead to a tree that is cheaper, or to a packing that closes the branch itself. `packing` is one of
-/// the branch for this root. (Duin 1993 deletes vertices that are too far by bound.)
+/// root lead to a tree that is cheaper, to a packing that closes the branch itself, or to a plan to close
+/// it by few deletions. `packing` is one of the branch for this root. (Duin 1993 deletes vertices that are
+/// too far by bound.)
 pub fn guess(
     alloc: Global,
     whole: &Whole,
@@ -52,18 +58,23 @@ pub fn guess(
     )?;
     match ascent {
         Ascent::Reached(found) => {
+            let vertices = needed(alloc, whole, branch, &part, &found)?;
+            if are_few(&vertices) {
+                return Ok(planned(Plan::of(&whole.instance, vertices, found)));
+            }
             let closing = repaired(alloc, whole, branch, found, root, least, guide)?;
             Ok(Finding {
                 better: None,
                 closing,
+                plan: None,
             })
         }
-        Ascent::Full(found) => {
-            let gap = gap(&whole.instance, &part, &found, least);
-            let better = better_tree(alloc, whole, branch, &left.arcs, least, gap)?;
+        Ascent::Full(_) => {
+            let better = better_tree(alloc, whole, branch, &left.arcs, least)?;
             Ok(Finding {
                 better,
                 closing: None,
+                plan: None,
             })
         }
     }
@@ -87,12 +98,30 @@ fn are_many_far(instance: &Instance, branch: &Sides, near: &VertexSet) -> bool {
 
 // Neither a tree nor a packing.
 fn nothing() -> Finding
-    ensures { result ≡ record { better = None; closing = None } }
+    ensures { result ≡ record { better = None; closing = None; plan = None } }
 {
     Finding {
         better: None,
         closing: None,
+        plan: None,
     }
+}
+
+// A plan, and neither a tree nor a packing.
+fn planned(plan: Plan) -> Finding
+    ensures tree { result.better ≡ None }
+    ensures packing { result.closing ≡ None }
+{
+    Finding {
+        better: None,
+        closing: None,
+        plan: Some(plan),
+    }
+}
+
+// Whether so few vertices are to be deleted that this is worth two lines of the proof each.
+fn are_few(vertices: &[u32]) -> bool {
+    !vertices.is_empty() && vertices.len() <= MOST_DELETED
 }
 
 /// What was found before and after a better tree was.
@@ -102,9 +131,11 @@ pub fn together(better: Option<Priced>, more: Finding) -> Finding
     let Finding {
         better: found,
         closing,
+        plan,
     } = more;
     Finding {
         better: later(better, found),
         closing,
+        plan,
     }
 }

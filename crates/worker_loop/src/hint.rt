@@ -1,3 +1,4 @@
+use crate::plan::Plan;
 use crate::step::Priced;
 use st_model::{Listed, Tree};
 use std::alloc::{AllocError, Global};
@@ -53,11 +54,13 @@ impl Hint {
     }
 }
 
-/// The best tree that a worker knows, its own or another's.
+/// What a worker knows beside its node: the best tree, its own or another's, and a plan.
 #[derive(Drop)]
 pub struct Known<'a> {
     hint: &'a Hint,
     best: Priced,
+    // The plan for the node in hand, if there is one.
+    pub plan: Option<Plan>,
 }
 
 impl<'a> Known<'a> {
@@ -69,6 +72,7 @@ impl<'a> Known<'a> {
         Ok(Known {
             hint,
             best: Priced { tree, price },
+            plan: None,
         })
     }
 

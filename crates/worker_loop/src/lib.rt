@@ -1,31 +1,35 @@
 //! The search for a least tree by splits, by 1 to 64 workers side by side, within a budget of nodes.
 //!
-//! A worker goes on with the half inside of the node that it split last, and else takes a node of
-//! the pool, from its own queue or another's. What `expand` finds closes a node or splits it into
-//! the half with a vertex inside and the half with it outside, which the worker gives to the pool;
-//! each record is one node's. What one worker did is known by its pass and its seats alone; the sums
-//! over all of them are put together when they are handed back. Of what `run_all` gathers callers
-//! may rely on search_core's *complete* and *finished*: the records and the nodes that wait are a
-//! proof tree, and nodes wait only where the whole budget was spent.
+//! A worker goes on with the half inside of the node that it split last, or the half outside where the
+//! vertex is deleted by bound, and else takes a node of the pool, from its own queue or another's. What
+//! `expand` finds closes a node or splits it into the half with a vertex inside and the half with it
+//! outside, one of which the worker gives to the pool; each record is one node's. What one worker did is
+//! known by its pass and its seats alone; the sums over all of them are put together when they are handed
+//! back. Of what `run_all` gathers callers may rely on search_core's *complete* and *finished*: the records
+//! and the nodes that wait are a proof tree, and nodes wait only where the whole budget was spent.
 #![tactic(auto)]
 
 mod aim;
 mod bettering;
 mod by_vertex;
 mod deciding;
+mod deleting;
 mod distances;
 mod draws;
 mod effort;
 mod elite;
 mod expanding;
 mod faults;
+mod following;
 mod freeing;
 mod gate;
+mod growing;
 mod guessing;
 mod hint;
 mod joints;
 mod node;
 mod picking;
+mod plan;
 mod raising;
 mod refining;
 mod repairing;
@@ -41,7 +45,6 @@ mod team;
 mod tests;
 mod trees;
 mod turn;
-mod used_up;
 mod work;
 mod worker;
 

@@ -71,6 +71,29 @@ impl<'a> Room<'a> {
         most
     }
 
+    // Charges a cut, and marks whoever an arc comes from of which less is left than the cut's value.
+    pub fn charge(&mut self, set: &[u32], value: u64, short: &mut [bool]) {
+        self.mark(set, true);
+        for vertex in set {
+            self.mark_short(*vertex, value, short);
+        }
+        self.lower(set, value);
+        self.mark(set, false);
+    }
+
+    fn mark_short(&self, vertex: u32, value: u64, short: &mut [bool]) {
+        if vertex < 1 || self.store.vertices() < vertex {
+            return;
+        }
+        let mut place = at(&self.firsts, vertex, 0);
+        for half in self.store.neighbours(vertex) {
+            if self.enters(half.to) && self.links.get(place).copied().unwrap_or(0) < value {
+                put(short, half.to, true);
+            }
+            place = place.wrapping_add(1);
+        }
+    }
+
     fn mark(&mut self, set: &[u32], is_in: bool) {
         for vertex in set {
             put(&mut self.marks, *vertex, is_in);

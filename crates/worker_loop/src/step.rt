@@ -1,3 +1,4 @@
+use crate::plan::Plan;
 use branching::Node;
 use cut_packing::Packing;
 use st_model::Tree;
@@ -10,11 +11,12 @@ pub struct Priced {
 }
 
 /// What is found beside a full packing: a tree cheaper than the least cost known, and a packing that
-/// weighs at least the least cost known by then.
+/// weighs at least the least cost known by then, or a plan how to close.
 #[derive(Debug, Drop)]
 pub struct Finding {
     pub better: Option<Priced>,
     pub closing: Option<Packing>,
+    pub plan: Option<Plan>,
 }
 
 /// What the work on a node gave: a tree cheaper than the least cost known, if one was found, and
@@ -32,4 +34,6 @@ pub enum End {
     Close(Packing),
     /// It splits at this vertex; it has the packing with which its halves begin.
     Split(Node, u32),
+    /// It splits at this vertex, by which the half inside closes: the other one goes on by the plan.
+    Delete(Node, u32, Plan),
 }

@@ -3,7 +3,7 @@ ghost use Rattle.st_model.specs.Branch.{IsBranch};
 ghost use Rattle.worker_loop.specs.Node.{IsPartOf};
 ghost use Rattle.worker_loop.specs.Step.{IsBetter};
 
-use crate::bettering::{cheaper, gap, later, least_after, narrowed, tree_near};
+use crate::bettering::{cheaper, gap, later, least_after, narrowed, used_up_tree};
 use crate::distances::near_root;
 use crate::effort::Effort;
 use crate::elite::Elite;
@@ -39,12 +39,14 @@ pub fn trees_at(
     requires branch { IsBranch whole.now.instance branch.now }
     ensures { IfOk result (λ trees. IfSome trees.better (IsBetter whole.now.instance branch.now least)) }
 {
-    let below = gap(&whole.instance, branch, extension.ascent.packing(), least);
-    let tree = tree_near(alloc, whole, branch, &extension.left.arcs, least, below)?;
+    let tree = used_up_tree(alloc, whole, branch, &extension.left.arcs)?;
     let mut joints = Joints::of_none(alloc, &whole.instance)?;
     joints.count(alloc, known)?;
     if let Some(tree) = &tree {
         joints.count(alloc, tree)?;
+        if effort.is_bare {
+            elite.keep(alloc, &whole.instance, tree)?;
+        }
     }
     let better = cheaper(&whole.instance, tree, least);
     if !effort.is_bare {

@@ -86,7 +86,8 @@ impl<Q: Aim> Worker<Q> {
         let id = node.id;
         work.seen = self.best.see();
         known.catch_up(rt, alloc, work.seen)?;
-        let Step { better, end } = expand(alloc, whole, node, work.seen, known.tree())?;
+        let plan = known.plan.take();
+        let Step { better, end } = expand(alloc, whole, node, work.seen, known.tree(), plan)?;
         known.show(rt, alloc, &better)?;
         self.adopt(better, work);
         match end {
@@ -95,8 +96,13 @@ impl<Q: Aim> Worker<Q> {
                 Ok(None)
             }
             End::Split(node, vertex) => {
-                let inside = self.split(alloc, id, node, vertex, work)?;
-                Ok(Some(inside))
+                let half = self.split(alloc, id, node, vertex, false, work)?;
+                Ok(Some(half))
+            }
+            End::Delete(node, vertex, plan) => {
+                known.plan = Some(plan);
+                let rest = self.split(alloc, id, node, vertex, true, work)?;
+                Ok(Some(rest))
             }
         }
     }
@@ -123,20 +129,22 @@ impl<Q: Aim> Worker<Q> {
         Ok(())
     }
 
-    // Splits the node under an id, with the packing with which its halves begin: gives the half
-    // outside to the pool, and answers the one inside.
+    // Splits the node under an id, with the packing with which its halves begin: answers the half to
+    // go on with, the one outside where the vertex is deleted and else the one inside, and gives the
+    // other one to the pool.
     fn split(
         &mut self,
         alloc: Global,
         id: u64,
         node: Node,
         vertex: u32,
+        is_deleted: bool,
         work: &mut Work,
     ) -> Result<Node, AllocError>
         requires node { IsSound Q.instance Q.gone node }
         requires vertex { IsSplit Q.instance node.branch vertex }
         ensures same { SameWorker self.old self.new }
-        ensures halved { IfOk result (IsHalved self.old.workers id node vertex
+        ensures halved { IfOk result (IsHalved self.old.workers id node vertex is_deleted
             (moment self.old work.old) (moment self.new work.new)) }
     {
         self.ledger.up();
@@ -152,7 +160,12 @@ impl<Q: Aim> Worker<Q> {
             outside: second,
             packing,
         })?;
-        self.give(outside)?;
-        Ok(inside)
+        let (half, other) = if is_deleted {
+            (outside, inside)
+        } else {
+            (inside, outside)
+        };
+        self.give(other)?;
+        Ok(half)
     }
 }

@@ -1,0 +1,32 @@
+use crate::by_vertex::at;
+use crate::room::Room;
+use cut_packing::Packing;
+use graph_store::Whole;
+use st_model::Sides;
+use std::alloc::{AllocError, Global};
+
+/// The vertices of a branch that have to be outside for a packing of a part of it to fit it: tails of
+/// arcs that bear more of its cuts than they cost. Those whose prizes the packing counts are with them.
+pub fn needed(
+    alloc: Global,
+    whole: &Whole,
+    branch: &Sides,
+    part: &Sides,
+    packing: &Packing,
+) -> Result<Vec<u32>, AllocError> {
+    let vertices = whole.instance.vertices();
+    let mut room = Room::of(alloc, &whole.store, &whole.instance, branch)?;
+    let mut short = vec![in alloc; false; vertices as usize + 1]?;
+    for cut in packing.cuts.as_slice() {
+        room.charge(cut.set.as_slice(), cut.y, &mut short);
+    }
+    let mut needed = Vec::new(alloc);
+    for before in 0..vertices {
+        let vertex = before + 1;
+        let is_deleted = part.is_outside(vertex) && !branch.is_outside(vertex);
+        if is_deleted && (at(&short, vertex, false) || whole.instance.prize(vertex) > 0) {
+            needed.push(vertex)?;
+        }
+    }
+    Ok(needed)
+}

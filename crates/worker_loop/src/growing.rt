@@ -1,0 +1,138 @@
+use crate::by_vertex::{at, put};
+use bidirected_form::Arcs;
+use graph_store::Whole;
+use st_model::{Listed, Sides, Tree};
+use std::alloc::{AllocError, Global};
+use std::cmp::Reverse;
+use std::collections::BinaryHeap;
+
+// A tree that grows from a root over arcs with nothing left, by one cheap path after another. Nothing is
+// claimed of it: the tree is judged.
+#[derive(Drop)]
+struct Growth {
+    // Offers that wait: what it costs to reach a vertex from the tree, and the vertex.
+    offers: BinaryHeap<Reverse<(u64, u32)>>,
+    // By vertex, the least that it was offered.
+    least: Vec<u64>,
+    // By vertex, from where.
+    tails: Vec<u32>,
+    // By vertex, whether it is in the tree.
+    joined: Vec<bool>,
+    // The arcs of the tree, each from a vertex that is reached.
+    arcs: Vec<(u32, u32)>,
+}
+
+/// A tree from the root over arcs with nothing left, to all that it has to reach, as far as these lead
+/// there, and to whoever pays more than it costs to reach. (Wong 1984)
+pub fn grown(
+    alloc: Global,
+    whole: &Whole,
+    branch: &Sides,
+    arcs: &Arcs,
+) -> Result<Tree, AllocError> {
+    let root = arcs.root();
+    let mut growth = Growth::at(alloc, arcs.vertices(), root)?;
+    for _offer in 0..u64::MAX {
+        let Some(Reverse((cost, vertex))) = growth.offers.pop() else {
+            break;
+        };
+        growth.take(whole, branch, arcs, cost, vertex)?;
+    }
+    Ok(Tree {
+        start: root,
+        arcs: Listed::of(growth.arcs),
+    })
+}
+
+impl Growth {
+    // The root alone.
+    fn at(alloc: Global, vertices: u32, root: u32) -> Result<Growth, AllocError> {
+        let count = vertices as usize + 1;
+        let mut growth = Growth {
+            offers: BinaryHeap::new(alloc),
+            least: vec![in alloc; u64::MAX; count]?,
+            tails: vec![in alloc; root; count]?,
+            joined: vec![in alloc; false; count]?,
+            arcs: Vec::new(alloc),
+        };
+        put(&mut growth.joined, root, true);
+        growth.offer(root, root, 0)?;
+        Ok(growth)
+    }
+
+    // Offers a vertex a path from a tail, unless it has one that costs no more.
+    fn offer(&mut self, vertex: u32, tail: u32, cost: u64) -> Result<(), AllocError> {
+        if cost < at(&self.least, vertex, 0) {
+            put(&mut self.least, vertex, cost);
+            put(&mut self.tails, vertex, tail);
+            self.offers.push(Reverse((cost, vertex)))?;
+        }
+        Ok(())
+    }
+
+    // Takes an offer, unless a better one came later: the path to its vertex joins the tree where it is
+    // worth it, and else the search goes on from there.
+    fn take(
+        &mut self,
+        whole: &Whole,
+        branch: &Sides,
+        arcs: &Arcs,
+        cost: u64,
+        vertex: u32,
+    ) -> Result<(), AllocError> {
+        if at(&self.least, vertex, 0) != cost {
+            return Ok(());
+        }
+        if !at(&self.joined, vertex, true) && is_worth(whole, branch, vertex, cost) {
+            return self.join(vertex);
+        }
+        self.expand(whole, arcs, cost, vertex)
+    }
+
+    // The path to a vertex joins the tree: its vertices are offered at no cost.
+    fn join(&mut self, vertex: u32) -> Result<(), AllocError> {
+        let first = self.arcs.len();
+        let mut head = vertex;
+        for _step in 0..self.tails.len() {
+            if at(&self.joined, head, true) {
+                break;
+            }
+            put(&mut self.joined, head, true);
+            let tail = at(&self.tails, head, head);
+            self.arcs.push((tail, head))?;
+            self.offer(head, tail, 0)?;
+            head = tail;
+        }
+        if let Some(path) = self.arcs.as_mut_slice().get_mut(first..) {
+            path.reverse();
+        }
+        Ok(())
+    }
+
+    // Offers each vertex to which an arc with nothing left leads what it costs by there.
+    fn expand(
+        &mut self,
+        whole: &Whole,
+        arcs: &Arcs,
+        cost: u64,
+        tail: u32,
+    ) -> Result<(), AllocError> {
+        if tail < 1 || whole.store.vertices() < tail {
+            return Ok(());
+        }
+        for half in whole.store.neighbours(tail) {
+            if !at(&self.joined, half.to, true) && arcs.remaining(tail, half.to) == Some(0) {
+                self.offer(half.to, tail, cost.saturating_add(half.cost))?;
+            }
+        }
+        Ok(())
+    }
+}
+
+// Whether a vertex has to be reached, or pays more than it costs to reach.
+fn is_worth(whole: &Whole, branch: &Sides, vertex: u32, cost: u64) -> bool {
+    if vertex < 1 || whole.instance.vertices() < vertex {
+        return false;
+    }
+    branch.is_certain(&whole.instance, vertex) || whole.instance.prize(vertex) > cost
+}
