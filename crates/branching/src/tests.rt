@@ -1,7 +1,7 @@
 ghost use Rattle.std.specs.Prelude.{◌≡◌, IfOk, IfSome};
 ghost use Rattle.branching.specs.Node.{IsNode};
 
-use crate::{Node, choose, halves, halves_are_no_lighter};
+use crate::{Node, choose, halves, halves_are_no_lighter, may_split};
 use cut_packing::{Cut, Packing, SharedSet};
 use st_model::{Branch, Instance, Listed, Need};
 use std::alloc::{AllocError, Global};
@@ -72,6 +72,27 @@ fn splits_at_the_centre(alloc: Global) -> Result<bool, AllocError> {
 #[test]
 fn the_triangle_splits_at_its_centre(rt: HostRuntime) -> Result<(), Fail> {
     assert!(rt; splits_at_the_centre(rt.alloc())?);
+    Ok(())
+}
+
+// Where the halves of the triangle may be split, and the triangle itself, of the numbers from 0 to 5.
+fn the_centre_decides_all(alloc: Global) -> Result<bool, AllocError> {
+    let instance = triangle_with_centre(alloc, 4)?;
+    let node = root(alloc, &instance);
+    let at_first = (0..6).all(|vertex| may_split(&instance, &node.branch, vertex) == (vertex == 4));
+    let Some((_, inside, outside)) = split(alloc, &instance, node)? else {
+        return Ok(false);
+    };
+    let later = (0..6).any(|vertex| {
+        may_split(&instance, &inside.branch, vertex)
+            || may_split(&instance, &outside.branch, vertex)
+    });
+    Ok(at_first && !later)
+}
+
+#[test]
+fn the_triangle_may_split_at_its_centre_alone(rt: HostRuntime) -> Result<(), Fail> {
+    assert!(rt; the_centre_decides_all(rt.alloc())?);
     Ok(())
 }
 

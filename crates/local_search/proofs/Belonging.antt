@@ -1,9 +1,8 @@
 -- What a tree reaches as a list, and that a tree belongs to a branch.
-use Rattle.std.proofs.Common.{◌≡◌, ℕ, Bool, true, false, ◌+◌, ◌<◌, ◌||◌, List, [], ◌∷◌, ◌++◌, map, inl, inr, refl, sym, ap, ◌∙◌, arith}
-use Rattle.std.specs.Prelude.{◌==◌, All, IsTrue, IsFalse}
-use Rattle.std.specs.Bool.{OnTrue}
+use Rattle.std.proofs.Common.{◌≡◌, ℕ, ◌+◌, ◌<◌, ◌||◌, List, [], ◌∷◌, ◌++◌, map, inl, inr, refl, sym, ap, ◌∙◌, arith}
+use Rattle.std.specs.Prelude.{◌==◌, ◌↔◌, All, Contains, IsTrue, IsFalse}
 use Rattle.std.proofs.lemmas.Bool.{cases_Bool, both_ways}
-use Rattle.std.proofs.lemmas.List.Elements.{All-contains}
+use Rattle.std.proofs.lemmas.List.Elements.{All-contains, All-contains_itself, All-weaker}
 use Rattle.st_model.specs.declared.branch.Branch.{Branch}
 use Rattle.st_model.specs.declared.tree.Tree.{Tree}
 use Rattle.st_model.specs.Arborescence.{reached, reached_from}
@@ -11,7 +10,7 @@ use Rattle.st_model.specs.Branch.{Belongs, IsVertexSet}
 use Rattle.st_model.specs.Lists.{has}
 use Rattle.st_model.proofs.Booleans.{or_left_comm}
 use Rattle.st_model.proofs.Branches.{IsVertexSet-member}
-use Rattle.st_model.proofs.Members.{has-append, Contains-from_has}
+use Rattle.st_model.proofs.Members.{has-append, Contains-from_has, has-from_Contains}
 
 -- what is reached at first and the heads are all that is reached
 pub has-heads : (r : List ℕ) (arcs : List (ℕ × ℕ)) (v : ℕ) → has (map (λ arc. arc.1) arcs ++ r) v ≡ has (reached_from r arcs) v
@@ -24,19 +23,28 @@ has-heads r (arc ∷ arcs) v =
     first ∙ turned ∙ joined ∙ has-heads (arc.1 ∷ r) arcs v
 
 -- a tree belongs to a branch where a set of what it reaches has all that is inside, and nothing that is reached is outside
-pub belongs_by : (n : ℕ) (B : Branch) (t : Tree) (list members : List ℕ) → IsVertexSet n B.inside → ((v : ℕ) → has list v ≡ has (reached t) v) → ((v : ℕ) → v < n + 1 → has members v ≡ has list v) → All (λ v. IsTrue (has members v)) B.inside → All (λ v. IsFalse (has B.outside v)) list → Belongs B t
-belongs_by n B t list members set same marked inside outside = record {
-  inside = λ v member.
-      let range = IsVertexSet-member n B.inside v set member in
-      let few : v < n + 1 = omega (arith, range.1) in
-      sym (same v) ∙ sym (marked v few) ∙ All-contains (λ w. IsTrue (has members w)) B.inside v inside (Contains-from_has B.inside v member);
-  outside = λ v member. elim (cases_Bool (has (reached t) v)) [
-    | inl reaches ↦ absurd (both_ways (has B.outside v) (All-contains (λ w. IsFalse (has B.outside w)) list v outside (Contains-from_has list v (same v ∙ reaches))) member)
-    | inr misses ↦ misses
-  ];
-}
+pub belongs_iff : (n : ℕ) (B : Branch) (t : Tree) (list members : List ℕ) → IsVertexSet n B.inside → ((v : ℕ) → has list v ≡ has (reached t) v) → ((v : ℕ) → v < n + 1 → has members v ≡ has list v) → (All (λ v. IsTrue (has members v)) B.inside × All (λ v. IsFalse (has B.outside v)) list) ↔ Belongs B t
+belongs_iff n B t list members set same marked = (to, from)
+  where
+    marks : (v : ℕ) → IsTrue (has B.inside v) → has members v ≡ has (reached t) v
+    marks v member =
+        let range = IsVertexSet-member n B.inside v set member in
+        marked v (omega (arith, range.1)) ∙ same v
 
--- what holds where a test is true, and what follows from it there
-pub on_true_then : (b : Bool) (P Q : Type 0) → (P → Q) → OnTrue b P → OnTrue b Q
-on_true_then true P Q then h = then h
-on_true_then false P Q then h = h
+    to : All (λ v. IsTrue (has members v)) B.inside × All (λ v. IsFalse (has B.outside v)) list → Belongs B t
+    to all = record {
+      inside = λ v member. sym (marks v member) ∙ All-contains (λ w. IsTrue (has members w)) B.inside v all.0 (Contains-from_has B.inside v member);
+      outside = λ v member. elim (cases_Bool (has (reached t) v)) [
+        | inl reaches ↦ absurd (both_ways (has B.outside v) (All-contains (λ w. IsFalse (has B.outside w)) list v all.1 (Contains-from_has list v (same v ∙ reaches))) member)
+        | inr misses ↦ misses
+      ];
+    }
+
+    from : Belongs B t → All (λ v. IsTrue (has members v)) B.inside × All (λ v. IsFalse (has B.outside v)) list
+    from belongs = (
+      All-weaker (Contains B.inside) (λ v. IsTrue (has members v)) (λ v member. let is = has-from_Contains B.inside v member in marks v is ∙ belongs.inside v is) B.inside (All-contains_itself B.inside),
+      All-weaker (Contains list) (λ v. IsFalse (has B.outside v)) (λ v there. elim (cases_Bool (has B.outside v)) [
+        | inl out ↦ absurd (both_ways (has (reached t) v) (belongs.outside v out) (sym (same v) ∙ has-from_Contains list v there))
+        | inr present ↦ present
+      ]) list (All-contains_itself list),
+    )

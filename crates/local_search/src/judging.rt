@@ -1,4 +1,4 @@
-ghost use Rattle.std.specs.Prelude.{◌≡◌, ℕ, IfOk, IfSome, IsFalse, IsTrue, All, map};
+ghost use Rattle.std.specs.Prelude.{◌≡◌, ◌↔◌, ℕ, IfOk, IfSome, IfNone, IsFalse, IsTrue, All, map};
 ghost use Rattle.std.specs.Bool.{OnTrue};
 ghost use Rattle.st_model.specs.Arborescence.{IsArborescence, IsTree, reached};
 ghost use Rattle.st_model.specs.Branch.{Belongs, IsBranch};
@@ -46,7 +46,7 @@ fn is_better(
     Ok(tree_cost(instance, other) < tree_cost(instance, tree))
 }
 
-/// The tree, where it is judged to be one of the branch.
+/// The tree, where it is one of the branch; None where it isn't.
 pub fn judged(
     alloc: Global,
     instance: &Instance,
@@ -57,6 +57,7 @@ pub fn judged(
     ensures same { IfOk result (λ found. IfSome found (λ t. t ≡ tree)) }
     ensures tree { IfOk result (λ found. IfSome found (IsTree instance.now)) }
     ensures belongs { IfOk result (λ found. IfSome found (Belongs branch.now)) }
+    ensures none { IfOk result (λ found. IfNone found (¬ (IsTree instance.now tree × Belongs branch.now tree))) }
 {
     if is_of_branch(alloc, instance, branch, &tree)? {
         Ok(Some(tree))
@@ -73,13 +74,12 @@ fn is_of_branch(
     tree: &Tree,
 ) -> Result<bool, AllocError>
     requires { IsBranch instance.now branch.now }
-    ensures { IfOk result (λ answer. OnTrue answer (IsTree instance.now tree.now × Belongs branch.now tree.now)) }
+    ensures { IfOk result (λ answer. IsTrue answer ↔ (IsTree instance.now tree.now × Belongs branch.now tree.now)) }
 {
     if !is_tree(alloc, instance, tree)? {
         return Ok(false);
     }
-    let answer = belongs(alloc, instance, branch, tree)?;
-    Ok(answer)
+    belongs(alloc, instance, branch, tree)
 }
 
 // Whether a tree reaches all vertices inside, and none outside.
@@ -90,14 +90,13 @@ fn belongs(
     tree: &Tree,
 ) -> Result<bool, AllocError>
     requires { IsBranch instance.now branch.now }
-    ensures { IfOk result (λ answer. OnTrue answer (Belongs branch.now tree.now)) }
+    ensures { IfOk result (λ answer. IsTrue answer ↔ Belongs branch.now tree.now) }
 {
     let reached = reached_list(alloc, tree)?;
     let set = VertexSet::of(alloc, instance.vertices() as usize + 1, &reached)?;
-    if !has_all(&set, branch.branch().inside.as_slice()) {
-        return Ok(false);
-    }
-    Ok(has_none(branch, &reached))
+    let inside = has_all(&set, branch.branch().inside.as_slice());
+    let outside = has_none(branch, &reached);
+    Ok(inside && outside)
 }
 
 // The vertices that a tree reaches.
@@ -118,14 +117,14 @@ fn heads_of(alloc: Global, arcs: &[(u32, u32)]) -> Result<Vec<u32>, AllocError>
 
 // Whether all of these vertices are in a set.
 fn has_all(set: &VertexSet, vertices: &[u32]) -> bool
-    ensures { OnTrue result (All (λ v. IsTrue (has set.now.members v)) vertices.now) }
+    ensures { IsTrue result ↔ All (λ v. IsTrue (has set.now.members v)) vertices.now }
 {
     vertices.iter().all(|vertex| set.contains(*vertex))
 }
 
 // Whether none of these vertices is outside.
 fn has_none(branch: &Sides, vertices: &[u32]) -> bool
-    ensures { OnTrue result (All (λ v. IsFalse (has branch.now.outside v)) vertices.now) }
+    ensures { IsTrue result ↔ All (λ v. IsFalse (has branch.now.outside v)) vertices.now }
 {
     vertices.iter().all(|vertex| !branch.is_outside(*vertex))
 }
