@@ -9,7 +9,7 @@ use Rattle.dual_ascent.specs.declared.ascent.Ascent.TheVariants.{Full, Reached}
 use Rattle.dual_ascent.specs.Extension.{IsExtension}
 use Rattle.branching.specs.declared.node.Node.{Node}
 use Rattle.worker_loop.specs.declared.step.End.{End}
-use Rattle.worker_loop.specs.declared.step.End.TheVariants.{Close, Delete, Split}
+use Rattle.worker_loop.specs.declared.step.End.TheVariants.{Close, Split}
 use Rattle.worker_loop.specs.declared.step.Priced.{Priced}
 use Rattle.worker_loop.specs.declared.step.Step.{Step}
 use Rattle.worker_loop.specs.Node.{IsWritableNode}
@@ -42,7 +42,7 @@ full_node I N P root least instance h light small e = record {
 -- a node whose extended packing is full splits at a vertex of a plan
 pub deleted_step : (I : Network) (N : Node) (P : Packing) (root least v : ℕ) (plan : Packing) → IsInstance I → IsWritableNode I N → IsSplit I N.branch v
     → weight I N.branch N.packing < least → least < 2 ^ 64 → IsExtension I N.branch N.packing root (least - weight I N.branch N.packing) (Full P)
-    → IsStep I N least (record { better = None; end = Delete (record { id = N.id; branch = N.branch; packing = P }) v plan })
+    → IsStep I N least (record { better = None; end = Split (record { id = N.id; branch = N.branch; packing = P }) v (Some plan) })
 deleted_step I N P root least v plan instance h is_split light small e = record {
   tree = tt;
   ends = record {
@@ -71,5 +71,4 @@ ends_so I N P least step heavier s = record { tree = s.tree; ends = by_case step
     by_case : (end : End) → IsEnd I (record { id = N.id; branch = N.branch; packing = P }) (least_after least step.better) end
         → IsEnd I N (least_after least step.better) end
     by_case (Close Q) h = h
-    by_case (Split M v) h = split_so M v h
-    by_case (Delete M v plan) h = split_so M v h
+    by_case (Split M v plan) h = split_so M v h

@@ -1,19 +1,22 @@
 -- That the heavier of two packings extends what the first does.
-use Rattle.std.proofs.Common.{ℕ, ◌-◌, ◌≤◌, Option, None, Some, inl, inr, refl, sym, subst, arith}
+use Rattle.std.proofs.Common.{◌≡◌, ℕ, ◌-◌, ◌≤◌, Option, None, Some, inl, inr, refl, sym, subst, arith, rules}
 use Rattle.std.specs.Prelude.{IfSome}
 use Rattle.std.proofs.lemmas.List.Elements.{All-nil}
 use Rattle.st_model.specs.declared.branch.Branch.{Branch}
-use Rattle.st_model.specs.Branch.{IsVertexSet}
+use Rattle.st_model.specs.Branch.{IsVertexSet, all_trees}
+use Rattle.st_model.specs.Lists.{sum_to}
+use Rattle.st_model.proofs.Sums.{sum_to_none}
 use Rattle.st_model.specs.Network.{Network, link}
 use Rattle.graph_store.specs.Graph.{Graph}
 use Rattle.cut_packing.specs.declared.cut.Cut.{Cut}
 use Rattle.cut_packing.specs.declared.packing.Packing.{Packing}
-use Rattle.cut_packing.specs.Packing.{CutFits, Fits, weight}
+use Rattle.cut_packing.specs.Packing.{CutFits, Fits, outside_pays, weight}
 use Rattle.dual_ascent.specs.declared.ascent.Ascent.{Ascent}
 use Rattle.dual_ascent.specs.declared.ascent.Ascent.TheVariants.{Full, Reached}
 use Rattle.dual_ascent.specs.declared.extension.Extension.{Extension}
-use Rattle.dual_ascent.specs.Extension.{IsExtension, IsExtended, packing_of}
-use Rattle.worker_loop.specs.Node.{no_cuts}
+use Rattle.dual_ascent.specs.Extension.{IsExtension, IsExtended, IsRootFor, IsStart, packing_of}
+use Rattle.log_format.specs.Text.{IsWritableCut}
+use Rattle.worker_loop.specs.Node.{IsWritableNode, no_cuts}
 use Rattle.worker_loop.specs.Raising.{IsExtendable, IsExtendedTo, IsHeavier, IsNoWorse}
 
 -- without its cuts a packing weighs no more
@@ -80,3 +83,27 @@ bare_extendable I B P root least able = record {
   rooted = record { vertex = able.rooted.vertex; certain = able.rooted.certain; same = inl refl };
   light = omega (arith, lighter_without I B P, able.light);
 }
+
+-- no cuts are a packing of all trees
+pub all_start : (I : Network) → IsStart I all_trees no_cuts
+all_start I = record {
+  branch = record { inside = search rules; outside = search rules; apart = λ v h. absurd cc };
+  required = λ v h. absurd cc;
+  fits = no_cuts_fit I all_trees;
+  sets = All-nil (λ (c : Cut). IsVertexSet I.n c.set);
+}
+
+-- and can be extended for a root
+pub all_extendable : (I : Network) (root least : ℕ) → IsRootFor I all_trees no_cuts root → IsExtendable I all_trees no_cuts root least
+all_extendable I root least rooted =
+    let nothing : sum_to (outside_pays I all_trees) I.n ≡ 0 = sum_to_none I.n in
+    record { start = all_start I; rooted = rooted; light = omega (arith, nothing) }
+
+-- so that is the node of all trees
+pub all_node : (I : Network) (id : ℕ) → IsWritableNode I (record { id = id; branch = all_trees; packing = no_cuts })
+all_node I id =
+    let start = all_start I in
+    record {
+      node = record { branch = start.branch; required = start.required; fits = start.fits };
+      writable = record { root = tt; few_cuts = omega arith; cuts = All-nil IsWritableCut };
+    }

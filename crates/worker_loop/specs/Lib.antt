@@ -3,6 +3,8 @@ pub mod Deciding
 pub mod Raising
 pub mod Step
 pub mod Finding
+pub mod Grown
+pub mod Open
 pub mod Sound
 pub mod Run
 pub mod Progress

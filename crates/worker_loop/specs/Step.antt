@@ -13,7 +13,7 @@ use Rattle.branching.specs.declared.node.Node.{Node}
 use Rattle.branching.specs.Choice.{IsChoice}
 use Rattle.worker_loop.specs.declared.step.Priced.{Priced}
 use Rattle.worker_loop.specs.declared.step.End.{End}
-use Rattle.worker_loop.specs.declared.step.End.TheVariants.{Close, Delete, Split}
+use Rattle.worker_loop.specs.declared.step.End.TheVariants.{Close, Split}
 use Rattle.worker_loop.specs.declared.step.Step.{Step}
 use Rattle.worker_loop.specs.Node.{IsWritableNode}
 
@@ -46,8 +46,7 @@ pub record SplitsAt (I : Network) (N : Node) (least : ℕ) (M : Node) (v : ℕ) 
 -- a packing that closes the branch at the least cost known, or a split
 abbrev pub IsEnd : Network → Node → ℕ → End → Type 0
 IsEnd I N least (Close P) = Closes I N.branch least P × IsWritablePacking P
-IsEnd I N least (Split M v) = SplitsAt I N least M v
-IsEnd I N least (Delete M v plan) = SplitsAt I N least M v
+IsEnd I N least (Split M v plan) = SplitsAt I N least M v
 
 -- a better tree, if one was found, and how the node ends with the least cost known then
 pub record IsStep (I : Network) (N : Node) (least : ℕ) (step : Step) : Type 0 where

@@ -32,6 +32,22 @@ impl Draws {
         u32::try_from(before).unwrap_or(0).saturating_add(1)
     }
 
+    /// By vertex up to the last one, weights of at least so much, each up to so much more.
+    pub fn weights(
+        &mut self,
+        alloc: Global,
+        last: u32,
+        least: u64,
+        more: u64,
+    ) -> Result<Vec<u64>, AllocError> {
+        let mut weights = Vec::with_capacity(alloc, last as usize + 1)?;
+        weights.push(least)?;
+        for _vertex in 0..last {
+            weights.push(least.saturating_add(self.below(more)))?;
+        }
+        Ok(weights)
+    }
+
     /// The vertices 1 to the last one, in an order that is drawn.
     pub fn order(&mut self, alloc: Global, last: u32) -> Result<Vec<u32>, AllocError> {
         let mut order = Vec::with_capacity(alloc, last as usize)?;

@@ -9,6 +9,7 @@ ghost use Rattle.dual_ascent.specs.Extension.{IsRootFor, IsStart};
 ghost use Rattle.branching.specs.Choice.{IsChoice, IsDecided};
 ghost use Rattle.worker_loop.specs.Finding.{IsFinding};
 ghost use Rattle.worker_loop.specs.Node.{IsWritableNode};
+ghost use Rattle.worker_loop.specs.Open.{IsOpen, as_node};
 ghost use Rattle.worker_loop.specs.Step.{IsBetter, IsStep, least_after};
 
 use crate::bettering::{gap, least_after, priced};
@@ -17,6 +18,7 @@ use crate::distances::near_root;
 use crate::effort::Effort;
 use crate::following::follow;
 use crate::guessing::{guess, together};
+use crate::node::{OpenNode, node_of};
 use crate::picking::pick;
 use crate::plan::Plan;
 use crate::refining::Guide;
@@ -29,19 +31,23 @@ use graph_store::Whole;
 use level_packing::{Leaf, close_all};
 use st_model::{Instance, Sides, Tree, VertexSet};
 use std::alloc::{AllocError, Global};
+use std::thread::Threads;
 
 /// Works on a node. It closes where its packing weighs as much as `least`, the least cost known of
 /// a tree, or where nothing is left to decide. Else its packing is extended until it weighs so
 /// much, or is full; a full one leads to a tree, which may be cheaper, and unless it weighs as much
 /// as the cheapest one known the node splits. `known` is the best tree that is known: where it
-/// branches a split tells most. Where a plan was made for the node, it is followed.
-pub fn expand(
+/// branches a split tells most. Where a plan was made for the node, it is followed. Trees are drawn in
+/// `threads` threads, at most.
+pub fn expand<R: Threads + Sync>(
+    rt: &R,
     alloc: Global,
     whole: &Whole,
     node: Node,
     least: u64,
     known: &Tree,
     plan: Option<Plan>,
+    threads: usize,
 ) -> Result<Step, AllocError>
     requires instance { IsInstance whole.now.instance }
     requires node { IsWritableNode whole.now.instance node }
@@ -53,10 +59,7 @@ pub fn expand(
         return Ok(closed(node.packing));
     }
     match choose(&node, &whole.instance) {
-        Some(vertex) => match plan {
-            Some(plan) => follow(alloc, whole, node, vertex, least, known, plan),
-            None => work_on(alloc, whole, node, vertex, least, known),
-        },
+        Some(vertex) => take_up(rt, alloc, whole, node, vertex, least, known, plan, threads),
         None => close(alloc, &whole.instance, node, least),
     }
 }
@@ -94,13 +97,16 @@ pub fn closed(packing: Packing) -> Step
 
 // Works on a node that weighs less than the least cost known, and that can be split at the vertex
 // given. Where no vertex is certain, so that there is no root for cuts, it splits there.
-pub fn work_on(
+fn take_up<R: Threads + Sync>(
+    rt: &R,
     alloc: Global,
     whole: &Whole,
     node: Node,
     given: u32,
     least: u64,
     known: &Tree,
+    plan: Option<Plan>,
+    threads: usize,
 ) -> Result<Step, AllocError>
     requires instance { IsInstance whole.now.instance }
     requires node { IsWritableNode whole.now.instance node }
@@ -113,19 +119,53 @@ pub fn work_on(
         branch,
         packing,
     } = node;
-    let effort = Effort {
-        seed: id,
-        is_bare: packing.cuts.as_slice().is_empty(),
-    };
     let branch = Sides::of(alloc, branch)?;
     let Some(root) = root_of(&whole.instance, &branch, &packing) else {
         return Ok(split(node_of(id, branch, packing), given));
     };
+    let node = OpenNode {
+        id,
+        branch,
+        packing,
+        root,
+        given,
+    };
+    match plan {
+        Some(plan) => follow(rt, alloc, whole, node, least, known, plan, threads),
+        None => work_on(rt, alloc, whole, node, least, known, threads),
+    }
+}
+
+/// Refines the packing of a node and looks for trees: it closes, or splits where it tells most.
+pub fn work_on<R: Threads + Sync>(
+    rt: &R,
+    alloc: Global,
+    whole: &Whole,
+    node: OpenNode,
+    least: u64,
+    known: &Tree,
+    threads: usize,
+) -> Result<Step, AllocError>
+    requires instance { IsInstance whole.now.instance }
+    requires node { IsOpen whole.now.instance node least }
+    ensures { IfOk result (IsStep whole.now.instance (as_node node) least) }
+{
+    let OpenNode {
+        id,
+        branch,
+        packing,
+        root,
+        given,
+    } = node;
+    let is_bare = packing.cuts.as_slice().is_empty();
+    let effort = Effort::at(branch.branch(), is_bare, threads);
     let Rounds {
         extension,
         better,
         joints,
-    } = work_by_rounds(alloc, whole, &branch, packing, root, least, known, effort)?;
+    } = work_by_rounds(
+        rt, alloc, whole, &branch, packing, root, least, known, effort,
+    )?;
     let Extension { ascent, left } = extension;
     match ascent {
         Ascent::Reached(packing) => Ok(Step {
@@ -154,17 +194,6 @@ pub fn work_on(
     }
 }
 
-// The node of a branch.
-pub fn node_of(id: u64, branch: Sides, packing: Packing) -> Node
-    ensures { result ≡ record { id = id; branch = branch; packing = packing } }
-{
-    Node {
-        id,
-        branch: branch.into_branch(),
-        packing,
-    }
-}
-
 // What is found by a guess, by a tree that costs so much.
 fn guessed(
     alloc: Global,
@@ -188,12 +217,12 @@ fn guessed(
 }
 
 // A split, with no better tree.
-pub fn split(node: Node, vertex: u32) -> Step
-    ensures { result ≡ record { better = None; end = End.Split node vertex } }
+fn split(node: Node, vertex: u32) -> Step
+    ensures { result ≡ record { better = None; end = End.Split node vertex None } }
 {
     Step {
         better: None,
-        end: End::Split(node, vertex),
+        end: End::Split(node, vertex, None),
     }
 }
 
@@ -247,12 +276,12 @@ fn ended(
         if let Some(next) = plan.next(instance, &node.branch) {
             return Step {
                 better,
-                end: End::Delete(node, next, plan),
+                end: End::Split(node, next, Some(plan)),
             };
         }
     }
     Step {
         better,
-        end: End::Split(node, vertex),
+        end: End::Split(node, vertex, None),
     }
 }

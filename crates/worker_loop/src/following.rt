@@ -1,50 +1,47 @@
-ghost use Rattle.std.specs.Prelude.{◌<◌, All, IfOk, IfSome};
+ghost use Rattle.std.specs.Prelude.{All, IfOk};
 ghost use Rattle.st_model.specs.Branch.{IsVertexSet};
 ghost use Rattle.st_model.specs.Network.{IsInstance};
-ghost use Rattle.cut_packing.specs.Packing.{weight};
 ghost use Rattle.cut_packing.specs.ProofTree.{IsSplit};
-ghost use Rattle.branching.specs.Choice.{IsChoice};
-ghost use Rattle.worker_loop.specs.Node.{IsWritableNode};
+ghost use Rattle.worker_loop.specs.Open.{IsOpen, as_node};
 ghost use Rattle.worker_loop.specs.Step.{IsStep};
 
-use crate::deciding::root_of;
 use crate::effort::Effort;
-use crate::expanding::{closed, node_of, split, work_on};
+use crate::expanding::{closed, work_on};
+use crate::node::{OpenNode, node_of};
 use crate::plan::Plan;
 use crate::raising::raise_from;
 use crate::refining::Guide;
 use crate::repairing::repaired;
 use crate::step::{End, Step};
-use branching::Node;
 use cut_packing::Packing;
 use dual_ascent::{Ascent, Extension};
 use graph_store::Whole;
-use st_model::{Sides, Tree};
+use st_model::Tree;
 use std::alloc::{AllocError, Global};
+use std::thread::Threads;
 
 /// Works on a node for which there is a plan: it splits at the next vertex of that, or closes by the
 /// packing of the plan where none is left. Where it can't it is worked on as any other one.
-pub fn follow(
+pub fn follow<R: Threads + Sync>(
+    rt: &R,
     alloc: Global,
     whole: &Whole,
-    node: Node,
-    given: u32,
+    node: OpenNode,
     least: u64,
     known: &Tree,
     plan: Plan,
+    threads: usize,
 ) -> Result<Step, AllocError>
     requires instance { IsInstance whole.now.instance }
-    requires node { IsWritableNode whole.now.instance node }
-    requires given { IsChoice whole.now.instance node.branch given }
-    requires light { weight whole.now.instance node.branch node.packing < least }
-    ensures { IfOk result (IsStep whole.now.instance node least) }
+    requires node { IsOpen whole.now.instance node least }
+    ensures { IfOk result (IsStep whole.now.instance (as_node node) least) }
 {
-    if let Some(vertex) = plan.next(&whole.instance, &node.branch) {
-        return delete(alloc, whole, node, given, vertex, least, plan);
+    if let Some(vertex) = plan.next(&whole.instance, node.branch.branch()) {
+        return delete(alloc, whole, node, vertex, least, plan);
     }
     match plan.into_closing(&whole.instance) {
-        Some(packing) => close_by(alloc, whole, node, given, least, known, packing),
-        None => work_on(alloc, whole, node, given, least, known),
+        Some(packing) => close_by(rt, alloc, whole, node, least, known, packing, threads),
+        None => work_on(rt, alloc, whole, node, least, known, threads),
     }
 }
 
@@ -53,28 +50,23 @@ pub fn follow(
 fn delete(
     alloc: Global,
     whole: &Whole,
-    node: Node,
-    given: u32,
+    node: OpenNode,
     vertex: u32,
     least: u64,
     plan: Plan,
 ) -> Result<Step, AllocError>
     requires instance { IsInstance whole.now.instance }
-    requires node { IsWritableNode whole.now.instance node }
-    requires given { IsChoice whole.now.instance node.branch given }
+    requires node { IsOpen whole.now.instance node least }
     requires vertex { IsSplit whole.now.instance node.branch vertex }
-    requires light { weight whole.now.instance node.branch node.packing < least }
-    ensures { IfOk result (IsStep whole.now.instance node least) }
+    ensures { IfOk result (IsStep whole.now.instance (as_node node) least) }
 {
-    let Node {
+    let OpenNode {
         id,
         branch,
         packing,
+        root,
+        given: _,
     } = node;
-    let branch = Sides::of(alloc, branch)?;
-    let Some(root) = root_of(&whole.instance, &branch, &packing) else {
-        return Ok(split(node_of(id, branch, packing), given));
-    };
     let Extension { ascent, left: _ } = raise_from(
         alloc,
         whole,
@@ -88,52 +80,40 @@ fn delete(
         Ascent::Reached(packing) => Ok(closed(packing)),
         Ascent::Full(packing) => Ok(Step {
             better: None,
-            end: End::Delete(node_of(id, branch, packing), vertex, plan),
+            end: End::Split(node_of(id, branch, packing), vertex, Some(plan)),
         }),
     }
 }
 
 // Closes a node by a packing of which the branch bears enough, and else works on it.
-fn close_by(
+fn close_by<R: Threads + Sync>(
+    rt: &R,
     alloc: Global,
     whole: &Whole,
-    node: Node,
-    given: u32,
+    node: OpenNode,
     least: u64,
     known: &Tree,
     closing: Packing,
+    threads: usize,
 ) -> Result<Step, AllocError>
     requires instance { IsInstance whole.now.instance }
-    requires node { IsWritableNode whole.now.instance node }
-    requires given { IsChoice whole.now.instance node.branch given }
-    requires light { weight whole.now.instance node.branch node.packing < least }
+    requires node { IsOpen whole.now.instance node least }
     requires sets { All (λ c. IsVertexSet whole.now.instance.n c.set) closing.cuts }
-    ensures { IfOk result (IsStep whole.now.instance node least) }
+    ensures { IfOk result (IsStep whole.now.instance (as_node node) least) }
 {
-    let Node {
-        id,
-        branch,
-        packing,
-    } = node;
-    let effort = Effort {
-        seed: id,
-        is_bare: false,
-    };
-    let branch = Sides::of(alloc, branch)?;
-    let Some(root) = root_of(&whole.instance, &branch, &packing) else {
-        return Ok(split(node_of(id, branch, packing), given));
-    };
+    let effort = Effort::at(node.branch.branch(), false, threads);
     let mut guide = Guide::at(known, least, effort);
-    let found = repaired(alloc, whole, &branch, closing, root, least, &mut guide)?;
+    let found = repaired(
+        alloc,
+        whole,
+        &node.branch,
+        closing,
+        node.root,
+        least,
+        &mut guide,
+    )?;
     match found {
         Some(packing) => Ok(closed(packing)),
-        None => work_on(
-            alloc,
-            whole,
-            node_of(id, branch, packing),
-            given,
-            least,
-            known,
-        ),
+        None => work_on(rt, alloc, whole, node, least, known, threads),
     }
 }

@@ -6,6 +6,9 @@ use std::alloc::{AllocError, Global};
 use std::cmp::Reverse;
 use std::collections::BinaryHeap;
 
+// What a vertex weighs without a weight, in hundredths.
+const ONE: u64 = 100;
+
 // A tree that grows from a root over arcs with nothing left, by one cheap path after another. Nothing is
 // claimed of it: the tree is judged.
 #[derive(Drop)]
@@ -23,12 +26,14 @@ struct Growth {
 }
 
 /// A tree from the root over arcs with nothing left, to all that it has to reach, as far as these lead
-/// there, and to whoever pays more than it costs to reach. (Wong 1984)
+/// there, and to whoever pays more than it costs to reach. The cost of an arc is weighted by its head, in
+/// hundredths; a vertex past the weights weighs 100. (Wong 1984)
 pub fn grown(
     alloc: Global,
     whole: &Whole,
     branch: &Sides,
     arcs: &Arcs,
+    weights: &[u64],
 ) -> Result<Tree, AllocError> {
     let root = arcs.root();
     let mut growth = Growth::at(alloc, arcs.vertices(), root)?;
@@ -36,7 +41,7 @@ pub fn grown(
         let Some(Reverse((cost, vertex))) = growth.offers.pop() else {
             break;
         };
-        growth.take(whole, branch, arcs, cost, vertex)?;
+        growth.take(whole, branch, arcs, weights, cost, vertex)?;
     }
     Ok(Tree {
         start: root,
@@ -77,6 +82,7 @@ impl Growth {
         whole: &Whole,
         branch: &Sides,
         arcs: &Arcs,
+        weights: &[u64],
         cost: u64,
         vertex: u32,
     ) -> Result<(), AllocError> {
@@ -86,7 +92,7 @@ impl Growth {
         if !at(&self.joined, vertex, true) && is_worth(whole, branch, vertex, cost) {
             return self.join(vertex);
         }
-        self.expand(whole, arcs, cost, vertex)
+        self.expand(whole, arcs, weights, cost, vertex)
     }
 
     // The path to a vertex joins the tree: its vertices are offered at no cost.
@@ -114,6 +120,7 @@ impl Growth {
         &mut self,
         whole: &Whole,
         arcs: &Arcs,
+        weights: &[u64],
         cost: u64,
         tail: u32,
     ) -> Result<(), AllocError> {
@@ -122,7 +129,8 @@ impl Growth {
         }
         for half in whole.store.neighbours(tail) {
             if !at(&self.joined, half.to, true) && arcs.remaining(tail, half.to) == Some(0) {
-                self.offer(half.to, tail, cost.saturating_add(half.cost))?;
+                let weighted = half.cost.saturating_mul(at(weights, half.to, ONE));
+                self.offer(half.to, tail, cost.saturating_add(weighted))?;
             }
         }
         Ok(())
@@ -134,5 +142,6 @@ fn is_worth(whole: &Whole, branch: &Sides, vertex: u32, cost: u64) -> bool {
     if vertex < 1 || whole.instance.vertices() < vertex {
         return false;
     }
-    branch.is_certain(&whole.instance, vertex) || whole.instance.prize(vertex) > cost
+    let prize = whole.instance.prize(vertex);
+    branch.is_certain(&whole.instance, vertex) || prize.saturating_mul(ONE) > cost
 }

@@ -70,7 +70,7 @@ pub fn guess(
             })
         }
         Ascent::Full(_) => {
-            let better = better_tree(alloc, whole, branch, &left.arcs, least)?;
+            let better = better_tree(alloc, whole, branch, &left.arcs, least, guide.effort)?;
             Ok(Finding {
                 better,
                 closing: None,

@@ -15,6 +15,7 @@ mod by_vertex;
 mod deciding;
 mod deleting;
 mod distances;
+mod draft;
 mod draws;
 mod effort;
 mod elite;

@@ -4,8 +4,30 @@ ghost use Rattle.worker_loop.specs.Node.{no_cuts};
 
 use branching::Node;
 use cut_packing::Packing;
-use st_model::{Branch, Listed};
+use st_model::{Branch, Listed, Sides};
 use std::alloc::{AllocError, Global};
+
+/// A node that is worked on: its branch is ready to be looked at, its cuts have a root, and it splits at
+/// the vertex given where nothing tells of a better one.
+#[derive(Drop)]
+pub struct OpenNode {
+    pub id: u64,
+    pub branch: Sides,
+    pub packing: Packing,
+    pub root: u32,
+    pub given: u32,
+}
+
+/// The node of a branch.
+pub fn node_of(id: u64, branch: Sides, packing: Packing) -> Node
+    ensures { result ≡ record { id = id; branch = branch; packing = packing } }
+{
+    Node {
+        id,
+        branch: branch.into_branch(),
+        packing,
+    }
+}
 
 // The node of the trees that reach nobody gone, with no cut, under the number 0.
 pub fn root_of(alloc: Global, gone: &[u32]) -> Result<Node, AllocError>
@@ -22,7 +44,7 @@ pub fn root_of(alloc: Global, gone: &[u32]) -> Result<Node, AllocError>
     })
 }
 
-// A packing without cuts.
+/// A packing without cuts.
 pub fn no_cuts(alloc: Global) -> Packing
     ensures { result ≡ no_cuts }
 {

@@ -16,6 +16,7 @@ use dual_ascent::Extension;
 use graph_store::Whole;
 use st_model::{Sides, Tree};
 use std::alloc::{AllocError, Global};
+use std::thread::Threads;
 
 // After how many rounds in a row without a gain no more follow, and which part of what is left at a
 // round's beginning counts as one.
@@ -35,7 +36,8 @@ pub struct Rounds {
 
 /// Raises a node's packing, and then refines it and looks for trees by turns, as long as that gains
 /// something: a better tree says where to refine, and a better packing where trees are.
-pub fn work_by_rounds(
+pub fn work_by_rounds<R: Threads + Sync>(
+    rt: &R,
     alloc: Global,
     whole: &Whole,
     branch: &Sides,
@@ -65,7 +67,7 @@ pub fn work_by_rounds(
         }
         let work = effort.of_round(place);
         rounds = round(
-            alloc, whole, branch, rounds, root, least, known, work, &mut elite,
+            rt, alloc, whole, branch, rounds, root, least, known, work, &mut elite,
         )?;
         let has_gained = left(whole, branch, &rounds, least) < before.saturating_sub(before / GAIN);
         idle = if has_gained {
@@ -92,7 +94,8 @@ fn left(whole: &Whole, branch: &Sides, rounds: &Rounds, least: u64) -> u64
 
 // One more round.
 #[tactic(auto, using(crate::proofs::Found::found_later))]
-fn round(
+fn round<R: Threads + Sync>(
+    rt: &R,
     alloc: Global,
     whole: &Whole,
     branch: &Sides,
@@ -123,7 +126,9 @@ fn round(
     let Trees {
         better: more,
         joints,
-    } = trees_at(alloc, whole, branch, &extension, tree, price, effort, elite)?;
+    } = trees_at(
+        rt, alloc, whole, branch, &extension, tree, price, effort, elite,
+    )?;
     Ok(Rounds {
         extension,
         better: later(better, more),

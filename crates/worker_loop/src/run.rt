@@ -18,11 +18,12 @@ use search_core::{End, Segment};
 use st_model::Tree;
 use std::alloc::{AllocError, Global};
 use std::sync::Wait;
+use std::thread::Threads;
 
 impl<Q: Aim> Worker<Q> {
     /// Takes nodes and works on them until none is open, its claim is refused, or it sees that
     /// another worker halted. Where it is refused memory it tells the others to halt.
-    pub fn run<R: Wait, G: Gate>(
+    pub fn run<R: Threads + Wait + Sync, G: Gate>(
         &mut self,
         rt: &R,
         alloc: Global,
@@ -48,7 +49,7 @@ impl<Q: Aim> Worker<Q> {
     }
 
     // Takes turns until it ends.
-    fn search<R: Wait, G: Gate>(
+    fn search<R: Threads + Wait + Sync, G: Gate>(
         &mut self,
         rt: &R,
         alloc: Global,

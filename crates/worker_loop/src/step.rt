@@ -32,8 +32,7 @@ pub struct Step {
 pub enum End {
     /// It closes by this packing, which weighs at least the least cost known by then.
     Close(Packing),
-    /// It splits at this vertex; it has the packing with which its halves begin.
-    Split(Node, u32),
-    /// It splits at this vertex, by which the half inside closes: the other one goes on by the plan.
-    Delete(Node, u32, Plan),
+    /// It splits at this vertex; it has the packing with which its halves begin. Where there is a plan the
+    /// vertex is deleted by it: the half inside closes, and the one outside goes on by the plan.
+    Split(Node, u32, Option<Plan>),
 }

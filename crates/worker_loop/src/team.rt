@@ -34,7 +34,7 @@ pub struct Returned<Q: Aim> {
 }
 
 impl<Q: Aim> Slot<Q> {
-    fn run<R: Wait, G: Gate>(
+    fn run<R: Threads + Wait + Sync, G: Gate>(
         &mut self,
         rt: &R,
         alloc: Global,

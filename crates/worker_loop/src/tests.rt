@@ -16,8 +16,10 @@ use test_instances::{link, triangle_with_centre};
 mod alone;
 mod brute_force;
 mod elite;
+mod ending;
 mod gates;
 mod refining;
+mod roots;
 mod starting;
 
 // A budget, and how a search of a whole instance ends within it: the least value, how many nodes it
@@ -199,7 +201,7 @@ fn several_cross_an_odd_wheel(rt: HostRuntime) -> Result<(), Fail> {
 }
 
 // Whether a worker that is alone at the odd wheel ends where nothing is open, with nothing left.
-fn ends_alone<R: Wait>(rt: &R, alloc: Global) -> Result<bool, AllocError> {
+fn ends_alone<R: Threads + Wait + Sync>(rt: &R, alloc: Global) -> Result<bool, AllocError> {
     let whole = odd_wheel(alloc)?;
     let Some(segment) = brought_alone(rt, alloc, &whole, 12)? else {
         return Ok(false);

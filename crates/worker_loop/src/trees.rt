@@ -15,6 +15,7 @@ use dual_ascent::Extension;
 use graph_store::Whole;
 use st_model::{Sides, Tree};
 use std::alloc::{AllocError, Global};
+use std::thread::Threads;
 
 // What the trees tell that were found at a node: one that is cheaper than the least cost known, if
 // there is one, and where trees branch.
@@ -26,7 +27,8 @@ pub struct Trees {
 
 /// What the trees tell that are found at a node with an extended packing, beside the best one known. At a
 /// node that began without cuts trees are drawn too.
-pub fn trees_at(
+pub fn trees_at<R: Threads + Sync>(
+    rt: &R,
     alloc: Global,
     whole: &Whole,
     branch: &Sides,
@@ -39,7 +41,7 @@ pub fn trees_at(
     requires branch { IsBranch whole.now.instance branch.now }
     ensures { IfOk result (λ trees. IfSome trees.better (IsBetter whole.now.instance branch.now least)) }
 {
-    let tree = used_up_tree(alloc, whole, branch, &extension.left.arcs)?;
+    let tree = used_up_tree(alloc, whole, branch, &extension.left.arcs, effort)?;
     let mut joints = Joints::of_none(alloc, &whole.instance)?;
     joints.count(alloc, known)?;
     if let Some(tree) = &tree {
@@ -53,21 +55,15 @@ pub fn trees_at(
         return Ok(Trees { better, joints });
     }
     let better = or_drawn(
-        alloc,
-        whole,
-        branch,
-        extension,
-        elite,
-        better,
-        least,
-        effort.seed,
+        rt, alloc, whole, branch, extension, elite, better, least, effort,
     )?;
     Ok(Trees { better, joints })
 }
 
 // A tree that is drawn, where it is cheaper than a better tree that was found, and else that one. None
 // that costs less than all reaches a vertex that isn't near the root, so the others are left out.
-fn or_drawn(
+fn or_drawn<R: Threads + Sync>(
+    rt: &R,
     alloc: Global,
     whole: &Whole,
     branch: &Sides,
@@ -75,7 +71,7 @@ fn or_drawn(
     elite: &mut Elite,
     better: Option<Priced>,
     least: u64,
-    seed: u64,
+    effort: Effort,
 ) -> Result<Option<Priced>, AllocError>
     requires branch { IsBranch whole.now.instance branch.now }
     requires better { IfSome better (IsBetter whole.now.instance branch.now least) }
@@ -85,12 +81,13 @@ fn or_drawn(
     let known = least_after(least, &better);
     let part = near_part(alloc, whole, branch, extension, known)?;
     let drawn = drawn_tree(
+        rt,
         alloc,
         whole,
         &part,
         &extension.left.arcs,
         elite,
-        seed,
+        effort,
         known,
         bound,
     )?;

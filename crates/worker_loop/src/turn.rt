@@ -20,6 +20,7 @@ use open_ledger::Why;
 use search_core::{Done, End as Ending};
 use std::alloc::{AllocError, Global};
 use std::sync::Wait;
+use std::thread::Threads;
 
 /// How a turn ends.
 #[derive(Drop)]
@@ -32,7 +33,7 @@ pub enum Turn {
 
 impl<Q: Aim> Worker<Q> {
     // One turn with a node in hand.
-    pub(crate) fn turn<R: Wait, G: Gate>(
+    pub(crate) fn turn<R: Threads + Wait + Sync, G: Gate>(
         &mut self,
         rt: &R,
         alloc: Global,
@@ -66,7 +67,7 @@ impl<Q: Aim> Worker<Q> {
     }
 
     // Works on a node that was claimed: the half to go on with, if it was split.
-    fn work_on<R: Wait>(
+    fn work_on<R: Threads + Wait + Sync>(
         &mut self,
         rt: &R,
         alloc: Global,
@@ -87,7 +88,16 @@ impl<Q: Aim> Worker<Q> {
         work.seen = self.best.see();
         known.catch_up(rt, alloc, work.seen)?;
         let plan = known.plan.take();
-        let Step { better, end } = expand(alloc, whole, node, work.seen, known.tree(), plan)?;
+        let Step { better, end } = expand(
+            rt,
+            alloc,
+            whole,
+            node,
+            work.seen,
+            known.tree(),
+            plan,
+            self.workers as usize,
+        )?;
         known.show(rt, alloc, &better)?;
         self.adopt(better, work);
         match end {
@@ -95,14 +105,11 @@ impl<Q: Aim> Worker<Q> {
                 self.close(id, packing, work)?;
                 Ok(None)
             }
-            End::Split(node, vertex) => {
-                let half = self.split(alloc, id, node, vertex, false, work)?;
+            End::Split(node, vertex, plan) => {
+                let is_deleted = plan.is_some();
+                known.plan = plan;
+                let half = self.split(alloc, id, node, vertex, is_deleted, work)?;
                 Ok(Some(half))
-            }
-            End::Delete(node, vertex, plan) => {
-                known.plan = Some(plan);
-                let rest = self.split(alloc, id, node, vertex, true, work)?;
-                Ok(Some(rest))
             }
         }
     }

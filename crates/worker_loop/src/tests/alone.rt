@@ -18,10 +18,11 @@ use st_model::{Branch, Listed, Need, Tree};
 use std::alloc::{AllocError, Global};
 use std::marker::Brand;
 use std::sync::Wait;
+use std::thread::Threads;
 
 // What the only worker of a team brings back of a whole instance in which somebody is required, from
 // a tree of this cost.
-pub fn brought_alone<R: Wait>(
+pub fn brought_alone<R: Threads + Wait + Sync>(
     rt: &R,
     alloc: Global,
     whole: &Whole,
@@ -42,7 +43,7 @@ pub fn brought_alone<R: Wait>(
     Ok(segment)
 }
 
-fn run_alone<Q: Aim, R: Wait>(
+fn run_alone<Q: Aim, R: Threads + Wait + Sync>(
     rt: &R,
     alloc: Global,
     whole: &Whole,

@@ -1,16 +1,17 @@
 use Rattle.std.proofs.Common.{None}
+use Rattle.worker_loop.specs.Open.{as_node}
 use Rattle.worker_loop.proofs.Extended.{deleted_step, reached_step}
 use Rattle.worker_loop.proofs.following.delete.Goals as goal
 
 pub returns-in-Reached : goal.returns-in-Reached
 returns-in-Reached c =
     let r = c.requires in
-    let e = rw (c.in-Reached.is, c.in_ok-branch.ensures) at c.in_ok-ascent.ensures.extended in
-    rw c.closed.ensures (reached_step c.args.whole.now.instance c.args.node c.in-Reached.packing c.in-Some.root c.args.least None r.instance r.light c.ranges.least.fits tt e)
+    let e = rw c.in-Reached.is at c.in_ok-ascent.ensures.extended in
+    rw c.closed.ensures (reached_step c.args.whole.now.instance (as_node c.args.node) c.in-Reached.packing c.args.node.root c.args.least None r.instance r.node.light c.ranges.least.fits tt e)
 
 pub returns-in-Full : goal.returns-in-Full
 returns-in-Full c =
     let r = c.requires in
-    let e = rw (c.in-Full.is, c.in_ok-branch.ensures) at c.in_ok-ascent.ensures.extended in
-    rw (c.node_of-in-Full.ensures, c.in_ok-branch.ensures)
-    (deleted_step c.args.whole.now.instance c.args.node c.in-Full.packing c.in-Some.root c.args.least c.args.vertex c.args.plan r.instance r.node r.vertex r.light c.ranges.least.fits e)
+    let e = rw c.in-Full.is at c.in_ok-ascent.ensures.extended in
+    rw c.node_of.ensures
+    (deleted_step c.args.whole.now.instance (as_node c.args.node) c.in-Full.packing c.args.node.root c.args.least c.args.vertex c.args.plan r.instance r.node.node r.vertex r.node.light c.ranges.least.fits e)

@@ -4,5 +4,5 @@ use Rattle.worker_loop.specs.Step.{IsBetter}
 use Rattle.worker_loop.proofs.rounds.work_by_rounds.Given as goal
 
 abbrev pub invariant-loop-place : goal.invariant-loop-place
-invariant-loop-place l = IsExtendedTo l.fn.whole.instance l.fn.whole.store l.fn.branch l.fn.packing l.fn.root l.fn.least l.rounds.extension
+invariant-loop-place g l = IsExtendedTo l.fn.whole.instance l.fn.whole.store l.fn.branch l.fn.packing l.fn.root l.fn.least l.rounds.extension
     × IfSome l.rounds.better (IsBetter l.fn.whole.instance l.fn.branch l.fn.least)

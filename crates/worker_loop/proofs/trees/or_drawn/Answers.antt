@@ -3,7 +3,7 @@ use Rattle.worker_loop.proofs.Found.{found_later}
 use Rattle.worker_loop.proofs.trees.or_drawn.Goals as goal
 
 pub returns : goal.returns
-returns c =
+returns g c =
     let I = c.args.whole.now.instance in
     let B = c.args.branch.now in
     let drawn = rw c.least_after-known.ensures at c.in_ok-drawn.ensures in

@@ -1,10 +1,10 @@
-use Rattle.std.proofs.Common.{rules, true, false, ◌≡◌, ℕ, ◌+◌, subst}
+use Rattle.std.proofs.Common.{rules, ◌≡◌, ℕ, ◌+◌, subst}
 use Rattle.st_model.specs.Network.{Network}
 use Rattle.incumbent.specs.Seat.{Known as Sight}
 use Rattle.open_ledger.specs.Seat.{Known as Account}
 use Rattle.node_pool.specs.Pool.{Station}
 use Rattle.search_core.specs.declared.done.Done.TheVariants as recorded
-use Rattle.worker_loop.specs.declared.step.End.TheVariants.{Close, Delete, Split}
+use Rattle.worker_loop.specs.declared.step.End.TheVariants.{Close, Split}
 use Rattle.worker_loop.specs.declared.work.Work.{Work}
 use Rattle.worker_loop.specs.Progress.{Adopts, IsClosed, IsHalved, as_of, moment}
 use Rattle.worker_loop.specs.Step.{IsEnd, IsStep, least_after}
@@ -48,49 +48,21 @@ returns-in_ok-half-in-Split-clause-worked g c =
     let found = c.in_ok-better.field-0 in
     let better = found.better in
     let step = subst (λ (J : Network). IsStep J c.args.node r found) c.requires.whole c.in_ok-better.ensures in
-    let end_is : found.end ≡ Split c.in-Split.node c.in-Split.vertex = search rules in
+    let end_is : found.end ≡ Split c.in-Split.node c.in-Split.vertex c.in-Split.plan = search rules in
     let end = subst (IsEnd I c.args.node (least_after r better)) end_is step.ends in
     let looked : Work = record { done = k.done; best = k.best; seen = r } in
     let adopts = subst (λ (m : Sight). Adopts better m v.best looked k') c.see-work.ensures.seen c.adopt.ensures.adopts in
     let same = c.adopt.ensures.same in
     let M = c.in-Split.node in
     let vertex = c.in-Split.vertex in
+    let deleted = c.is_some-is_deleted.result in
     let half = c.in_ok-half-in-Split.half in
     let m = moment c.split.new.self c.split.new.work in
-    let halved = subst (λ (n : ℕ). IsHalved w.workers c.args.node.id M vertex false (as_of w.pass w.ledger v.best n k') m half) same.2
-    (subst (λ (q : Station). IsHalved w.workers c.args.node.id M vertex false (as_of q w.ledger v.best v.next k') m half) same.3
-    (subst (λ (u : Account). IsHalved w.workers c.args.node.id M vertex false (as_of v.pass u v.best v.next k') m half) same.4
-    (subst (λ (n : ℕ). IsHalved n c.args.node.id M vertex false (as_of v.pass v.ledger v.best v.next k') m half) same.1 c.in_ok-half-in-Split.ensures.halved))) in (
+    let halved = subst (λ (n : ℕ). IsHalved w.workers c.args.node.id M vertex deleted (as_of w.pass w.ledger v.best n k') m half) same.2
+    (subst (λ (q : Station). IsHalved w.workers c.args.node.id M vertex deleted (as_of q w.ledger v.best v.next k') m half) same.3
+    (subst (λ (u : Account). IsHalved w.workers c.args.node.id M vertex deleted (as_of v.pass u v.best v.next k') m half) same.4
+    (subst (λ (n : ℕ). IsHalved n c.args.node.id M vertex deleted (as_of v.pass v.ledger v.best v.next k') m half) same.1 c.in_ok-half-in-Split.ensures.halved))) in (
       recorded.Split c.args.node.id vertex w.next (w.next + w.workers) M.packing,
-      split_on I g.Q.Aim.gone g.Q.Aim.start w.seat w.workers r c.args.node M half vertex false w.pass w.ledger w.best v.best w.next k k' m better c.requires.node c.see-work.ensures.at_most
-          c.requires.low step.tree end adopts halved,
-    )
-
-pub returns-in_ok-rest-in-Delete-clause-worked : goal.returns-in_ok-rest-in-Delete-clause-worked
-returns-in_ok-rest-in-Delete-clause-worked g c =
-    let I = g.Q.Aim.instance in
-    let w = c.args.self.now in
-    let k = c.args.work.now in
-    let r = c.see-work.result in
-    let v = c.adopt.new.self in
-    let k' = c.adopt.new.work in
-    let found = c.in_ok-better.field-0 in
-    let better = found.better in
-    let step = subst (λ (J : Network). IsStep J c.args.node r found) c.requires.whole c.in_ok-better.ensures in
-    let end_is : found.end ≡ Delete c.in-Delete.node c.in-Delete.vertex c.in-Delete.plan = search rules in
-    let end = subst (IsEnd I c.args.node (least_after r better)) end_is step.ends in
-    let looked : Work = record { done = k.done; best = k.best; seen = r } in
-    let adopts = subst (λ (m : Sight). Adopts better m v.best looked k') c.see-work.ensures.seen c.adopt.ensures.adopts in
-    let same = c.adopt.ensures.same in
-    let M = c.in-Delete.node in
-    let vertex = c.in-Delete.vertex in
-    let rest = c.in_ok-rest-in-Delete.rest in
-    let m = moment c.split-in-Delete.new.self c.split-in-Delete.new.work in
-    let halved = subst (λ (n : ℕ). IsHalved w.workers c.args.node.id M vertex true (as_of w.pass w.ledger v.best n k') m rest) same.2
-    (subst (λ (q : Station). IsHalved w.workers c.args.node.id M vertex true (as_of q w.ledger v.best v.next k') m rest) same.3
-    (subst (λ (u : Account). IsHalved w.workers c.args.node.id M vertex true (as_of v.pass u v.best v.next k') m rest) same.4
-    (subst (λ (n : ℕ). IsHalved n c.args.node.id M vertex true (as_of v.pass v.ledger v.best v.next k') m rest) same.1 c.in_ok-rest-in-Delete.ensures.halved))) in (
-      recorded.Split c.args.node.id vertex w.next (w.next + w.workers) M.packing,
-      split_on I g.Q.Aim.gone g.Q.Aim.start w.seat w.workers r c.args.node M rest vertex true w.pass w.ledger w.best v.best w.next k k' m better c.requires.node c.see-work.ensures.at_most
+      split_on I g.Q.Aim.gone g.Q.Aim.start w.seat w.workers r c.args.node M half vertex deleted w.pass w.ledger w.best v.best w.next k k' m better c.requires.node c.see-work.ensures.at_most
           c.requires.low step.tree end adopts halved,
     )
