@@ -124,6 +124,10 @@ module _ (n limit : ℕ) (least : List ℕ) (near : List Near) (h : AreNear n li
       let inside : p.0 < length near = omega (arith, p.1, below) in
       (subst (IsVertex n) p.2 (h.below.each p.0 none inside).vertex, omega (arith, level_at near i limit none below, h.ascending p.0 i none (omega (arith, p.1)) below, distance_is p.0 v inside p.2))
 
+  -- so a set of just these is in range
+  pub first_in_range : (i : ℕ) (members : List ℕ) → i < length near → ((v : ℕ) → has members v ≡ has (vertices_of (take (i + 1) near)) v) → All (IsVertex n) members
+  first_in_range i members below same = λ k d within. (first_near i (get_or members k d) below (sym (same (get_or members k d)) ∙ has_at members k d within)).0
+
   -- and all others are as far as the next one
   pub others_far : (i v : ℕ) → i < length near → IsVertex n v → IsFalse (has (vertices_of (take (i + 1) near)) v) → level near (i + 1) limit ≤ least_of least v
   others_far i v below range out = elim (cases_lt (least_of least v) (level near (i + 1) limit)) [
@@ -185,7 +189,7 @@ module _ (D : Digraph) (q target : ℕ) (least : List ℕ) (graph : IsDigraph D)
   pub cut_for : (near : List Near) (i : ℕ) (c : Cut) → AreNear D.n limit least near → i < length near → level near i limit < level near (i + 1) limit → c.q ≡ q → IsStrictlyIncreasing c.set → ((v : ℕ) → has c.set v ≡ has (vertices_of (take (i + 1) near)) v) → IsCutFor D q c
   cut_for near i c h below up named ascending same = record {
     named = named;
-    set = record { ascending = ascending; in_range = λ k d within. (first (get_or c.set k d) (has_at c.set k d within)).0 };
+    set = record { ascending = ascending; in_range = first_in_range D.n limit least near h i c.set below same };
     held = by_case q range (has c.set q) refl (λ out. omega (arith, far.end, up, others q range out));
     apart = out_of (has c.set D.root) refl;
   }

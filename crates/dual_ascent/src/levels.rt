@@ -41,7 +41,7 @@ pub fn fix_levels(
         set.insert(near[place].vertex)?;
         let step = distance_at(&near, place + 1, limit) - near[place].distance;
         if step > 0 {
-            cuts.push(cut_round(alloc, &set, vertex, step)?)?;
+            cuts.push(cut_round(alloc, arcs.vertices(), &set, vertex, step)?)?;
         }
     }
     Ok(packing(arcs.root(), cuts))

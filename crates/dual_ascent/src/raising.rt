@@ -14,6 +14,9 @@ use prize_transform::Twins;
 use st_model::VertexSet;
 use std::alloc::{AllocError, Global};
 
+// Where a set has one of so many vertices at least, its members are looked for and not sorted.
+const FEW: usize = 40;
+
 // A cut that can be added.
 #[derive(Drop)]
 pub struct Raise {
@@ -46,7 +49,7 @@ pub fn raise_for(
         return Ok(None);
     }
     let border = border_of(arcs, set, limit(arcs, twins, q, room));
-    let cut = cut_round(alloc, set, q, border.least)?;
+    let cut = cut_round(alloc, arcs.vertices(), set, q, border.least)?;
     Ok(Some(Raise {
         cut,
         entering: border.arcs,
@@ -66,14 +69,59 @@ fn limit(arcs: &Arcs, twins: &Twins, vertex: u32, room: u64) -> u64
 }
 
 // A cut round the members of a set.
-pub fn cut_round(alloc: Global, set: &VertexSet, q: u32, y: u64) -> Result<Cut, AllocError>
+pub fn cut_round(
+    alloc: Global,
+    vertices: u32,
+    set: &VertexSet,
+    q: u32,
+    y: u64,
+) -> Result<Cut, AllocError>
+    requires in_range { All (IsVertex vertices) set.now.members }
     ensures q { IfOk result (λ c. c.q ≡ q) }
     ensures y { IfOk result (λ c. c.y ≡ y) }
     ensures members { IfOk result (λ c. (v : ℕ) → has c.set v ≡ has set.now.members v) }
     ensures ascending { IfOk result (λ c. IsStrictlyIncreasing c.set) }
 {
-    let mut members = Vec::from_slice(alloc, set.members())?;
-    members.sort()?;
+    let members = ascending(alloc, vertices, set)?;
     let set = SharedSet::of(members)?;
     Ok(Cut { set, q, y })
+}
+
+// The members of a set, ascending: sorted where they are few, and else looked for one after another.
+fn ascending(alloc: Global, vertices: u32, set: &VertexSet) -> Result<Vec<u32>, AllocError>
+    requires in_range { All (IsVertex vertices) set.now.members }
+    ensures members { IfOk result (λ list. (v : ℕ) → has list.items v ≡ has set.now.members v) }
+    ensures ascending { IfOk result (λ list. IsStrictlyIncreasing list.items) }
+{
+    if set.members().len() < vertices as usize / FEW {
+        sorted(alloc, set)
+    } else {
+        looked_for(alloc, vertices, set)
+    }
+}
+
+// The members of a set, sorted.
+fn sorted(alloc: Global, set: &VertexSet) -> Result<Vec<u32>, AllocError>
+    ensures members { IfOk result (λ list. (v : ℕ) → has list.items v ≡ has set.now.members v) }
+    ensures ascending { IfOk result (λ list. IsStrictlyIncreasing list.items) }
+{
+    let mut members = Vec::from_slice(alloc, set.members())?;
+    members.sort()?;
+    Ok(members)
+}
+
+// The vertices that are in a set, one after another.
+fn looked_for(alloc: Global, vertices: u32, set: &VertexSet) -> Result<Vec<u32>, AllocError>
+    requires in_range { All (IsVertex vertices) set.now.members }
+    ensures members { IfOk result (λ list. (v : ℕ) → has list.items v ≡ has set.now.members v) }
+    ensures ascending { IfOk result (λ list. IsStrictlyIncreasing list.items) }
+{
+    let mut out = Vec::with_capacity(alloc, set.members().len())?;
+    for before in 0..vertices {
+        let vertex = before + 1;
+        if set.contains(vertex) {
+            out.push(vertex)?;
+        }
+    }
+    Ok(out)
 }
