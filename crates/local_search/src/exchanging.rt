@@ -7,7 +7,7 @@ use st_model::Tree;
 use std::alloc::{AllocError, Global};
 
 // How often each vertex is tried at most.
-const PASSES: u32 = 2;
+const PASSES: u32 = 5;
 
 // The tree with key paths exchanged and key vertices taken out, one after another, where each
 // makes it cheaper.

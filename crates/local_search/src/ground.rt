@@ -1,11 +1,52 @@
+use crate::by_vertex::ByVertex;
 use graph_store::{Half, Store};
 use st_model::{Need, Sides};
+use std::alloc::{AllocError, Global};
 
 // The graph that a tree is changed in, and the branch that it is to stay in.
 #[derive(Drop)]
 pub struct Ground<'a> {
     pub store: &'a Store,
     pub branch: &'a Sides,
+    // The links to vertices that a tree may reach, vertex by vertex, the cheapest first, and where those of
+    // each vertex begin and end.
+    open: Vec<Half>,
+    places: ByVertex<(usize, usize)>,
+}
+
+impl<'a> Ground<'a> {
+    pub fn of(
+        alloc: Global,
+        store: &'a Store,
+        branch: &'a Sides,
+    ) -> Result<Ground<'a>, AllocError> {
+        let mut ground = Ground {
+            store,
+            branch,
+            open: Vec::new(alloc),
+            places: ByVertex::new(alloc, store.vertices() as usize + 1, (0, 0))?,
+        };
+        for before in 0..store.vertices() {
+            ground.open_links(alloc, before + 1)?;
+        }
+        Ok(ground)
+    }
+
+    // Adds the open links of a vertex.
+    fn open_links(&mut self, alloc: Global, vertex: u32) -> Result<(), AllocError> {
+        let begin = self.open.len();
+        for half in links_of(self.store, vertex) {
+            if !self.branch.is_outside(half.to) {
+                self.open.push(*half)?;
+            }
+        }
+        let end = self.open.len();
+        self.places.put(vertex, (begin, end));
+        match self.open.as_mut_slice().get_mut(begin..) {
+            Some(links) => links.sort_by_key(alloc, |half: &Half| half.cost),
+            None => Ok(()),
+        }
+    }
 }
 
 impl Ground<'_> {
@@ -20,10 +61,13 @@ impl Ground<'_> {
 
     // The links of a vertex.
     pub fn neighbours(&self, vertex: u32) -> &[Half] {
-        if vertex == 0 || vertex > self.store.vertices() {
-            return &[];
-        }
-        self.store.neighbours(vertex)
+        links_of(self.store, vertex)
+    }
+
+    // The links of a vertex to those that a tree may reach, the cheapest first.
+    pub fn open_neighbours(&self, vertex: u32) -> &[Half] {
+        let (begin, end) = self.places.at(vertex);
+        self.open.as_slice().get(begin..end).unwrap_or(&[])
     }
 
     // What the link between two vertices costs; nothing where there is none.
@@ -46,4 +90,12 @@ impl Ground<'_> {
             _ => u64::MAX,
         }
     }
+}
+
+// The links of a vertex, if there is such a vertex.
+fn links_of(store: &Store, vertex: u32) -> &[Half] {
+    if vertex == 0 || vertex > store.vertices() {
+        return &[];
+    }
+    store.neighbours(vertex)
 }

@@ -26,39 +26,64 @@ pub fn improve(alloc: Global, whole: &Whole, branch: &Sides, tree: Tree) -> Resu
     ensures belongs { IfOk result (Belongs branch.now) }
     ensures cost { IfOk result (λ new. cost whole.now.instance new ≤ cost whole.now.instance tree) }
 {
-    let mut best = tree;
+    let ground = Ground::of(alloc, &whole.store, branch)?;
+    let mut best = moved(alloc, whole, branch, &ground, tree)?;
     for _round in 0..ROUNDS {
         let before = tree_cost(&whole.instance, &best);
-        best = round(alloc, whole, branch, best)?;
-        if tree_cost(&whole.instance, &best) == before {
+        best = exchanged(alloc, whole, branch, &ground, best)?;
+        let between = tree_cost(&whole.instance, &best);
+        if between == before {
+            break;
+        }
+        best = moved(alloc, whole, branch, &ground, best)?;
+        if tree_cost(&whole.instance, &best) == between {
             break;
         }
     }
     Ok(best)
 }
 
-// One round of all moves, each judged by itself.
-fn round(alloc: Global, whole: &Whole, branch: &Sides, tree: Tree) -> Result<Tree, AllocError>
+// The tree after the moves that look at what is near, each judged by itself.
+fn moved(
+    alloc: Global,
+    whole: &Whole,
+    branch: &Sides,
+    ground: &Ground,
+    tree: Tree,
+) -> Result<Tree, AllocError>
     requires branch { IsBranch whole.now.instance branch.now }
     requires tree { IsTree whole.now.instance tree }
     requires belongs { Belongs branch.now tree }
     ensures { IfOk result (IsNoDearer whole.now.instance branch.now tree) }
 {
     let instance = &whole.instance;
-    let ground = Ground {
-        store: &whole.store,
-        branch,
-    };
-    let spanned = spanning_tree(alloc, &ground, &tree)?;
+    let spanned = spanning_tree(alloc, ground, &tree)?;
     let tree = cheaper(alloc, instance, branch, tree, spanned)?;
-    let cut = without_branches(alloc, &ground, &tree)?;
+    let cut = without_branches(alloc, ground, &tree)?;
     let tree = cheaper(alloc, instance, branch, tree, cut)?;
-    let more = with_more(alloc, &ground, &tree)?;
-    let tree = cheaper(alloc, instance, branch, tree, more)?;
-    let exchanged = with_exchanges(alloc, &ground, &tree)?;
+    let more = with_more(alloc, ground, &tree)?;
+    cheaper(alloc, instance, branch, tree, more)
+}
+
+// The tree after exchanges, and after what is found on the way from one that reaches all that is worth
+// something.
+fn exchanged(
+    alloc: Global,
+    whole: &Whole,
+    branch: &Sides,
+    ground: &Ground,
+    tree: Tree,
+) -> Result<Tree, AllocError>
+    requires branch { IsBranch whole.now.instance branch.now }
+    requires tree { IsTree whole.now.instance tree }
+    requires belongs { Belongs branch.now tree }
+    ensures { IfOk result (IsNoDearer whole.now.instance branch.now tree) }
+{
+    let instance = &whole.instance;
+    let exchanged = with_exchanges(alloc, ground, &tree)?;
     let tree = cheaper(alloc, instance, branch, tree, exchanged)?;
     let tree = prune(alloc, instance, branch, tree)?;
-    let Some(widened) = widened_tree(alloc, &ground, &tree)? else {
+    let Some(widened) = widened_tree(alloc, ground, &tree)? else {
         return Ok(tree);
     };
     cheaper(alloc, instance, branch, tree, widened)

@@ -36,8 +36,6 @@ pub struct Bridge {
 pub struct Search {
     offers: BinaryHeap<Reverse<(u64, u32)>>,
     marks: ByVertex<Mark>,
-    // What the cheapest link of each vertex costs.
-    cheapest: ByVertex<u64>,
     // The vertices that are marked, and how many can be.
     marked: Vec<u32>,
     count: usize,
@@ -52,7 +50,6 @@ impl Search {
         Ok(Search {
             offers: BinaryHeap::new(alloc),
             marks: ByVertex::new(alloc, ground.count(), UNMARKED)?,
-            cheapest: cheapest_links(alloc, ground)?,
             marked: Vec::new(alloc),
             count: ground.count(),
             parts: 0,
@@ -166,35 +163,37 @@ impl Search {
         Ok(())
     }
 
-    // Goes over the links of a vertex, if its cheapest one can be of use.
+    // Goes over the links of a vertex, as far as they are of use.
     fn expand(&mut self, ground: &Ground, draft: &Draft, vertex: u32) -> Result<(), AllocError> {
-        let here = self.marks.at(vertex).cost;
-        if here.saturating_add(self.cheapest.at(vertex)) >= self.limit {
-            return Ok(());
-        }
-        for half in ground.neighbours(vertex) {
-            if ground.is_open(half.to) {
-                self.offer(draft, vertex, *half)?;
+        let here = self.marks.at(vertex);
+        for half in ground.open_neighbours(vertex) {
+            let cost = here.cost.saturating_add(half.cost);
+            if cost >= self.limit {
+                break;
             }
+            self.offer(draft, vertex, here.part, cost, *half)?;
         }
         Ok(())
     }
 
-    // Goes over a link: it is a bridge, or leads to a vertex that nothing was as near to.
-    fn offer(&mut self, draft: &Draft, tail: u32, half: Half) -> Result<(), AllocError> {
-        let here = self.marks.at(tail);
+    // Goes over a link of a part, which leads so far: it is a bridge, or leads to a vertex that nothing
+    // was as near to.
+    fn offer(
+        &mut self,
+        draft: &Draft,
+        tail: u32,
+        part: u32,
+        cost: u64,
+        half: Half,
+    ) -> Result<(), AllocError> {
         let there = self.marks.at(half.to);
-        let cost = here.cost.saturating_add(half.cost);
-        if cost >= self.limit {
-            return Ok(());
-        }
         if there.part == 0 && draft.is_reached(half.to) {
             if self.parts == 1 {
                 self.limit = cost;
             }
             return self.bridge(cost, tail, half);
         }
-        if there.part != 0 && there.part != here.part {
+        if there.part != 0 && there.part != part {
             self.bridge(cost.saturating_add(there.cost), tail, half)?;
         }
         if cost >= there.cost {
@@ -204,7 +203,7 @@ impl Search {
         let mark = Mark {
             cost,
             from: tail,
-            part: here.part,
+            part,
         };
         self.mark(half.to, mark)
     }
@@ -219,15 +218,4 @@ impl Search {
         self.bridges.push(bridge)?;
         Ok(())
     }
-}
-
-// By vertex, what its cheapest link costs.
-fn cheapest_links(alloc: Global, ground: &Ground) -> Result<ByVertex<u64>, AllocError> {
-    let mut cheapest = ByVertex::new(alloc, ground.count(), u64::MAX)?;
-    for before in 0..ground.vertices() {
-        let vertex = before + 1;
-        let costs = ground.neighbours(vertex).iter().map(|half| half.cost);
-        cheapest.put(vertex, costs.min().unwrap_or(u64::MAX));
-    }
-    Ok(cheapest)
 }
