@@ -60,23 +60,36 @@ fn packing(alloc: Global, first: u64) -> Result<Packing, AllocError> {
     })
 }
 
-#[test]
-fn the_triangle_is_packed(rt: HostRuntime) -> Result<(), Fail> {
-    weak_duality();
-    proof_tree_bounds();
-    let alloc = rt.alloc();
+// Whether the packing with this first value fits, whether it is full, and what it weighs.
+fn judged_with(alloc: Global, first: u64) -> Result<(bool, bool, u128), AllocError> {
     let instance = triangle(alloc, 0)?;
     let everything = everything(alloc)?;
-    let packed = packing(alloc, 2)?;
-    assert!(rt; fits(alloc, &instance, &everything, &packed)?);
-    assert!(rt; is_full(alloc, &instance, &everything, &packed)?);
-    assert_eq!(rt; weight(&instance, everything.branch(), &packed), 6);
-    let over = packing(alloc, 3)?;
-    assert!(rt; !fits(alloc, &instance, &everything, &over)?);
-    let under = packing(alloc, 1)?;
-    assert!(rt; fits(alloc, &instance, &everything, &under)?);
-    assert!(rt; !is_full(alloc, &instance, &everything, &under)?);
+    let packing = packing(alloc, first)?;
+    let fits = fits(alloc, &instance, &everything, &packing)?;
+    let is_full = is_full(alloc, &instance, &everything, &packing)?;
+    Ok((
+        fits,
+        is_full,
+        weight(&instance, everything.branch(), &packing),
+    ))
+}
+
+#[test]
+fn the_triangle_is_packed(rt: HostRuntime) -> Result<(), Fail> {
+    for (first, wanted) in [
+        (1, (true, false, 5)),
+        (2, (true, true, 6)),
+        (3, (false, false, 7)),
+    ] {
+        assert_eq!(rt; judged_with(rt.alloc(), first)?, wanted, "with {first}");
+    }
     Ok(())
+}
+
+#[test]
+fn packings_bound_trees(_rt: HostRuntime) {
+    weak_duality();
+    proof_tree_bounds();
 }
 
 // A packing of one cut.
@@ -87,51 +100,63 @@ fn alone(alloc: Global, root: Option<u32>, only: Cut) -> Result<Packing, AllocEr
     })
 }
 
+// Whether one cut fits a branch of the triangle, where the centre pays 1.
+fn judged_alone(
+    alloc: Global,
+    branch: &Sides,
+    root: Option<u32>,
+    set: &[u32],
+    q: u32,
+    y: u64,
+) -> Result<bool, AllocError> {
+    let instance = triangle(alloc, 1)?;
+    let packing = alone(alloc, root, cut(alloc, set, q, y)?)?;
+    fits(alloc, &instance, branch, &packing)
+}
+
 #[test]
 fn each_condition_is_needed(rt: HostRuntime) -> Result<(), Fail> {
-    let alloc = rt.alloc();
-    let instance = triangle(alloc, 1)?;
-    let everything = everything(alloc)?;
+    let everything = everything(rt.alloc())?;
     let table = [
-        (4, [2, 2], 2, 2),
-        (5, [2, 2], 2, 2),
-        (0, [2, 2], 2, 2),
-        (2, [2, 2], 2, 2),
-        (1, [2, 5], 2, 2),
-        (1, [0, 2], 2, 2),
-        (1, [2, 2], 3, 2),
-        (1, [2, 2], 2, 3),
-        (1, [4, 4], 4, 2),
+        (Some(4), [2, 2], 2, 2),
+        (Some(5), [2, 2], 2, 2),
+        (Some(0), [2, 2], 2, 2),
+        (Some(2), [2, 2], 2, 2),
+        (Some(1), [2, 5], 2, 2),
+        (Some(1), [0, 2], 2, 2),
+        (Some(1), [2, 2], 3, 2),
+        (Some(1), [2, 2], 2, 3),
+        (Some(1), [4, 4], 4, 2),
+        (None, [2, 2], 2, 2),
     ];
     for (root, set, q, y) in table {
-        let packing = alone(alloc, Some(root), cut(alloc, &set, q, y)?)?;
-        assert!(rt; !fits(alloc, &instance, &everything, &packing)?);
+        assert!(rt; !judged_alone(rt.alloc(), &everything, root, &set, q, y)?);
     }
-    let rootless = alone(alloc, None, cut(alloc, &[2], 2, 2)?)?;
-    assert!(rt; !fits(alloc, &instance, &everything, &rootless)?);
     Ok(())
+}
+
+// What a cut weighs whose set names a vertex twice, if it fits.
+fn repeated_weight(alloc: Global) -> Result<Option<u128>, AllocError> {
+    let instance = triangle(alloc, 1)?;
+    let everything = everything(alloc)?;
+    let repeated = alone(alloc, Some(1), cut(alloc, &[2, 4, 2], 2, 2)?)?;
+    if !fits(alloc, &instance, &everything, &repeated)? {
+        return Ok(None);
+    }
+    Ok(Some(weight(&instance, everything.branch(), &repeated)))
 }
 
 #[test]
 fn a_repeated_vertex_counts_once(rt: HostRuntime) -> Result<(), Fail> {
-    let alloc = rt.alloc();
-    let instance = triangle(alloc, 1)?;
-    let everything = everything(alloc)?;
-    let repeated = alone(alloc, Some(1), cut(alloc, &[2, 4, 2], 2, 2)?)?;
-    assert!(rt; fits(alloc, &instance, &everything, &repeated)?);
-    assert_eq!(rt; weight(&instance, everything.branch(), &repeated), 2);
+    assert_eq!(rt; repeated_weight(rt.alloc())?, Some(2));
     Ok(())
 }
 
 #[test]
 fn outside_vertices_are_left_alone(rt: HostRuntime) -> Result<(), Fail> {
-    let alloc = rt.alloc();
-    let instance = triangle(alloc, 1)?;
-    let no_centre = avoiding(alloc, 4)?;
-    let around = alone(alloc, Some(1), cut(alloc, &[2, 4], 2, 4)?)?;
-    assert!(rt; fits(alloc, &instance, &no_centre, &around)?);
-    let avoided = alone(alloc, Some(1), cut(alloc, &[4, 2], 4, 0)?)?;
-    assert!(rt; !fits(alloc, &instance, &no_centre, &avoided)?);
+    let no_centre = avoiding(rt.alloc(), 4)?;
+    assert!(rt; judged_alone(rt.alloc(), &no_centre, Some(1), &[2, 4], 2, 4)?);
+    assert!(rt; !judged_alone(rt.alloc(), &no_centre, Some(1), &[4, 2], 4, 0)?);
     Ok(())
 }
 
@@ -254,13 +279,17 @@ fn random_packings_are_judged_alike(rt: HostRuntime) -> Result<(), Fail> {
     Ok(())
 }
 
-#[test]
-fn a_shared_packing_is_the_same(rt: HostRuntime) -> Result<(), Fail> {
-    let alloc = rt.alloc();
+// Whether a shared packing fits as well, and has the same last set.
+fn shares(alloc: Global) -> Result<bool, AllocError> {
     let shared = packing(alloc, 2)?.shared(alloc)?;
     let instance = triangle(alloc, 1)?;
-    let last = shared.cuts.as_slice().last().ok_or("no cut")?;
-    assert_eq!(rt; last.set.as_slice(), [2, 3, 4].as_slice());
-    assert!(rt; fits(alloc, &instance, &everything(alloc)?, &shared)?);
+    let last = shared.cuts.as_slice().last();
+    let is_same = last.map(|cut| cut.set.as_slice() == [2, 3, 4].as_slice()) == Some(true);
+    Ok(is_same && fits(alloc, &instance, &everything(alloc)?, &shared)?)
+}
+
+#[test]
+fn a_shared_packing_is_the_same(rt: HostRuntime) -> Result<(), Fail> {
+    assert!(rt; shares(rt.alloc())?);
     Ok(())
 }
