@@ -15,9 +15,10 @@ use Rattle.cut_packing.specs.Packing.{Fits, outside_pays, weight}
 use Rattle.level_packing.specs.Forest.{IsPresent}
 use Rattle.level_packing.specs.Spanning.{AreSets, IsSpanning}
 use Rattle.branching.specs.declared.node.Node.{Node}
-use Rattle.worker_loop.specs.declared.step.Priced.{Priced}
+use Rattle.better_trees.specs.declared.price.Priced.{Priced}
+use Rattle.better_trees.specs.Better.{IsBetter, least_after}
 use Rattle.worker_loop.specs.declared.step.End.TheVariants.{Close}
-use Rattle.worker_loop.specs.Step.{IsBetter, IsStep, least_after}
+use Rattle.worker_loop.specs.Step.{IsStep}
 use Rattle.worker_loop.proofs.Writing.{cost_fits, writable_packing}
 
 -- a branch of which every vertex is outside weighs all prizes

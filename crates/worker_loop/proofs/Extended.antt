@@ -8,12 +8,13 @@ use Rattle.cut_packing.specs.ProofTree.{IsSplit}
 use Rattle.dual_ascent.specs.declared.ascent.Ascent.TheVariants.{Full, Reached}
 use Rattle.dual_ascent.specs.Extension.{IsExtension}
 use Rattle.branching.specs.declared.node.Node.{Node}
+use Rattle.better_trees.specs.Better.{IsBetter, least_after}
 use Rattle.worker_loop.specs.declared.step.End.{End}
 use Rattle.worker_loop.specs.declared.step.End.TheVariants.{Close, Split}
-use Rattle.worker_loop.specs.declared.step.Priced.{Priced}
+use Rattle.better_trees.specs.declared.price.Priced.{Priced}
 use Rattle.worker_loop.specs.declared.step.Step.{Step}
 use Rattle.worker_loop.specs.Node.{IsWritableNode}
-use Rattle.worker_loop.specs.Step.{IsBetter, IsEnd, IsStep, SplitsAt, least_after}
+use Rattle.worker_loop.specs.Step.{IsEnd, IsStep, SplitsAt}
 use Rattle.worker_loop.proofs.Writing.{writable_packing}
 
 -- a node whose extended packing weighs enough closes by it

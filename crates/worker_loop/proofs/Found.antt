@@ -14,12 +14,14 @@ use Rattle.dual_ascent.specs.declared.ascent.Ascent.{Ascent}
 use Rattle.dual_ascent.specs.declared.ascent.Ascent.TheVariants.{Full, Reached}
 use Rattle.dual_ascent.specs.Extension.{IsExtension, IsRootFor, IsStart}
 use Rattle.branching.specs.declared.node.Node.{Node}
+use Rattle.better_trees.specs.Better.{IsBetter, later, least_after}
+use Rattle.better_trees.specs.Part.{IsPartOf}
 use Rattle.worker_loop.specs.declared.step.Finding.{Finding}
-use Rattle.worker_loop.specs.declared.step.Priced.{Priced}
-use Rattle.worker_loop.specs.Finding.{IsClosedBy, IsFinding, later, together}
-use Rattle.worker_loop.specs.Node.{IsPartOf, IsWritableNode, no_cuts}
+use Rattle.better_trees.proofs.Found.{found_later}
+use Rattle.better_trees.specs.declared.price.Priced.{Priced}
+use Rattle.worker_loop.specs.Finding.{IsClosedBy, IsFinding, together}
+use Rattle.worker_loop.specs.Node.{IsWritableNode, no_cuts}
 use Rattle.worker_loop.specs.Raising.{IsExtendable}
-use Rattle.worker_loop.specs.Step.{IsBetter, least_after}
 use Rattle.worker_loop.proofs.Heavier.{no_cuts_fit}
 use Rattle.worker_loop.proofs.Writing.{writable_packing}
 
@@ -65,12 +67,6 @@ full_start I N P root target h e = record { branch = h.node.branch; required = h
 
 pub full_root : (I : Network) (N : Node) (P : Packing) (root target : ℕ) → IsRootFor I N.branch N.packing root → IsExtension I N.branch N.packing root target (Full P) → IsRootFor I N.branch P root
 full_root I N P root target rooted e = record { vertex = rooted.vertex; certain = rooted.certain; same = inr e.0.rooted }
-
--- a better tree that was found, and the one found after it, if there is one: the later is better too
-pub found_later : (I : Network) (B : Branch) (least : ℕ) (better more : Option Priced) → IfSome better (IsBetter I B least) → IfSome more (IsBetter I B (least_after least better)) → IfSome (later better more) (IsBetter I B least)
-found_later I B least better None first h = first
-found_later I B least None (Some p) first h = record { is_tree = h.is_tree; belongs = h.belongs; is_price = h.is_price; cheaper = h.cheaper }
-found_later I B least (Some b) (Some p) first h = record { is_tree = h.is_tree; belongs = h.belongs; is_price = h.is_price; cheaper = omega (arith, h.cheaper, first.cheaper) }
 
 -- what is found after a better tree is found beside the packing
 pub found_together : (I : Network) (B : Branch) (least : ℕ) (better : Option Priced) (f : Finding) → IfSome better (IsBetter I B least) → IsFinding I B (least_after least better) f → IsFinding I B least (together better f)

@@ -1,6 +1,5 @@
 pub mod Splits
 pub mod Writing
-pub mod Narrowing
 pub mod Parts
 pub mod Extended
 pub mod Heavier

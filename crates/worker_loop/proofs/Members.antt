@@ -1,5 +1,5 @@
 -- The workers of a team in their slots, as members of it.
-use Rattle.std.proofs.Common.{◌≡◌, ℕ, zero, suc, take, ◌+◌, List, [], ◌∷◌, ◌++◌, length, append-nil, Option, Some, None, refl, sym, ap, ◌∙◌, subst, length-append, append_assoc, arith}
+use Rattle.std.proofs.Common.{◌≡◌, ℕ, suc, ◌+◌, List, [], ◌∷◌, ◌++◌, length, append-nil, Option, Some, None, refl, sym, ap, ◌∙◌, subst, length-append, append_assoc, arith}
 use Rattle.std.specs.Prelude.{IfSome, map}
 use Rattle.std.proofs.lemmas.List.{map-append}
 use Rattle.st_model.specs.Network.{Network}
@@ -21,13 +21,6 @@ used_all f made (x ∷ rest) all n e count wanted =
     let parts : length (map f made ++ x ∷ rest) ≡ length (map f made) + length (x ∷ rest) = length-append (map f made) (x ∷ rest) in
     let same : length (map f made) ≡ length made = long f made in
     absurd (omega arith)
-
--- what was written over a whole list
-pub written : {A : Type 0} (xs rest : List A) (n : ℕ) → n ≡ length xs → take n (xs ++ rest) ≡ xs
-written [] rest zero e = refl
-written [] rest (suc n) e = absurd (omega arith)
-written (x ∷ xs) rest zero e = absurd (omega arith)
-written (x ∷ xs) rest (suc n) e = ap (λ ys. x ∷ ys) (written xs rest n (omega arith))
 
 -- one more is made of what comes next
 pub made_of_next : {A B : Type 0} (f : A → B) (made after : List A) (x : A) (rest now all : List B) (y : B) → after ≡ made ++ x ∷ [] → rest ≡ y ∷ now → f x ≡ y → map f made ++ rest ≡ all

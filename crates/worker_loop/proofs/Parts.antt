@@ -1,33 +1,13 @@
 -- Branches that are parts of another one: their trees belong to it, and who is certain there is so here.
-use Rattle.std.proofs.Common.{◌≡◌, ℕ, Bool, true, false, eqb, ◌||◌, List, Option, None, Some, refl, ◌∙◌}
-use Rattle.std.specs.Prelude.{IsTrue, IsFalse, IfSome}
+use Rattle.std.proofs.Common.{◌≡◌, ℕ, Bool, true, false, eqb, ◌||◌, List, refl, ◌∙◌}
+use Rattle.std.specs.Prelude.{IsTrue, IsFalse}
 use Rattle.std.proofs.lemmas.Bool.{both_ways, or_left, or_right}
 use Rattle.st_model.specs.declared.branch.Branch.{Branch}
-use Rattle.st_model.specs.declared.tree.Tree.{Tree}
 use Rattle.st_model.specs.Lists.{has}
 use Rattle.st_model.specs.Network.{Network, is_required}
-use Rattle.st_model.specs.Branch.{Belongs, NoneIsCertain, with_inside, with_outside, with_vertex}
+use Rattle.st_model.specs.Branch.{NoneIsCertain, with_inside, with_outside, with_vertex}
 use Rattle.st_model.proofs.Halves.{has-with_vertex}
-use Rattle.worker_loop.specs.declared.step.Priced.{Priced}
-use Rattle.worker_loop.specs.Node.{IsPartOf}
-use Rattle.worker_loop.specs.Step.{IsBetter}
-
--- a tree of a part belongs to the whole
-pub belongs_to_whole : (R B : Branch) (t : Tree) → IsPartOf R B → Belongs B t → Belongs R t
-belongs_to_whole R B t part belongs = record {
-  inside = λ v h. belongs.inside v (part.inside v h);
-  outside = λ v h. belongs.outside v (part.outside v h);
-}
-
--- a better tree of a part is one of the whole
-pub better_in_whole : (I : Network) (R B : Branch) (least : ℕ) (found : Option Priced) → IsPartOf R B → IfSome found (IsBetter I B least) → IfSome found (IsBetter I R least)
-better_in_whole I R B least None part h = tt
-better_in_whole I R B least (Some p) part h = record {
-  is_tree = h.is_tree;
-  belongs = belongs_to_whole R B p.tree part h.belongs;
-  is_price = h.is_price;
-  cheaper = h.cheaper;
-}
+use Rattle.better_trees.specs.Part.{IsPartOf}
 
 -- a member is still one where v is put in
 still : (xs : List ℕ) (v w : ℕ) → IsTrue (has xs w) → IsTrue (has (with_vertex xs v) w)

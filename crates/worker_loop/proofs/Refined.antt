@@ -1,5 +1,7 @@
 -- What an ascent raises, and that a packing that is raised again from some of its cuts extends what it did.
-use Rattle.std.proofs.Common.{◌≡◌, ℕ, ◌-◌, ◌≤◌, inl, inr, sym, ◌∙◌, subst, arith}
+use Rattle.std.proofs.Common.{◌≡◌, ℕ, ◌-◌, ◌≤◌, ◌⊎◌, inl, inr, Option, None, Some, sym, ◌∙◌, subst, arith}
+use Rattle.std.specs.Prelude.{IfSome}
+use Rattle.std.specs.Option.{unwrap_or}
 use Rattle.st_model.specs.declared.branch.Branch.{Branch}
 use Rattle.st_model.specs.Network.{Network}
 use Rattle.graph_store.specs.Graph.{Graph}
@@ -12,7 +14,7 @@ use Rattle.dual_ascent.specs.Extension.{IsExtension, packing_of}
 use Rattle.dual_ascent.specs.Laws.{IsCharged}
 use Rattle.dual_ascent.specs.Left.{AreEndsOf}
 use Rattle.dual_ascent.proofs.Extended.{extended_sets}
-use Rattle.worker_loop.specs.Raising.{IsExtendedTo, IsHeavier, IsNoWorse, IsRaised, IsRefined}
+use Rattle.worker_loop.specs.Raising.{IsExtendedTo, IsNoWorse, IsRaised, IsRefined}
 use Rattle.worker_loop.proofs.Heavier.{other_extends}
 
 -- it weighs no more than what was asked for
@@ -52,22 +54,26 @@ pub refined_on : (I : Network) (g : Graph) (B : Branch) (root least : ℕ) (firs
     → IsRefined I g B root least first last
 refined_on I g B root least first e last r s = record { extends = λ P able h. s.extends P able (r.extends P able h); raised = s.raised }
 
--- what extends a packing that weighs no more than what is asked for, or an extension that is heavier
-refined_by : (I : Network) (g : Graph) (B : Branch) (E : Packing) (root least : ℕ) (raised e chosen : Extension) → weight I B E ≤ least → IsExtendedTo I g B E root least raised
-    → IsRaised I g B root least e → IsHeavier I B raised e chosen → IsRefined I g B root least e chosen
-refined_by I g B E root least raised e chosen small h r (inl (is, heavy)) = subst (IsRefined I g B root least e) (sym is) (record {
-  extends = λ P able s. other_extends I g B P E root least e raised able small s h (no_worse I B e.ascent raised.ascent heavy);
-  raised = h.raised;
-})
-refined_by I g B E root least raised e chosen small h r (inr (is, worse)) = subst (IsRefined I g B root least e) (sym is) (refined_itself I g B root least e r)
-
--- what is raised again from a packing that is no heavier than an extension's, or that extension, where it is heavier
-pub raised_again_by : (I : Network) (g : Graph) (B : Branch) (E : Packing) (root least target at : ℕ) (raised e chosen : Extension) → g.network ≡ I → IsRaised I g B root least e
+-- what is raised again from a packing that is no heavier than an extension's refines that, where it is no lighter
+pub raised_again_by : (I : Network) (g : Graph) (B : Branch) (E : Packing) (root least target at : ℕ) (raised e : Extension) → g.network ≡ I → IsRaised I g B root least e
     → weight g.network B E ≤ weight g.network B (packing_of e.ascent) → at ≡ root → target ≡ least - weight I B E → IsExtension g.network B E at target raised.ascent
     → raised.left.arcs.root ≡ at → IsCharged g B (packing_of raised.ascent) raised.left.arcs raised.left.twins → AreEndsOf raised.left.arcs raised.left.twins
-    → IsHeavier I B raised e chosen → IsRefined I g B root least e chosen
-raised_again_by I g B E root least target at raised e chosen network r lighter is_root is_target extends root_is charged ends heavier =
+    → weight I B (packing_of e.ascent) ≤ weight I B (packing_of raised.ascent) → IsRefined I g B root least e raised
+raised_again_by I g B E root least target at raised e network r lighter is_root is_target extends root_is charged ends heavy =
     let lighter_here : weight I B E ≤ weight I B (packing_of e.ascent) = subst (λ (J : Network). weight J B E ≤ weight J B (packing_of e.ascent)) network lighter in
     let small : weight I B E ≤ least = omega (arith, lighter_here, r.light) in
     let for_root = subst (λ (x : ℕ). IsExtension g.network B E x target raised.ascent) is_root extends in
-    refined_by I g B E root least raised e chosen small (extended_to I g B E root least target raised network small is_target for_root (root_is ∙ is_root) charged ends) r heavier
+    let h = extended_to I g B E root least target raised network small is_target for_root (root_is ∙ is_root) charged ends in
+    record {
+      extends = λ P able s. other_extends I g B P E root least e raised able small s h (no_worse I B e.ascent raised.ascent heavy);
+      raised = h.raised;
+    }
+
+-- one of two holds what both hold, and the one there is, or else the first
+pub either_of : {A : Type 0} (P : A → Type 0) (best more chosen : Option A) → IfSome best P → IfSome more P → (chosen ≡ best) ⊎ (chosen ≡ more) → IfSome chosen P
+either_of {A = A} P best more chosen h k (inl is) = subst (λ (o : Option A). IfSome o P) (sym is) h
+either_of {A = A} P best more chosen h k (inr is) = subst (λ (o : Option A). IfSome o P) (sym is) k
+
+pub or_first : {A : Type 0} (P : A → Type 0) (best : Option A) (first : A) → IfSome best P → P first → P (unwrap_or best first)
+or_first P None first h k = k
+or_first P (Some x) first h k = h

@@ -23,16 +23,18 @@ use Rattle.search_core.specs.Complete.{without_gone}
 use Rattle.search_core.specs.Needs.{IsFullBelow}
 use Rattle.search_core.specs.declared.done.Done.{Done}
 use Rattle.search_core.specs.declared.done.Done.TheVariants as recorded
+use Rattle.better_trees.specs.Better.{IsBetter, least_after}
+use Rattle.better_trees.specs.Part.{IsPartOf}
+use Rattle.better_trees.proofs.Found.{belongs_to_whole}
 use Rattle.worker_loop.specs.declared.step.End.TheVariants.{Close}
-use Rattle.worker_loop.specs.declared.step.Priced.{Priced}
+use Rattle.better_trees.specs.declared.price.Priced.{Priced}
 use Rattle.worker_loop.specs.declared.work.Work.{Work}
-use Rattle.worker_loop.specs.Node.{IsPartOf}
 use Rattle.worker_loop.specs.Progress.{Adopts, AreDrawnBelow, HasSeen, IsClosed, IsHalved, IsWorkedOn, Moment, as_of, half_of, other_of}
 use Rattle.worker_loop.specs.Run.{IsFound, IsSplitTask, halves_by}
 use Rattle.worker_loop.specs.Sound.{IsSound}
-use Rattle.worker_loop.specs.Step.{IsBetter, IsEnd, SplitsAt, least_after}
+use Rattle.worker_loop.specs.Step.{IsEnd, SplitsAt}
 use Rattle.worker_loop.proofs.Drawing.{drawn_close, drawn_split}
-use Rattle.worker_loop.proofs.Parts.{belongs_to_whole, inside_part, outside_part}
+use Rattle.worker_loop.proofs.Parts.{inside_part, outside_part}
 use Rattle.worker_loop.proofs.Splits.{writable_halves}
 
 -- what a worker has seen and kept when it saw r and a better tree, if there was one

@@ -1,9 +1,7 @@
 pub mod Node
-pub mod Deciding
 pub mod Raising
 pub mod Step
 pub mod Finding
-pub mod Grown
 pub mod Open
 pub mod Sound
 pub mod Run

@@ -1,7 +1,5 @@
--- Nodes that a log can hold, and branches that are parts of another one.
-use Rattle.std.specs.Prelude.{ℕ, IsTrue, [], None}
-use Rattle.st_model.specs.declared.branch.Branch.{Branch}
-use Rattle.st_model.specs.Lists.{has}
+-- Nodes that a log can hold.
+use Rattle.std.specs.Prelude.{[], None}
 use Rattle.st_model.specs.Network.{Network}
 use Rattle.cut_packing.specs.declared.packing.Packing.{Packing}
 use Rattle.log_format.specs.Text.{IsWritablePacking}
@@ -12,11 +10,6 @@ use Rattle.branching.specs.Node.{IsNode}
 pub record IsWritableNode (I : Network) (N : Node) : Type 0 where
   pub node : IsNode I N
   pub writable : IsWritablePacking N.packing
-
--- a branch in which everyone is inside who is so in R, and everyone outside: each of its trees belongs to R
-pub record IsPartOf (R B : Branch) : Type 0 where
-  pub inside : (v : ℕ) → IsTrue (has R.inside v) → IsTrue (has B.inside v)
-  pub outside : (v : ℕ) → IsTrue (has R.outside v) → IsTrue (has B.outside v)
 
 -- a packing without cuts
 abbrev pub no_cuts : Packing

@@ -17,7 +17,7 @@ use Rattle.node_pool.specs.Pool.{Station, Moves, SamePass, gave, took}
 use Rattle.search_core.specs.Complete.{times, without_gone}
 use Rattle.search_core.specs.declared.done.Done.{Done}
 use Rattle.search_core.specs.declared.done.Done.TheVariants.{Split, Close}
-use Rattle.worker_loop.specs.declared.step.Priced.{Priced}
+use Rattle.better_trees.specs.declared.price.Priced.{Priced}
 use Rattle.worker_loop.specs.declared.turn.Turn.{Turn}
 use Rattle.worker_loop.specs.declared.turn.Turn.TheVariants.{Next, Left}
 use Rattle.worker_loop.specs.declared.work.Work.{Work}

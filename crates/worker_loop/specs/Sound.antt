@@ -3,7 +3,8 @@ use Rattle.std.specs.Prelude.{ℕ, List}
 use Rattle.st_model.specs.Network.{Network}
 use Rattle.branching.specs.declared.node.Node.{Node}
 use Rattle.search_core.specs.Complete.{without_gone}
-use Rattle.worker_loop.specs.Node.{IsPartOf, IsWritableNode}
+use Rattle.better_trees.specs.Part.{IsPartOf}
+use Rattle.worker_loop.specs.Node.{IsWritableNode}
 
 -- a node that a log can hold, none of whose trees reaches anybody gone
 pub record IsSound (I : Network) (gone : List ℕ) (N : Node) : Type 0 where

@@ -1,33 +1,20 @@
 -- What the work on a node may answer.
 use Rattle.std.specs.Prelude.{◌≡◌, ℕ, ◌<◌, ◌≤◌, ◌⊎◌, Option, Some, None, IfSome}
-use Rattle.st_model.specs.declared.branch.Branch.{Branch}
 use Rattle.st_model.specs.declared.tree.Tree.{Tree}
 use Rattle.st_model.specs.Network.{Network}
-use Rattle.st_model.specs.Arborescence.{IsTree, cost}
-use Rattle.st_model.specs.Branch.{Belongs, NoneIsCertain}
+use Rattle.st_model.specs.Branch.{NoneIsCertain}
 use Rattle.cut_packing.specs.Packing.{weight}
 use Rattle.cut_packing.specs.Full.{IsFull}
 use Rattle.cut_packing.specs.ProofTree.{Closes, IsSplit}
 use Rattle.log_format.specs.Text.{IsWritablePacking}
 use Rattle.branching.specs.declared.node.Node.{Node}
 use Rattle.branching.specs.Choice.{IsChoice}
-use Rattle.worker_loop.specs.declared.step.Priced.{Priced}
+use Rattle.better_trees.specs.Better.{IsBetter, least_after}
+use Rattle.better_trees.specs.declared.price.Priced.{Priced}
 use Rattle.worker_loop.specs.declared.step.End.{End}
 use Rattle.worker_loop.specs.declared.step.End.TheVariants.{Close, Split}
 use Rattle.worker_loop.specs.declared.step.Step.{Step}
 use Rattle.worker_loop.specs.Node.{IsWritableNode}
-
--- a tree of the branch that costs this, which is less than the least cost known
-pub record IsBetter (I : Network) (B : Branch) (least : ℕ) (p : Priced) : Type 0 where
-  pub is_tree : IsTree I p.tree
-  pub belongs : Belongs B p.tree
-  pub is_price : p.price ≡ cost I p.tree
-  pub cheaper : p.price < least
-
--- the least cost known once the better tree is, if there is one
-abbrev pub least_after : ℕ → Option Priced → ℕ
-least_after least None = least
-least_after least (Some p) = p.price
 
 -- the best tree that was found by then, if there is one
 abbrev pub best_after : Option Tree → Option Priced → Option Tree

@@ -1,5 +1,5 @@
-use crate::by_vertex::at;
 use crate::room::Room;
+use better_trees::by_vertex::at;
 use cut_packing::Packing;
 use graph_store::Whole;
 use st_model::Sides;

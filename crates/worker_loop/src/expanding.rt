@@ -7,15 +7,13 @@ ghost use Rattle.cut_packing.specs.Packing.{weight};
 ghost use Rattle.cut_packing.specs.ProofTree.{IsSplit};
 ghost use Rattle.dual_ascent.specs.Extension.{IsRootFor, IsStart};
 ghost use Rattle.branching.specs.Choice.{IsChoice, IsDecided};
+ghost use Rattle.better_trees.specs.Better.{IsBetter, least_after};
 ghost use Rattle.worker_loop.specs.Finding.{IsFinding};
 ghost use Rattle.worker_loop.specs.Node.{IsWritableNode};
 ghost use Rattle.worker_loop.specs.Open.{IsOpen, as_node};
-ghost use Rattle.worker_loop.specs.Step.{IsBetter, IsStep, least_after};
+ghost use Rattle.worker_loop.specs.Step.{IsStep};
 
-use crate::bettering::{gap, least_after, priced};
 use crate::deciding::root_of;
-use crate::distances::near_root;
-use crate::effort::Effort;
 use crate::following::follow;
 use crate::guessing::{guess, together};
 use crate::node::{OpenNode, node_of};
@@ -23,7 +21,8 @@ use crate::picking::pick;
 use crate::plan::Plan;
 use crate::refining::Guide;
 use crate::rounds::{Rounds, tree_of, work_by_rounds};
-use crate::step::{End, Finding, Priced, Step};
+use crate::step::{End, Finding, Step};
+use better_trees::{Effort, Priced, gap, least_after, near_root, priced};
 use branching::{Node, choose};
 use cut_packing::{Packing, weight};
 use dual_ascent::{Ascent, Extension};
@@ -177,6 +176,7 @@ pub fn work_on<R: Threads + Sync>(
             let limit = gap(&whole.instance, &branch, &packing, price);
             let near = near_root(alloc, &left.arcs, limit)?;
             let more = guessed(
+                rt,
                 alloc,
                 whole,
                 &branch,
@@ -195,7 +195,8 @@ pub fn work_on<R: Threads + Sync>(
 }
 
 // What is found by a guess, by a tree that costs so much.
-fn guessed(
+fn guessed<R: Threads + Sync>(
+    rt: &R,
     alloc: Global,
     whole: &Whole,
     branch: &Sides,
@@ -212,7 +213,9 @@ fn guessed(
     ensures { IfOk result (IsFinding whole.now.instance branch.now price) }
 {
     let mut guide = Guide::at(tree, price, effort);
-    let found = guess(alloc, whole, branch, packing, near, root, price, &mut guide)?;
+    let found = guess(
+        rt, alloc, whole, branch, packing, near, root, price, &mut guide,
+    )?;
     Ok(found)
 }
 

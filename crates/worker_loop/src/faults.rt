@@ -1,6 +1,6 @@
-use crate::by_vertex::{at, put};
-use crate::draws::Draws;
 use crate::rooted::Rooted;
+use better_trees::Draws;
+use better_trees::by_vertex::{at, put};
 use cut_packing::{Cut, Packing};
 use dual_ascent::Extension;
 use graph_store::Whole;

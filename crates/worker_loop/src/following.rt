@@ -5,7 +5,6 @@ ghost use Rattle.cut_packing.specs.ProofTree.{IsSplit};
 ghost use Rattle.worker_loop.specs.Open.{IsOpen, as_node};
 ghost use Rattle.worker_loop.specs.Step.{IsStep};
 
-use crate::effort::Effort;
 use crate::expanding::{closed, work_on};
 use crate::node::{OpenNode, node_of};
 use crate::plan::Plan;
@@ -13,6 +12,7 @@ use crate::raising::raise_from;
 use crate::refining::Guide;
 use crate::repairing::repaired;
 use crate::step::{End, Step};
+use better_trees::Effort;
 use cut_packing::Packing;
 use dual_ascent::{Ascent, Extension};
 use graph_store::Whole;
@@ -104,6 +104,7 @@ fn close_by<R: Threads + Sync>(
     let effort = Effort::at(node.branch.branch(), false, threads);
     let mut guide = Guide::at(known, least, effort);
     let found = repaired(
+        rt,
         alloc,
         whole,
         &node.branch,

@@ -3,18 +3,19 @@ ghost use Rattle.st_model.specs.Network.{IsInstance};
 ghost use Rattle.dual_ascent.specs.Extension.{IsRootFor, IsStart};
 ghost use Rattle.worker_loop.specs.Finding.{IsFinding, together};
 
-use crate::bettering::{better_tree, later, narrowed};
 use crate::deleting::needed;
 use crate::node::no_cuts;
 use crate::plan::Plan;
 use crate::refining::{Guide, raise_refined};
 use crate::repairing::repaired;
-use crate::step::{Finding, Priced};
+use crate::step::Finding;
+use better_trees::{Priced, better_tree, later, narrowed};
 use cut_packing::{Packing, weight};
 use dual_ascent::{Ascent, Extension};
 use graph_store::Whole;
 use st_model::{Instance, Sides, VertexSet};
 use std::alloc::{AllocError, Global};
+use std::thread::Threads;
 
 // Of how many free vertices one at least has to be far, for a guess to be worth its time.
 const FREE_FOR_ONE_FAR: u64 = 50;
@@ -29,7 +30,8 @@ const TURNS: u64 = 10;
 /// root lead to a tree that is cheaper, to a packing that closes the branch itself, or to a plan to close
 /// it by few deletions. `packing` is one of the branch for this root. (Duin 1993 deletes vertices that are
 /// too far by bound.)
-pub fn guess(
+pub fn guess<R: Threads + Sync>(
+    rt: &R,
     alloc: Global,
     whole: &Whole,
     branch: &Sides,
@@ -54,7 +56,7 @@ pub fn guess(
         return Ok(nothing());
     }
     let Extension { ascent, left } = raise_refined(
-        alloc, whole, &part, bare, root, least, TURNS, guide,
+        rt, alloc, whole, &part, bare, root, least, TURNS, guide,
     )?;
     match ascent {
         Ascent::Reached(found) => {
@@ -62,7 +64,7 @@ pub fn guess(
             if are_few(&vertices) {
                 return Ok(planned(Plan::of(&whole.instance, vertices, found)));
             }
-            let closing = repaired(alloc, whole, branch, found, root, least, guide)?;
+            let closing = repaired(rt, alloc, whole, branch, found, root, least, guide)?;
             Ok(Finding {
                 better: None,
                 closing,

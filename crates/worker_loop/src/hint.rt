@@ -1,14 +1,17 @@
 use crate::plan::Plan;
-use crate::step::Priced;
+use better_trees::Priced;
+use branching::Node;
 use st_model::{Listed, Tree};
 use std::alloc::{AllocError, Global};
-use std::sync::{Mutex, Wait};
+use std::sync::{Mutex, MutexGuard, Wait};
 
-/// The cheapest tree that a team has found, which its workers take a copy of to see where trees branch.
-/// Nothing is claimed of it.
+/// What the workers of a team let each other know: the cheapest tree that was found, which they take a copy
+/// of to see where trees branch, and who has all processors at work. Nothing is claimed of it.
 #[derive(Drop)]
 pub struct Hint {
     cheapest: Mutex<Option<Priced>>,
+    // Locked by the worker that works in as many threads as there are workers.
+    busy: Mutex<()>,
 }
 
 impl Hint {
@@ -16,7 +19,13 @@ impl Hint {
     pub fn none() -> Hint {
         Hint {
             cheapest: Mutex::new(None),
+            busy: Mutex::new(()),
         }
+    }
+
+    /// Waits as long as a worker has all processors at work.
+    pub fn make_room<R: Wait>(&self, rt: &R) {
+        let _room = self.busy.lock(rt);
     }
 
     // Keeps a copy of a tree, unless one is kept that costs no more.
@@ -74,6 +83,16 @@ impl<'a> Known<'a> {
             best: Priced { tree, price },
             plan: None,
         })
+    }
+
+    /// At a node without cuts, on which many threads work, keeps workers that find nothing to do from
+    /// looking for it, until what is answered is dropped.
+    pub fn take_room<R: Wait>(&self, rt: &R, node: &Node) -> Option<MutexGuard<'a, ()>> {
+        if node.packing.cuts.as_slice().is_empty() {
+            Some(self.hint.busy.lock(rt))
+        } else {
+            None
+        }
     }
 
     /// The tree.

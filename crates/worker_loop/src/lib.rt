@@ -10,24 +10,16 @@
 #![tactic(auto)]
 
 mod aim;
-mod bettering;
-mod by_vertex;
+mod attempt;
 mod deciding;
 mod deleting;
-mod distances;
-mod draft;
-mod draws;
-mod effort;
-mod elite;
 mod expanding;
 mod faults;
 mod following;
 mod freeing;
 mod gate;
-mod growing;
 mod guessing;
 mod hint;
-mod joints;
 mod node;
 mod picking;
 mod plan;
@@ -39,12 +31,10 @@ mod rooted;
 mod rounds;
 mod run;
 mod running;
-mod sampling;
 mod step;
 mod team;
 #[cfg(test)]
 mod tests;
-mod trees;
 mod turn;
 mod work;
 mod worker;

@@ -1,7 +1,7 @@
 ghost use Rattle.std.specs.Prelude.{◌≡◌};
 ghost use Rattle.cut_packing.specs.ProofTree.{IsSplit};
 
-use crate::joints::Joints;
+use better_trees::Joints;
 use bidirected_form::{Arc, Arcs};
 use st_model::{Instance, Sides, VertexSet};
 

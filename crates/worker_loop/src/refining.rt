@@ -1,20 +1,23 @@
-ghost use Rattle.std.specs.Prelude.{IfOk};
+ghost use Rattle.std.specs.Prelude.{◌≡◌, ◌⊎◌, IfOk};
 ghost use Rattle.st_model.specs.Branch.{IsBranch};
 ghost use Rattle.worker_loop.specs.Raising.{IsExtendable, IsExtendedTo, IsRaised, IsRefined};
 
-use crate::draws::Draws;
-use crate::effort::Effort;
-use crate::freeing::Freeing;
-use crate::raising::{heavier, raise};
+use crate::attempt::{Attempt, make_all};
+use crate::raising::raise;
 use crate::rooted::Rooted;
+use better_trees::{Draws, Effort};
 use cut_packing::{Packing, weight};
-use dual_ascent::{Extension, free, raise_over};
+use dual_ascent::Extension;
 use graph_store::Whole;
 use st_model::{Instance, Sides, Tree};
 use std::alloc::{AllocError, Global};
+use std::thread::Threads;
 
 // How many links are looked at for the turns of one packing, about.
 const LINKS: u64 = 400_000;
+
+// How many links there are for each thread, at least: to start one takes as long as an attempt over few.
+const LINKS_FOR_A_THREAD: usize = 200;
 
 /// What refining goes by: the best tree that is known, what it costs, draws, and how much work there is.
 #[derive(Drop)]
@@ -38,7 +41,8 @@ impl<'a> Guide<'a> {
 }
 
 /// Raises a packing, and refines what comes of it for some turns.
-pub fn raise_refined(
+pub fn raise_refined<R: Threads + Sync>(
+    rt: &R,
     alloc: Global,
     whole: &Whole,
     branch: &Sides,
@@ -48,18 +52,20 @@ pub fn raise_refined(
     turns: u64,
     guide: &mut Guide<'_>,
 ) -> Result<Extension, AllocError>
-    requires { IsExtendable whole.now.instance branch.now packing root least }
+    requires able { IsExtendable whole.now.instance branch.now packing root least }
     ensures { IfOk result (IsExtendedTo whole.now.instance whole.now.store branch.now packing root least) }
 {
     let raised = raise(alloc, whole, branch, packing, root, least)?;
-    let refined = refine(alloc, whole, branch, raised, root, least, turns, guide)?;
+    let refined = refine(rt, alloc, whole, branch, raised, root, least, turns, guide)?;
     Ok(refined)
 }
 
 /// Refines the packing of an extension, so that it weighs `least` or is full, and is no lighter. In each
-/// turn cuts round a fault are freed, and cuts are raised again in an order that is drawn. It ends where
+/// attempt cuts round a fault are freed, and cuts are raised again in an order that is drawn; `turns` is how
+/// many attempts there are, and of those that are made at one packing the heaviest counts. It ends where
 /// the packing weighs what the best tree costs.
-pub fn refine(
+pub fn refine<R: Threads + Sync>(
+    rt: &R,
     alloc: Global,
     whole: &Whole,
     branch: &Sides,
@@ -77,15 +83,12 @@ pub fn refine(
     let patience = guide.effort.patience();
     let mut refined = extension;
     let mut idle: u64 = 0;
-    for _ in 0..turns_for(whole, turns) {
+    for _ in 0..turns_for(whole, turns) / guide.effort.attempts() {
         let before = weight_of(&whole.instance, branch, &refined);
         if refined.ascent.is_reached() || before >= u128::from(guide.price) || idle >= patience {
             break;
         }
-        let freeing = Freeing::drawn(alloc, whole, branch, &refined, &tree, &mut guide.draws)?;
-        let freed = freeing.marks(alloc, refined.ascent.packing(), &mut guide.draws)?;
-        let order = guide.draws.order(alloc, whole.instance.vertices())?;
-        refined = raised_again(alloc, whole, branch, refined, &freed, root, &order, least)?;
+        refined = turn(rt, alloc, whole, branch, refined, &tree, root, least, guide)?;
         let has_gained = weight_of(&whole.instance, branch, &refined) > before;
         idle = if has_gained {
             0
@@ -96,10 +99,83 @@ pub fn refine(
     Ok(refined)
 }
 
+// So many attempts.
+fn new_attempts(alloc: Global, count: u64, draws: &mut Draws) -> Result<Vec<Attempt>, AllocError> {
+    let mut attempts = Vec::new(alloc);
+    for _attempt in 0..count {
+        attempts.push(Attempt::of(draws.below(u64::MAX)))?;
+    }
+    Ok(attempts)
+}
+
+// The heaviest of what attempts at an extension give, or this where all were lighter.
+fn turn<R: Threads + Sync>(
+    rt: &R,
+    alloc: Global,
+    whole: &Whole,
+    branch: &Sides,
+    extension: Extension,
+    tree: &Option<Rooted>,
+    root: u32,
+    least: u64,
+    guide: &mut Guide<'_>,
+) -> Result<Extension, AllocError>
+    requires branch { IsBranch whole.now.instance branch.now }
+    requires raised { IsRaised whole.now.instance whole.now.store branch.now root least extension }
+    ensures { IfOk result (IsRefined whole.now.instance whole.now.store branch.now root least extension) }
+{
+    let mut attempts = new_attempts(alloc, guide.effort.attempts(), &mut guide.draws)?;
+    make_all(
+        rt,
+        alloc,
+        whole,
+        branch,
+        &extension,
+        tree,
+        root,
+        least,
+        attempts.as_mut_slice(),
+        threads_for(whole, guide.effort.threads),
+    );
+    let mut best = None;
+    for attempt in attempts {
+        best = heaviest(&whole.instance, branch, best, attempt.raised?);
+    }
+    Ok(best.unwrap_or(extension))
+}
+
+// The heavier of two extensions; the one there is, where there is one.
+fn heaviest(
+    instance: &Instance,
+    branch: &Sides,
+    best: Option<Extension>,
+    raised: Option<Extension>,
+) -> Option<Extension>
+    requires { IsBranch instance.now branch.now }
+    ensures { (result ≡ best) ⊎ (result ≡ raised) }
+{
+    match (&best, &raised) {
+        (Some(old), Some(new)) => {
+            if weight_of(instance, branch, new) > weight_of(instance, branch, old) {
+                raised
+            } else {
+                best
+            }
+        }
+        (None, _) => raised,
+        (Some(_), None) => best,
+    }
+}
+
 // How many turns there are of so many: fewer, where there are many links.
 fn turns_for(whole: &Whole, turns: u64) -> u64 {
     let links = whole.instance.links().len() as u64;
     turns.min(LINKS / links.max(1))
+}
+
+// In how many threads attempts are made of so many: fewer, where there are few links.
+fn threads_for(whole: &Whole, threads: usize) -> usize {
+    threads.min(whole.instance.links().len() / LINKS_FOR_A_THREAD)
 }
 
 // What the packing of an extension weighs.
@@ -107,36 +183,4 @@ fn weight_of(instance: &Instance, branch: &Sides, extension: &Extension) -> u128
     requires { IsBranch instance.now branch.now }
 {
     weight(instance, branch.branch(), extension.ascent.packing())
-}
-
-// What is raised for the root from what the packing of an extension is without the cuts that are freed,
-// unless it is lighter than this extension, and else this one.
-fn raised_again(
-    alloc: Global,
-    whole: &Whole,
-    branch: &Sides,
-    extension: Extension,
-    freed: &[bool],
-    root: u32,
-    order: &[u32],
-    least: u64,
-) -> Result<Extension, AllocError>
-    requires branch { IsBranch whole.now.instance branch.now }
-    requires raised { IsRaised whole.now.instance whole.now.store branch.now root least extension }
-    ensures { IfOk result (IsRefined whole.now.instance whole.now.store branch.now root least extension) }
-{
-    let mut left = extension.left.copied(alloc)?;
-    let packing = extension.ascent.packing();
-    let kept = free(alloc, &whole.store, branch, packing, &mut left, freed)?;
-    let start = weight(&whole.instance, branch.branch(), &kept) as u64;
-    let raised = raise_over(
-        alloc,
-        &whole.store,
-        branch,
-        kept,
-        left,
-        order,
-        least - start,
-    )?;
-    Ok(heavier(&whole.instance, branch, raised, extension))
 }

@@ -12,10 +12,12 @@ use dual_ascent::Ascent;
 use graph_store::Whole;
 use st_model::{Listed, Sides};
 use std::alloc::{AllocError, Global};
+use std::thread::Threads;
 
 /// A packing that closes the branch at the least cost known, made of one of a part of the branch: as
 /// much of each cut as the branch bears, extended for the root. None where that isn't enough.
-pub fn repaired(
+pub fn repaired<R: Threads + Sync>(
+    rt: &R,
     alloc: Global,
     whole: &Whole,
     branch: &Sides,
@@ -36,7 +38,7 @@ pub fn repaired(
     }
     let raised = raise_from(alloc, whole, branch, borne, root, &[], least)?;
     let turns = guide.effort.repairs();
-    let refined = refine(alloc, whole, branch, raised, root, least, turns, guide)?;
+    let refined = refine(rt, alloc, whole, branch, raised, root, least, turns, guide)?;
     Ok(reached(refined.ascent))
 }
 

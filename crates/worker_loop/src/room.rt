@@ -1,4 +1,4 @@
-use crate::by_vertex::{at, put};
+use better_trees::by_vertex::{at, put};
 use graph_store::Store;
 use st_model::{Instance, Sides};
 use std::alloc::{AllocError, Global};

@@ -1,16 +1,11 @@
 ghost use Rattle.std.specs.Prelude.{IfOk, IfSome};
 ghost use Rattle.st_model.specs.Branch.{IsBranch};
+ghost use Rattle.better_trees.specs.Better.{IsBetter};
 ghost use Rattle.worker_loop.specs.Raising.{IsExtendable, IsExtendedTo, IsRaised, IsRefined};
-ghost use Rattle.worker_loop.specs.Step.{IsBetter};
 
-use crate::bettering::{gap, later, least_after};
-use crate::effort::Effort;
-use crate::elite::Elite;
-use crate::joints::Joints;
 use crate::raising::raise;
 use crate::refining::{Guide, refine};
-use crate::step::Priced;
-use crate::trees::{Trees, trees_at};
+use better_trees::{Effort, Elite, Joints, Priced, Trees, gap, later, least_after, trees_at};
 use cut_packing::Packing;
 use dual_ascent::Extension;
 use graph_store::Whole;
@@ -93,7 +88,7 @@ fn left(whole: &Whole, branch: &Sides, rounds: &Rounds, least: u64) -> u64
 }
 
 // One more round.
-#[tactic(auto, using(crate::proofs::Found::found_later))]
+#[tactic(auto, using(better_trees::proofs::Found::found_later))]
 fn round<R: Threads + Sync>(
     rt: &R,
     alloc: Global,
@@ -121,13 +116,22 @@ fn round<R: Threads + Sync>(
     let price = least_after(least, &better);
     let tree = tree_of(known, &better);
     let extension = refined(
-        alloc, whole, branch, extension, root, least, tree, price, effort,
+        rt, alloc, whole, branch, extension, root, least, tree, price, effort,
     )?;
     let Trees {
         better: more,
         joints,
     } = trees_at(
-        rt, alloc, whole, branch, &extension, tree, price, effort, elite,
+        rt,
+        alloc,
+        whole,
+        branch,
+        extension.ascent.packing(),
+        &extension.left.arcs,
+        tree,
+        price,
+        effort,
+        elite,
     )?;
     Ok(Rounds {
         extension,
@@ -137,7 +141,8 @@ fn round<R: Threads + Sync>(
 }
 
 // An extension, refined by a tree that costs so much.
-fn refined(
+fn refined<R: Threads + Sync>(
+    rt: &R,
     alloc: Global,
     whole: &Whole,
     branch: &Sides,
@@ -154,6 +159,7 @@ fn refined(
 {
     let mut guide = Guide::at(known, price, effort);
     let refined = refine(
+        rt,
         alloc,
         whole,
         branch,

@@ -69,7 +69,7 @@ impl<Q: Aim> Worker<Q> {
         let mut work = Work::begin(alloc, self.best.see());
         let mut hand = None;
         for _ in rt.forever() {
-            match self.taken_up(rt, hand) {
+            match self.taken_up(rt, hint, hand) {
                 Ok(node) => match self.turn(rt, alloc, whole, &mut known, gate, node, &mut work)? {
                     Turn::Next(half) => hand = half,
                     Turn::Left(node, end) => return Ok(work.ended(vec![in alloc; node]?, end)),
@@ -81,7 +81,7 @@ impl<Q: Aim> Worker<Q> {
     }
 
     // The node in hand, or one of the pool. Err: why the worker ends.
-    fn taken_up<R: Wait>(&mut self, rt: &R, hand: Option<Node>) -> Result<Node, End>
+    fn taken_up<R: Wait>(&mut self, rt: &R, hint: &Hint, hand: Option<Node>) -> Result<Node, End>
         ensures same { SameWorker self.old self.new }
         ensures refused { self.new.ledger.tally.refused ≡ self.old.ledger.tally.refused }
         ensures next { MatchResult result
@@ -96,7 +96,7 @@ impl<Q: Aim> Worker<Q> {
     {
         match hand {
             Some(node) => Ok(node),
-            None => self.fetch(rt),
+            None => self.fetch(rt, hint),
         }
     }
 }

@@ -1,14 +1,7 @@
 use crate::plan::Plan;
+use better_trees::Priced;
 use branching::Node;
 use cut_packing::Packing;
-use st_model::Tree;
-
-/// A tree and what it costs.
-#[derive(Debug, Drop)]
-pub struct Priced {
-    pub tree: Tree,
-    pub price: u64,
-}
 
 /// What is found beside a full packing: a tree cheaper than the least cost known, and a packing that
 /// weighs at least the least cost known by then, or a plan how to close.

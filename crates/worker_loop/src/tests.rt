@@ -15,7 +15,6 @@ use test_instances::{link, triangle_with_centre};
 
 mod alone;
 mod brute_force;
-mod elite;
 mod ending;
 mod gates;
 mod refining;

@@ -10,9 +10,10 @@ use crate::aim::Aim;
 use crate::expanding::expand;
 use crate::gate::Gate;
 use crate::hint::Known;
-use crate::step::{End, Priced, Step};
+use crate::step::{End, Step};
 use crate::work::Work;
 use crate::worker::Worker;
+use better_trees::Priced;
 use branching::{Node, halves};
 use cut_packing::Packing;
 use graph_store::Whole;
@@ -88,6 +89,7 @@ impl<Q: Aim> Worker<Q> {
         work.seen = self.best.see();
         known.catch_up(rt, alloc, work.seen)?;
         let plan = known.plan.take();
+        let room = known.take_room(rt, &node);
         let Step { better, end } = expand(
             rt,
             alloc,
@@ -98,6 +100,7 @@ impl<Q: Aim> Worker<Q> {
             plan,
             self.workers as usize,
         )?;
+        drop(room);
         known.show(rt, alloc, &better)?;
         self.adopt(better, work);
         match end {

@@ -5,6 +5,7 @@ ghost use Rattle.worker_loop.specs.Run.{IsEnding};
 ghost use Rattle.worker_loop.specs.Sound.{IsSound};
 
 use crate::aim::{Aim, SoundFor};
+use crate::hint::Hint;
 use branching::Node;
 use incumbent::BestSeat;
 use node_pool::Pass;
@@ -64,7 +65,7 @@ impl<Q: Aim> Worker<Q> {
     }
 
     // Takes a node of the pool, and tries again where it finds none. Err: why the worker ends.
-    pub(crate) fn fetch<R: Wait>(&mut self, rt: &R) -> Result<Node, End>
+    pub(crate) fn fetch<R: Wait>(&mut self, rt: &R, hint: &Hint) -> Result<Node, End>
         ensures seat { (self.new.seat ≡ self.old.seat) × (self.new.workers ≡ self.old.workers)
             × (self.new.next ≡ self.old.next) × (self.new.best ≡ self.old.best) }
         ensures same { SamePass self.old.pass self.new.pass }
@@ -84,6 +85,7 @@ impl<Q: Aim> Worker<Q> {
             if self.ledger.see_halt() {
                 return Err(End::HaltSeen);
             }
+            hint.make_room(rt);
             thread::yield_now();
         }
         unreachable!()

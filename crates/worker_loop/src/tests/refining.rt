@@ -3,17 +3,19 @@ ghost use Rattle.dual_ascent.specs.Extension.{IsRootFor};
 ghost use Rattle.worker_loop.specs.Node.{no_cuts};
 
 use super::roots::{ring, root_of_all, tree_of_ring};
-use crate::effort::Effort;
 use crate::node::no_cuts;
 use crate::refining::{Guide, raise_refined};
+use better_trees::Effort;
 use cut_packing::weight;
 use graph_store::Whole;
 use st_model::{Branch, Sides, Tree};
 use std::alloc::{AllocError, Global};
 use std::test::Fail;
+use std::thread::Threads;
 
 // What cuts weigh that are raised for a root, and refined for some turns by a tree.
-fn refined_weight(
+fn refined_weight<R: Threads + Sync>(
+    rt: &R,
     alloc: Global,
     whole: &Whole,
     tree: &Tree,
@@ -27,21 +29,23 @@ fn refined_weight(
     let effort = Effort::at(branch.branch(), true, 1);
     let mut guide = Guide::at(tree, u64::MAX, effort);
     let bare = no_cuts(alloc);
-    let extension = raise_refined(alloc, whole, &branch, bare, root, least, turns, &mut guide)?;
+    let extension = raise_refined(
+        rt, alloc, whole, &branch, bare, root, least, turns, &mut guide,
+    )?;
     let packing = extension.ascent.packing();
     Ok(weight(&whole.instance, branch.branch(), packing))
 }
 
 // Whether cuts at the ring weigh no less with each turn, and at last 7.
-fn rises(alloc: Global) -> Result<bool, AllocError> {
+fn rises<R: Threads + Sync>(rt: &R, alloc: Global) -> Result<bool, AllocError> {
     let whole = ring(alloc)?;
     let Some(root) = root_of_all(alloc, &whole.instance)? else {
         return Ok(false);
     };
     let tree = tree_of_ring(alloc)?;
     let mut before = 0;
-    for turns in 0..8 {
-        let weight = refined_weight(alloc, &whole, &tree, root, 100, turns)?;
+    for turns in 0..40 {
+        let weight = refined_weight(rt, alloc, &whole, &tree, root, 100, turns)?;
         if weight < before {
             return Ok(false);
         }
@@ -53,6 +57,6 @@ fn rises(alloc: Global) -> Result<bool, AllocError> {
 // One ascent alone gives cuts of the weight 6.
 #[test]
 fn refines_what_one_ascent_gives(rt: HostRuntime) -> Result<(), Fail> {
-    assert!(rt; rises(rt.alloc())?);
+    assert!(rt; rises(&rt, rt.alloc())?);
     Ok(())
 }

@@ -22,12 +22,12 @@ full : (g : Over) (c : In-Full g) → IsExtension c.args.whole.now.instance c.ar
 full g c = rw c.in-Full.is at c.in_ok-extension.ensures.extended.extended
 
 pub guessed-requires-clause-start : goal.guessed-requires-clause-start
-guessed-requires-clause-start g c =
+guessed-requires-clause-start g c κs within =
     let e = full g ((goal.at.guessed-requires-clause-start g c).In-Full) in
     full_start c.args.whole.now.instance (as_node c.args.node) c.in-Full.packing c.args.node.root _ c.requires.node.node e
 
 pub guessed-requires-clause-rooted : goal.guessed-requires-clause-rooted
-guessed-requires-clause-rooted g c =
+guessed-requires-clause-rooted g c κs within =
     let e = full g ((goal.at.guessed-requires-clause-rooted g c).In-Full) in
     full_root c.args.whole.now.instance (as_node c.args.node) c.in-Full.packing c.args.node.root _ c.requires.node.rooted e
 

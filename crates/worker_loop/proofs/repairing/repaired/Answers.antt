@@ -3,7 +3,7 @@ use Rattle.worker_loop.proofs.Found.{fitting_root, reached_closes}
 use Rattle.worker_loop.proofs.repairing.repaired.Goals as goal
 
 pub returns : goal.returns
-returns c =
+returns g c =
     let I = c.args.whole.now.instance in
     let B = c.args.branch.now in
     let P = c.in_ok-borne.borne in

@@ -1,6 +1,6 @@
 use Rattle.std.specs.Prelude.{IfSome}
+use Rattle.better_trees.specs.Better.{IsBetter}
 use Rattle.worker_loop.specs.Raising.{IsExtendedTo}
-use Rattle.worker_loop.specs.Step.{IsBetter}
 use Rattle.worker_loop.proofs.rounds.work_by_rounds.Given as goal
 
 abbrev pub invariant-loop-place : goal.invariant-loop-place

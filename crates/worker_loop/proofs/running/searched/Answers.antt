@@ -8,12 +8,12 @@ use Rattle.open_ledger.specs.Seat.{Known as Account, fresh as new_account, grant
 use Rattle.node_pool.specs.Pool.{Station, all_gave, all_took}
 use Rattle.search_core.specs.State.{root_of}
 use Rattle.search_core.specs.declared.gathered.Segment.{Segment}
+use Rattle.better_trees.proofs.Written.{written}
 use Rattle.worker_loop.specs.declared.team.Slot.{Slot}
 use Rattle.worker_loop.specs.Progress.{IsUnused}
 use Rattle.worker_loop.specs.Slots.{AreSeated, account_of, pass_of, segment_of, sight_of}
 use Rattle.worker_loop.specs.Team.{IsSearched}
 use Rattle.node_pool.proofs.Lists.{map_long}
-use Rattle.worker_loop.proofs.Members.{written}
 use Rattle.worker_loop.proofs.Searching.{IsClosedTeam, IsTotal, all_unused, same_incumbents, same_ledgers, searched_so, still_a_pool}
 use Rattle.worker_loop.proofs.running.searched.Goals as goal
 

@@ -4,10 +4,11 @@ use Rattle.incumbent.specs.Seat.{Known as Sight}
 use Rattle.open_ledger.specs.Seat.{Known as Account}
 use Rattle.node_pool.specs.Pool.{Station}
 use Rattle.search_core.specs.declared.done.Done.TheVariants as recorded
+use Rattle.better_trees.specs.Better.{least_after}
 use Rattle.worker_loop.specs.declared.step.End.TheVariants.{Close, Split}
 use Rattle.worker_loop.specs.declared.work.Work.{Work}
 use Rattle.worker_loop.specs.Progress.{Adopts, IsClosed, IsHalved, as_of, moment}
-use Rattle.worker_loop.specs.Step.{IsEnd, IsStep, least_after}
+use Rattle.worker_loop.specs.Step.{IsEnd, IsStep}
 use Rattle.worker_loop.proofs.WorkedOn.{closed_on, split_on}
 use Rattle.worker_loop.proofs.worker.Worker.work_on.Goals as goal
 

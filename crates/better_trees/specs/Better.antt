@@ -1,0 +1,24 @@
+-- Trees that are cheaper than the least cost known.
+use Rattle.std.specs.Prelude.{◌≡◌, ℕ, ◌<◌, Option, Some, None}
+use Rattle.st_model.specs.declared.branch.Branch.{Branch}
+use Rattle.st_model.specs.Network.{Network}
+use Rattle.st_model.specs.Arborescence.{IsTree, cost}
+use Rattle.st_model.specs.Branch.{Belongs}
+use Rattle.better_trees.specs.declared.price.Priced.{Priced}
+
+-- a tree of the branch that costs this, which is less than the least cost known
+pub record IsBetter (I : Network) (B : Branch) (least : ℕ) (p : Priced) : Type 0 where
+  pub is_tree : IsTree I p.tree
+  pub belongs : Belongs B p.tree
+  pub is_price : p.price ≡ cost I p.tree
+  pub cheaper : p.price < least
+
+-- the least cost known once the better tree is, if there is one
+abbrev pub least_after : ℕ → Option Priced → ℕ
+least_after least None = least
+least_after least (Some p) = p.price
+
+-- the second of two better trees, or else the first
+abbrev pub later : Option Priced → Option Priced → Option Priced
+later better None = better
+later better (Some p) = Some p

@@ -1,0 +1,123 @@
+ghost use Rattle.std.specs.Prelude.{IfOk, IfSome};
+ghost use Rattle.st_model.specs.Arborescence.{IsTree};
+ghost use Rattle.st_model.specs.Branch.{Belongs, IsBranch};
+ghost use Rattle.better_trees.specs.Better.{IsBetter};
+
+use crate::comparing::cheaper;
+use crate::draws::Draws;
+use crate::effort::Effort;
+use crate::growing::grown;
+use crate::price::Priced;
+use bidirected_form::Arcs;
+use graph_store::Whole;
+use local_search::{improve, judged};
+use st_model::{Sides, Tree, tree_cost};
+use std::alloc::{AllocError, Global};
+use tree_heuristic::{guided_tree, prune};
+
+// What a vertex weighs at least, in hundredths, and up to how much more, where trees grow by chance.
+const LEAST: u64 = 50;
+
+const MORE: u64 = 100;
+
+/// A tree of the branch that costs less than the least cost known, if `used_up_tree` is one.
+pub fn better_tree(
+    alloc: Global,
+    whole: &Whole,
+    branch: &Sides,
+    arcs: &Arcs,
+    least: u64,
+    effort: Effort,
+) -> Result<Option<Priced>, AllocError>
+    requires branch { IsBranch whole.now.instance branch.now }
+    ensures { IfOk result (λ better. IfSome better (IsBetter whole.now.instance branch.now least)) }
+{
+    let tree = used_up_tree(alloc, whole, branch, arcs, effort)?;
+    Ok(cheaper(&whole.instance, tree, least))
+}
+
+/// A tree of the branch over arcs with nothing left, if there is one: the cheapest of some that grow,
+/// improved.
+pub fn used_up_tree(
+    alloc: Global,
+    whole: &Whole,
+    branch: &Sides,
+    arcs: &Arcs,
+    effort: Effort,
+) -> Result<Option<Tree>, AllocError>
+    requires branch { IsBranch whole.now.instance branch.now }
+    ensures tree { IfOk result (λ tree. IfSome tree (IsTree whole.now.instance)) }
+    ensures belongs { IfOk result (λ tree. IfSome tree (Belongs branch.now)) }
+{
+    let Some(tree) = grown_along(alloc, whole, branch, arcs, &[])? else {
+        return Ok(None);
+    };
+    let tree = cheapest_grown(alloc, whole, branch, arcs, tree, effort)?;
+    Ok(Some(improve(alloc, whole, branch, tree)?))
+}
+
+// The cheapest of a tree and of some that grow along weights that are drawn. What is left of a best packing
+// has used-up arcs to many trees, and the cheapest among them often is a cheapest one.
+fn cheapest_grown(
+    alloc: Global,
+    whole: &Whole,
+    branch: &Sides,
+    arcs: &Arcs,
+    first: Tree,
+    effort: Effort,
+) -> Result<Tree, AllocError>
+    requires branch { IsBranch whole.now.instance branch.now }
+    requires tree { IsTree whole.now.instance first }
+    requires belongs { Belongs branch.now first }
+    ensures tree { IfOk result (IsTree whole.now.instance) }
+    ensures belongs { IfOk result (Belongs branch.now) }
+{
+    let mut draws = Draws::of(effort.seed);
+    let mut best = first;
+    for _growth in 0..effort.growths() {
+        let weights = draws.weights(alloc, arcs.vertices(), LEAST, MORE)?;
+        if let Some(tree) = grown_along(alloc, whole, branch, arcs, &weights)? {
+            if tree_cost(&whole.instance, &tree) < tree_cost(&whole.instance, &best) {
+                best = tree;
+            }
+        }
+    }
+    Ok(best)
+}
+
+// The tree that grows over used-up arcs along weights, pruned, if it is one of the branch.
+fn grown_along(
+    alloc: Global,
+    whole: &Whole,
+    branch: &Sides,
+    arcs: &Arcs,
+    weights: &[u64],
+) -> Result<Option<Tree>, AllocError>
+    requires branch { IsBranch whole.now.instance branch.now }
+    ensures tree { IfOk result (λ tree. IfSome tree (IsTree whole.now.instance)) }
+    ensures belongs { IfOk result (λ tree. IfSome tree (Belongs branch.now)) }
+{
+    let tree = grown(alloc, whole, branch, arcs, weights)?;
+    let Some(tree) = judged(alloc, &whole.instance, branch, tree)? else {
+        return Ok(None);
+    };
+    Ok(Some(prune(alloc, &whole.instance, branch, tree)?))
+}
+
+/// A tree of the branch, if one is found: a first tree along weighted costs, pruned and improved.
+pub fn tree_along(
+    alloc: Global,
+    whole: &Whole,
+    branch: &Sides,
+    weights: &[u64],
+) -> Result<Option<Tree>, AllocError>
+    requires branch { IsBranch whole.now.instance branch.now }
+    ensures tree { IfOk result (λ tree. IfSome tree (IsTree whole.now.instance)) }
+    ensures belongs { IfOk result (λ tree. IfSome tree (Belongs branch.now)) }
+{
+    let Some(tree) = guided_tree(alloc, &whole.store, branch, weights)? else {
+        return Ok(None);
+    };
+    let tree = prune(alloc, &whole.instance, branch, tree)?;
+    Ok(Some(improve(alloc, whole, branch, tree)?))
+}

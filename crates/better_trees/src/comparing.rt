@@ -1,0 +1,66 @@
+ghost use Rattle.std.specs.Prelude.{◌≡◌, ◌-◌, ◌≤◌, IfSome, IfNone};
+ghost use Rattle.st_model.specs.declared.branch.Branch.{Branch as Part};
+ghost use Rattle.st_model.specs.Arborescence.{IsTree, cost};
+ghost use Rattle.st_model.specs.Branch.{Belongs, IsBranch};
+ghost use Rattle.cut_packing.specs.Packing.{weight};
+ghost use Rattle.better_trees.specs.Better.{IsBetter, later, least_after};
+
+use crate::price::Priced;
+use cut_packing::{Packing, weight};
+use st_model::{Instance, Sides, Tree, tree_cost};
+
+/// A tree and its price, if that is less than the least cost known.
+pub fn priced(instance: &Instance, tree: Tree, least: u64) -> Option<Priced>
+    requires { IsTree instance.now tree }
+    ensures better { (B : Part) → Belongs B tree → IfSome result (IsBetter instance.now B least) }
+    ensures price { IfSome result (λ p. p.price ≡ cost instance.now tree) }
+    ensures none { IfNone result (least ≤ cost instance.now tree) }
+{
+    let price = tree_cost(instance, &tree);
+    if price < least {
+        Some(Priced { tree, price })
+    } else {
+        None
+    }
+}
+
+/// The tree with its price, if there is one that costs less than the least cost known.
+pub fn cheaper(instance: &Instance, tree: Option<Tree>, least: u64) -> Option<Priced>
+    requires { IfSome tree (IsTree instance.now) }
+    ensures { (B : Part) → IfSome tree (Belongs B) → IfSome result (IsBetter instance.now B least) }
+{
+    priced(instance, tree?, least)
+}
+
+/// The least cost known once a better tree is, if there is one.
+pub fn least_after(least: u64, better: &Option<Priced>) -> u64
+    ensures { result ≡ least_after least better.now }
+{
+    match better {
+        Some(found) => found.price,
+        None => least,
+    }
+}
+
+/// Of a better tree and the one found after it, if there is one, the later.
+pub fn later(better: Option<Priced>, more: Option<Priced>) -> Option<Priced>
+    ensures { result ≡ later better more }
+{
+    match more {
+        Some(found) => Some(found),
+        None => better,
+    }
+}
+
+/// What a packing of the branch weighs less than the least cost known.
+pub fn gap(instance: &Instance, branch: &Sides, packing: &Packing, least: u64) -> u64
+    requires { IsBranch instance.now branch.now }
+    ensures { result ≡ least - weight instance.now branch.now packing.now }
+{
+    let weighs = weight(instance, branch.branch(), packing);
+    if weighs < u128::from(least) {
+        least.saturating_sub(weighs as u64)
+    } else {
+        0
+    }
+}

@@ -1,0 +1,33 @@
+//! Looks for trees of a branch that cost less than the cheapest one known: over arcs with nothing left,
+//! and along weights that are drawn, several side by side. Of a tree that is answered callers may rely on
+//! that it is one of the branch and costs less; nothing is claimed of whether one is found, and what is drawn is
+//! the same for the same seed.
+#![tactic(auto)]
+
+mod bettering;
+pub mod by_vertex;
+mod comparing;
+mod distances;
+mod draft;
+mod draws;
+mod effort;
+mod elite;
+mod growing;
+mod joints;
+mod narrowing;
+mod price;
+mod sampling;
+#[cfg(test)]
+mod tests;
+mod trees;
+
+pub use bettering::better_tree;
+pub use comparing::{gap, later, least_after, priced};
+pub use distances::near_root;
+pub use draws::Draws;
+pub use effort::Effort;
+pub use elite::Elite;
+pub use joints::Joints;
+pub use narrowing::narrowed;
+pub use price::Priced;
+pub use trees::{Trees, trees_at};

@@ -1,0 +1,109 @@
+ghost use Rattle.std.specs.Prelude.{IfOk, IfSome};
+ghost use Rattle.st_model.specs.Branch.{IsBranch};
+ghost use Rattle.better_trees.specs.Part.{IsPartOf};
+ghost use Rattle.better_trees.specs.Better.{IsBetter};
+
+use crate::bettering::used_up_tree;
+use crate::comparing::{cheaper, gap, later, least_after};
+use crate::distances::near_root;
+use crate::effort::Effort;
+use crate::elite::Elite;
+use crate::joints::Joints;
+use crate::narrowing::narrowed;
+use crate::price::Priced;
+use crate::sampling::drawn_tree;
+use bidirected_form::Arcs;
+use cut_packing::{Packing, weight};
+use graph_store::Whole;
+use st_model::{Sides, Tree};
+use std::alloc::{AllocError, Global};
+use std::thread::Threads;
+
+/// What the trees tell that were found at a node: one that is cheaper than the least cost known, if
+/// there is one, and where trees branch.
+#[derive(Drop)]
+pub struct Trees {
+    pub better: Option<Priced>,
+    pub joints: Joints,
+}
+
+/// What the trees tell that are found beside the best one known at a node with a packing, which leaves so much
+/// of the arcs. At a node that began without cuts trees are drawn too.
+pub fn trees_at<R: Threads + Sync>(
+    rt: &R,
+    alloc: Global,
+    whole: &Whole,
+    branch: &Sides,
+    packing: &Packing,
+    arcs: &Arcs,
+    known: &Tree,
+    least: u64,
+    effort: Effort,
+    elite: &mut Elite,
+) -> Result<Trees, AllocError>
+    requires branch { IsBranch whole.now.instance branch.now }
+    ensures { IfOk result (λ trees. IfSome trees.better (IsBetter whole.now.instance branch.now least)) }
+{
+    let tree = used_up_tree(alloc, whole, branch, arcs, effort)?;
+    let mut joints = Joints::of_none(alloc, &whole.instance)?;
+    joints.count(alloc, known)?;
+    if let Some(tree) = &tree {
+        joints.count(alloc, tree)?;
+        if effort.is_bare {
+            elite.keep(alloc, &whole.instance, tree)?;
+        }
+    }
+    let better = cheaper(&whole.instance, tree, least);
+    if !effort.is_bare {
+        return Ok(Trees { better, joints });
+    }
+    let better = or_drawn(
+        rt, alloc, whole, branch, packing, arcs, elite, better, least, effort,
+    )?;
+    Ok(Trees { better, joints })
+}
+
+// A tree that is drawn, where it is cheaper than a better tree that was found, and else that one. None
+// that costs less than all reaches a vertex that isn't near the root, so the others are left out.
+fn or_drawn<R: Threads + Sync>(
+    rt: &R,
+    alloc: Global,
+    whole: &Whole,
+    branch: &Sides,
+    packing: &Packing,
+    arcs: &Arcs,
+    elite: &mut Elite,
+    better: Option<Priced>,
+    least: u64,
+    effort: Effort,
+) -> Result<Option<Priced>, AllocError>
+    requires branch { IsBranch whole.now.instance branch.now }
+    requires better { IfSome better (IsBetter whole.now.instance branch.now least) }
+    ensures { IfOk result (λ found. IfSome found (IsBetter whole.now.instance branch.now least)) }
+{
+    let bound = weight(&whole.instance, branch.branch(), packing);
+    let known = least_after(least, &better);
+    let part = near_part(alloc, whole, branch, packing, arcs, known)?;
+    let drawn = drawn_tree(rt, alloc, whole, &part, arcs, elite, effort, known, bound)?;
+    Ok(later(better, drawn))
+}
+
+// The part of the branch where also those are outside that aren't near the root.
+fn near_part(
+    alloc: Global,
+    whole: &Whole,
+    branch: &Sides,
+    packing: &Packing,
+    arcs: &Arcs,
+    least: u64,
+) -> Result<Sides, AllocError>
+    requires { IsBranch whole.now.instance branch.now }
+    ensures branch { IfOk result (IsBranch whole.now.instance) }
+    ensures part { IfOk result (IsPartOf branch.now) }
+{
+    let below = gap(&whole.instance, branch, packing, least);
+    let near = near_root(alloc, arcs, below)?;
+    let part = narrowed(alloc, &whole.instance, branch, &near)?;
+    let part = Sides::of(alloc, part)?;
+    Ok(part)
+}
