@@ -1,4 +1,5 @@
 use crate::plan::Plan;
+use crate::processors::Processors;
 use better_trees::Priced;
 use branching::Node;
 use st_model::{Listed, Tree};
@@ -6,12 +7,11 @@ use std::alloc::{AllocError, Global};
 use std::sync::{Mutex, MutexGuard, Wait};
 
 /// What the workers of a team let each other know: the cheapest tree that was found, which they take a copy
-/// of to see where trees branch, and who has all processors at work. Nothing is claimed of it.
+/// of to see where trees branch, and whether one of them has all processors at work. Nothing is claimed of it.
 #[derive(Drop)]
 pub struct Hint {
     cheapest: Mutex<Option<Priced>>,
-    // Locked by the worker that works in as many threads as there are workers.
-    busy: Mutex<()>,
+    pub processors: Processors,
 }
 
 impl Hint {
@@ -19,13 +19,8 @@ impl Hint {
     pub fn none() -> Hint {
         Hint {
             cheapest: Mutex::new(None),
-            busy: Mutex::new(()),
+            processors: Processors::free(),
         }
-    }
-
-    /// Waits as long as a worker has all processors at work.
-    pub fn make_room<R: Wait>(&self, rt: &R) {
-        let _room = self.busy.lock(rt);
     }
 
     // Keeps a copy of a tree, unless one is kept that costs no more.
@@ -85,14 +80,18 @@ impl<'a> Known<'a> {
         })
     }
 
-    /// At a node without cuts, on which many threads work, keeps workers that find nothing to do from
-    /// looking for it, until what is answered is dropped.
-    pub fn take_room<R: Wait>(&self, rt: &R, node: &Node) -> Option<MutexGuard<'a, ()>> {
+    /// Takes all processors for a node without cuts, unless another worker has them.
+    pub fn take_processors<R: Wait>(&self, rt: &R, node: &Node) -> Option<MutexGuard<'a, ()>> {
         if node.packing.cuts.as_slice().is_empty() {
-            Some(self.hint.busy.lock(rt))
+            self.hint.processors.take(rt)
         } else {
             None
         }
+    }
+
+    /// Gives the processors back, if they were taken.
+    pub fn give_back<R: Wait>(&self, rt: &R, held: Option<MutexGuard<'a, ()>>) {
+        self.hint.processors.give_back(rt, held);
     }
 
     /// The tree.

@@ -23,6 +23,7 @@ mod hint;
 mod node;
 mod picking;
 mod plan;
+mod processors;
 mod raising;
 mod refining;
 mod repairing;

@@ -89,7 +89,8 @@ impl<Q: Aim> Worker<Q> {
         work.seen = self.best.see();
         known.catch_up(rt, alloc, work.seen)?;
         let plan = known.plan.take();
-        let room = known.take_room(rt, &node);
+        let held = known.take_processors(rt, &node);
+        let threads = if held.is_some() { self.workers } else { 1 };
         let Step { better, end } = expand(
             rt,
             alloc,
@@ -98,9 +99,9 @@ impl<Q: Aim> Worker<Q> {
             work.seen,
             known.tree(),
             plan,
-            self.workers as usize,
+            threads as usize,
         )?;
-        drop(room);
+        known.give_back(rt, held);
         known.show(rt, alloc, &better)?;
         self.adopt(better, work);
         match end {

@@ -85,7 +85,7 @@ impl<Q: Aim> Worker<Q> {
             if self.ledger.see_halt() {
                 return Err(End::HaltSeen);
             }
-            hint.make_room(rt);
+            hint.processors.wait(rt);
             thread::yield_now();
         }
         unreachable!()
