@@ -1,5 +1,5 @@
 -- What is raised, and which of two ascents goes on. Helpers' clauses cite this, and no public one.
-use Rattle.std.specs.Prelude.{IfOk, IfSome, ◌≡◌, ℕ, ◌-◌, ◌≤◌, ◌⊎◌, All, ⊤}
+use Rattle.std.specs.Prelude.{◌≡◌, ℕ, ◌-◌, ◌≤◌, ◌⊎◌, All, ⊤}
 use Rattle.st_model.specs.declared.branch.Branch.{Branch}
 use Rattle.st_model.specs.Branch.{IsVertexSet}
 use Rattle.st_model.specs.Network.{Network}
@@ -11,7 +11,6 @@ use Rattle.dual_ascent.specs.declared.ascent.Ascent.TheVariants.{Full, Reached}
 use Rattle.dual_ascent.specs.declared.extension.Extension.{Extension}
 use Rattle.dual_ascent.specs.Extension.{IsExtension, IsRootFor, IsStart, packing_of}
 use Rattle.dual_ascent.specs.Laws.{IsCharged}
-use Rattle.worker_loop.specs.declared.attempt.Attempt.{Attempt}
 use Rattle.dual_ascent.specs.Left.{AreEndsOf}
 
 -- the second weighs what was asked for, or no less than the first
@@ -47,7 +46,3 @@ pub record IsExtendedTo (I : Network) (g : Graph) (B : Branch) (P : Packing) (ro
 pub record IsRefined (I : Network) (g : Graph) (B : Branch) (root least : ℕ) (first e : Extension) : Type 0 where
   pub extends : (P : Packing) → IsExtendable I B P root least → IsExtendedTo I g B P root least first → IsExtendedTo I g B P root least e
   pub raised : IsRaised I g B root least e
-
--- what came of an attempt at an extension, if anything did, refines it
-abbrev pub IsTried : Network → Graph → Branch → ℕ → ℕ → Extension → Attempt → Type 0
-IsTried I g B root least e a = IfOk a.raised (λ raised. IfSome raised (IsRefined I g B root least e))

@@ -1,10 +1,9 @@
 ghost use Rattle.std.specs.Prelude.{All, IfOk, IfSome};
-ghost use Rattle.st_model.specs.Branch.{IsBranch};
-ghost use Rattle.worker_loop.specs.Raising.{IsRaised, IsRefined, IsTried};
+ghost use Rattle.worker_loop.specs.Trying.{IsAt, IsTriedAt, RefinesAt};
 
 use crate::freeing::Freeing;
 use crate::rooted::Rooted;
-use better_trees::Draws;
+use better_trees::{Draws, gap};
 use cut_packing::weight;
 use dual_ascent::{Extension, free, raise_over};
 use graph_store::Whole;
@@ -12,6 +11,17 @@ use st_model::Sides;
 use std::alloc::{AllocError, Global};
 use std::thread;
 use std::thread::Threads;
+
+/// Where attempts are made: a branch, its root, a tree that says where faults are, if there is one, and
+/// what a packing may weigh at most.
+#[derive(Clone, Copy)]
+pub struct Site<'a> {
+    pub whole: &'a Whole,
+    pub branch: &'a Sides,
+    pub root: u32,
+    pub tree: &'a Option<Rooted>,
+    pub least: u64,
+}
 
 /// What is drawn to make a packing heavier, and what came of it, if that is no lighter.
 #[derive(Drop)]
@@ -30,42 +40,34 @@ impl Attempt {
     }
 
     // Frees cuts round a fault, and raises cuts again in an order that is drawn.
-    fn make(
-        &mut self,
-        alloc: Global,
-        whole: &Whole,
-        branch: &Sides,
-        extension: &Extension,
-        tree: &Option<Rooted>,
-        root: u32,
-        least: u64,
-    )
-        requires branch { IsBranch whole.now.instance branch.now }
-        requires raised { IsRaised whole.now.instance whole.now.store branch.now root least extension.now }
-        ensures { IsTried whole.now.instance whole.now.store branch.now root least extension.now self.new }
+    fn make(&mut self, alloc: Global, site: &Site<'_>, extension: &Extension)
+        requires { IsAt site.now extension.now }
+        ensures { IsTriedAt site.now extension.now self.new }
     {
-        self.raised = self.raised_again(alloc, whole, branch, extension, tree, root, least);
+        self.raised = self.raised_again(alloc, site, extension);
     }
 
     fn raised_again(
         &mut self,
         alloc: Global,
-        whole: &Whole,
-        branch: &Sides,
+        site: &Site<'_>,
         extension: &Extension,
-        tree: &Option<Rooted>,
-        root: u32,
-        least: u64,
     ) -> Result<Option<Extension>, AllocError>
-        requires branch { IsBranch whole.now.instance branch.now }
-        requires raised { IsRaised whole.now.instance whole.now.store branch.now root least extension.now }
-        ensures { IfOk result (λ raised. IfSome raised
-            (IsRefined whole.now.instance whole.now.store branch.now root least extension.now)) }
+        requires { IsAt site.now extension.now }
+        ensures { IfOk result (λ raised. IfSome raised (RefinesAt site.now extension.now)) }
     {
-        let freeing = Freeing::drawn(alloc, whole, branch, extension, tree, &mut self.draws)?;
+        let whole = site.whole;
+        let freeing = Freeing::drawn(
+            alloc,
+            whole,
+            site.branch,
+            extension,
+            site.tree,
+            &mut self.draws,
+        )?;
         let freed = freeing.marks(alloc, extension.ascent.packing(), &mut self.draws)?;
         let order = self.draws.order(alloc, whole.instance.vertices())?;
-        raised_without(alloc, whole, branch, extension, &freed, root, &order, least)
+        raised_without(alloc, site, extension, &freed, &order)
     }
 }
 
@@ -73,32 +75,21 @@ impl Attempt {
 // if it is no lighter than this.
 fn raised_without(
     alloc: Global,
-    whole: &Whole,
-    branch: &Sides,
+    site: &Site<'_>,
     extension: &Extension,
     freed: &[bool],
-    root: u32,
     order: &[u32],
-    least: u64,
 ) -> Result<Option<Extension>, AllocError>
-    requires branch { IsBranch whole.now.instance branch.now }
-    requires raised { IsRaised whole.now.instance whole.now.store branch.now root least extension.now }
-    ensures { IfOk result (λ raised. IfSome raised
-        (IsRefined whole.now.instance whole.now.store branch.now root least extension.now)) }
+    requires { IsAt site.now extension.now }
+    ensures { IfOk result (λ raised. IfSome raised (RefinesAt site.now extension.now)) }
 {
+    let whole = site.whole;
+    let branch = site.branch;
     let mut left = extension.left.copied(alloc)?;
     let packing = extension.ascent.packing();
     let kept = free(alloc, &whole.store, branch, packing, &mut left, freed)?;
-    let start = weight(&whole.instance, branch.branch(), &kept) as u64;
-    let raised = raise_over(
-        alloc,
-        &whole.store,
-        branch,
-        kept,
-        left,
-        order,
-        least - start,
-    )?;
+    let target = gap(&whole.instance, branch, &kept, site.least);
+    let raised = raise_over(alloc, &whole.store, branch, kept, left, order, target)?;
     let before = weight(&whole.instance, branch.branch(), packing);
     if weight(&whole.instance, branch.branch(), raised.ascent.packing()) < before {
         return Ok(None);
@@ -110,28 +101,21 @@ fn raised_without(
 pub fn make_all<R: Threads + Sync>(
     rt: &R,
     alloc: Global,
-    whole: &Whole,
-    branch: &Sides,
+    site: &Site<'_>,
     extension: &Extension,
-    tree: &Option<Rooted>,
-    root: u32,
-    least: u64,
     attempts: &mut [Attempt],
     threads: usize,
 )
-    requires branch { IsBranch whole.now.instance branch.now }
-    requires raised { IsRaised whole.now.instance whole.now.store branch.now root least extension.now }
-    ensures { All (IsTried whole.now.instance whole.now.store branch.now root least extension.now) attempts.new }
+    requires { IsAt site.now extension.now }
+    ensures { All (IsTriedAt site.now extension.now) attempts.new }
 {
     thread::for_each_mut(
         rt,
         attempts,
         threads.max(1),
         &|_, attempt: &mut Attempt|
-            requires branch { IsBranch whole.now.instance branch.now }
-            requires raised { IsRaised whole.now.instance whole.now.store branch.now root least extension.now }
-            ensures { IsTried whole.entry.now.instance whole.entry.now.store branch.entry.now root least
-                extension.entry.now attempt.exit.now }
-        { attempt.make(alloc, whole, branch, extension, tree, root, least) },
+            requires { IsAt site.now extension.now }
+            ensures { IsTriedAt site.entry.now extension.entry.now attempt.exit.now }
+        { attempt.make(alloc, site, extension) },
     );
 }

@@ -1,8 +1,9 @@
 ghost use Rattle.std.specs.Prelude.{◌≡◌, ◌⊎◌, IfOk};
 ghost use Rattle.st_model.specs.Branch.{IsBranch};
 ghost use Rattle.worker_loop.specs.Raising.{IsExtendable, IsExtendedTo, IsRaised, IsRefined};
+ghost use Rattle.worker_loop.specs.Trying.{IsAt, RefinesAt};
 
-use crate::attempt::{Attempt, make_all};
+use crate::attempt::{Attempt, Site, make_all};
 use crate::raising::raise;
 use crate::rooted::Rooted;
 use better_trees::{Draws, Effort};
@@ -80,6 +81,13 @@ pub fn refine<R: Threads + Sync>(
     ensures { IfOk result (IsRefined whole.now.instance whole.now.store branch.now root least extension) }
 {
     let tree = Rooted::of(alloc, &whole.instance, branch, guide.known, root)?;
+    let site = Site {
+        whole,
+        branch,
+        root,
+        tree: &tree,
+        least,
+    };
     let patience = guide.effort.patience();
     let mut refined = extension;
     let mut idle: u64 = 0;
@@ -88,7 +96,7 @@ pub fn refine<R: Threads + Sync>(
         if refined.ascent.is_reached() || before >= u128::from(guide.price) || idle >= patience {
             break;
         }
-        refined = turn(rt, alloc, whole, branch, refined, &tree, root, least, guide)?;
+        refined = turn(rt, alloc, &site, refined, guide)?;
         let has_gained = weight_of(&whole.instance, branch, &refined) > before;
         idle = if has_gained {
             0
@@ -99,11 +107,12 @@ pub fn refine<R: Threads + Sync>(
     Ok(refined)
 }
 
-// So many attempts.
-fn new_attempts(alloc: Global, count: u64, draws: &mut Draws) -> Result<Vec<Attempt>, AllocError> {
+// The attempts of a turn.
+fn new_attempts(alloc: Global, guide: &mut Guide<'_>) -> Result<Vec<Attempt>, AllocError> {
     let mut attempts = Vec::new(alloc);
-    for _attempt in 0..count {
-        attempts.push(Attempt::of(draws.below(u64::MAX)))?;
+    for _attempt in 0..guide.effort.attempts() {
+        let seed = guide.draws.below(u64::MAX);
+        attempts.push(Attempt::of(seed))?;
     }
     Ok(attempts)
 }
@@ -112,34 +121,26 @@ fn new_attempts(alloc: Global, count: u64, draws: &mut Draws) -> Result<Vec<Atte
 fn turn<R: Threads + Sync>(
     rt: &R,
     alloc: Global,
-    whole: &Whole,
-    branch: &Sides,
+    site: &Site<'_>,
     extension: Extension,
-    tree: &Option<Rooted>,
-    root: u32,
-    least: u64,
     guide: &mut Guide<'_>,
 ) -> Result<Extension, AllocError>
-    requires branch { IsBranch whole.now.instance branch.now }
-    requires raised { IsRaised whole.now.instance whole.now.store branch.now root least extension }
-    ensures { IfOk result (IsRefined whole.now.instance whole.now.store branch.now root least extension) }
+    requires { IsAt site.now extension }
+    ensures { IfOk result (RefinesAt site.now extension) }
 {
-    let mut attempts = new_attempts(alloc, guide.effort.attempts(), &mut guide.draws)?;
+    let mut attempts = new_attempts(alloc, guide)?;
+    let threads = threads_for(site.whole, guide.effort.threads);
     make_all(
         rt,
         alloc,
-        whole,
-        branch,
+        site,
         &extension,
-        tree,
-        root,
-        least,
         attempts.as_mut_slice(),
-        threads_for(whole, guide.effort.threads),
+        threads,
     );
     let mut best = None;
     for attempt in attempts {
-        best = heaviest(&whole.instance, branch, best, attempt.raised?);
+        best = heaviest(&site.whole.instance, site.branch, best, attempt.raised?);
     }
     Ok(best.unwrap_or(extension))
 }
