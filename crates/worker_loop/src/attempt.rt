@@ -1,4 +1,5 @@
-ghost use Rattle.std.specs.Prelude.{All, IfOk, IfSome};
+ghost use Rattle.std.specs.Prelude.{◌<◌, All, IfOk, IfSome};
+ghost use Rattle.std.specs.Thread.{IsSync};
 ghost use Rattle.worker_loop.specs.Trying.{IsAt, IsTriedAt, RefinesAt};
 
 use crate::freeing::Freeing;
@@ -10,7 +11,7 @@ use graph_store::Whole;
 use st_model::Sides;
 use std::alloc::{AllocError, Global};
 use std::thread;
-use std::thread::Threads;
+use std::thread::{Threads, join_mut};
 
 /// Where attempts are made: a branch, its root, a tree that says where faults are, if there is one, and
 /// what a packing may weigh at most.
@@ -109,13 +110,63 @@ pub fn make_all<R: Threads + Sync>(
     requires { IsAt site.now extension.now }
     ensures { All (IsTriedAt site.now extension.now) attempts.new }
 {
+    if threads > 1 {
+        let size = attempts.len().div_ceil(threads).max(1);
+        make_apart(rt, alloc, site, extension, size, attempts);
+    } else {
+        make_in_turn(rt, alloc, site, extension, attempts);
+    }
+}
+
+// Makes attempts one after another.
+fn make_in_turn<R: Threads + Sync>(
+    rt: &R,
+    alloc: Global,
+    site: &Site<'_>,
+    extension: &Extension,
+    attempts: &mut [Attempt],
+)
+    requires { IsAt site.now extension.now }
+    ensures { All (IsTriedAt site.now extension.now) attempts.new }
+{
     thread::for_each_mut(
         rt,
         attempts,
-        threads.max(1),
+        1,
         &|_, attempt: &mut Attempt|
             requires { IsAt site.now extension.now }
             ensures { IsTriedAt site.entry.now extension.entry.now attempt.exit.now }
         { attempt.make(alloc, site, extension) },
     );
+}
+
+// Makes so many attempts at a time, in a thread of their own. Who makes the threads makes no attempt, and
+// only waits: a thread that is made by one at work may have to wait until that is done.
+#[cycle(apart)]
+fn make_apart<R: Threads + Sync>(
+    rt: &R,
+    alloc: Global,
+    site: &Site<'_>,
+    extension: &Extension,
+    size: usize,
+    attempts: &mut [Attempt],
+)
+    requires size { 0 < size }
+    requires at { IsAt site.now extension.now }
+    ensures { All (IsTriedAt site.now extension.now) attempts.new }
+{
+    if attempts.is_empty() {
+        return;
+    }
+    let few = size.min(attempts.len());
+    let (first, rest) = attempts.split_at_mut(few);
+    let mut one = ||
+        requires { IsSync R.row × IsAt site.now extension.now }
+        ensures { All (IsTriedAt site.entry.now extension.entry.now) first.exit.now }
+    { make_in_turn(rt, alloc, site, extension, first) };
+    let mut others = ||
+        requires { IsSync R.row × (0 < size) × IsAt site.now extension.now }
+        ensures { All (IsTriedAt site.entry.now extension.entry.now) rest.exit.now }
+    { make_apart(rt, alloc, site, extension, size, rest) };
+    join_mut(rt, &mut one, &mut others);
 }

@@ -18,7 +18,7 @@ use std::thread::Threads;
 const LINKS: u64 = 400_000;
 
 // How many links there are for each thread, at least: to start one takes as long as an attempt over few.
-const LINKS_FOR_A_THREAD: usize = 500;
+const LINKS_FOR_A_THREAD: usize = 100;
 
 /// What refining goes by: the best tree that is known, what it costs, draws, and how much work there is.
 #[derive(Drop)]

@@ -3,7 +3,9 @@ ghost use Rattle.dual_ascent.specs.Extension.{IsRootFor};
 ghost use Rattle.worker_loop.specs.Node.{no_cuts};
 
 use super::roots::{ring, root_of_all, tree_of_ring};
+use crate::attempt::{Attempt, Site, make_all};
 use crate::node::no_cuts;
+use crate::raising::raise;
 use crate::refining::{Guide, raise_refined};
 use better_trees::Effort;
 use cut_packing::weight;
@@ -58,5 +60,66 @@ fn rises<R: Threads + Sync>(rt: &R, alloc: Global) -> Result<bool, AllocError> {
 #[test]
 fn refines_what_one_ascent_gives(rt: HostRuntime) -> Result<(), Fail> {
     assert!(rt; rises(&rt, rt.alloc())?);
+    Ok(())
+}
+
+// Which of five attempts, made in so many threads, raise cuts for a root that are no lighter.
+fn raised_in<R: Threads + Sync>(
+    rt: &R,
+    alloc: Global,
+    whole: &Whole,
+    root: u32,
+    threads: usize,
+) -> Result<Vec<bool>, AllocError>
+    requires { IsRootFor whole.now.instance all_trees no_cuts root }
+{
+    let branch = Sides::of(alloc, Branch::all(alloc))?;
+    let bare = no_cuts(alloc);
+    let extension = raise(alloc, whole, &branch, bare, root, 100)?;
+    let site = Site {
+        whole,
+        branch: &branch,
+        root,
+        tree: &None,
+        least: 100,
+    };
+    let mut attempts = Vec::new(alloc);
+    for seed in 0..5 {
+        attempts.push(Attempt::of(seed))?;
+    }
+    make_all(
+        rt,
+        alloc,
+        &site,
+        &extension,
+        attempts.as_mut_slice(),
+        threads,
+    );
+    let mut raised = Vec::new(alloc);
+    for attempt in attempts {
+        raised.push(attempt.raised?.is_some())?;
+    }
+    Ok(raised)
+}
+
+// Whether attempts at the ring raise something, and the same in any number of threads.
+fn are_the_same<R: Threads + Sync>(rt: &R, alloc: Global) -> Result<bool, AllocError> {
+    let whole = ring(alloc)?;
+    let Some(root) = root_of_all(alloc, &whole.instance)? else {
+        return Ok(false);
+    };
+    let alone = raised_in(rt, alloc, &whole, root, 1)?;
+    for threads in [2, 3, 9] {
+        if raised_in(rt, alloc, &whole, root, threads)?.as_slice() != alone.as_slice() {
+            return Ok(false);
+        }
+    }
+    Ok(alone.as_slice().contains(&true))
+}
+
+// Five attempts in one thread, in two and three that make some each, and in one each.
+#[test]
+fn makes_attempts_apart(rt: HostRuntime) -> Result<(), Fail> {
+    assert!(rt; are_the_same(&rt, rt.alloc())?);
     Ok(())
 }
