@@ -39,6 +39,12 @@ found_parts primal dual tree steps proof =
     ap (λ (r : List ℕ). head ++ (flat_map ended (tree_part tree) ++ r)) (sym (flat_map-append ended (steps_part steps) (proof_part proof)))
     ∙ ap (λ (r : List ℕ). head ++ r) (sym (flat_map-append ended (tree_part tree) (steps_part steps ++ proof_part proof)))
 
+-- two parts of a proof, one after the other
+pub parts_written : (lines front back : List ProofLine) → lines ≡ front ++ back
+    → flat_map ended (flat_map lines_of front) ++ flat_map ended (flat_map lines_of back) ≡ flat_map ended (flat_map lines_of lines)
+parts_written lines front back are = sym (ap (λ (l : List ProofLine). flat_map ended (flat_map lines_of l)) are
+    ∙ (ap (λ (l : List (List ℕ)). flat_map ended l) (flat_map-append lines_of front back) ∙ flat_map-append ended (flat_map lines_of front) (flat_map lines_of back)))
+
 -- a claim of a tree was written
 pub found_written : (r : Result (Unit {0}) AllocError) (claim : Claim) (primal dual : ℕ) (tree : Tree) (steps listed : List Step) (proof lines : List ProofLine) (old t1 t2 t3 new : List ℕ)
     → claim ≡ Found primal dual tree steps proof → listed ≡ steps → lines ≡ proof

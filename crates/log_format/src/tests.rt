@@ -2,7 +2,9 @@ use super::*;
 use cut_packing::Packing;
 use lift_back::Step;
 use st_model::Listed;
+use std::alloc::Global;
 use std::test::Fail;
+use std::thread::Threads;
 
 /// A log of a star of three vertices around a fourth, whose links cost 2 each.
 const STAR: &str = "STEINERLOG 1\nCLAIM TREE 6 6\nTREE 1 3\nA 1 4\nA 4 2\nA 4 3\nSTEPS 0\nPROOF\n\
@@ -33,17 +35,38 @@ const RIGHT: [&str; 10] = [
     "STEINERLOG 1\nCLAIM TREE 1 0\nTREE 1 0\nSTEPS 0\nPROOF\nC 0 1\nU 9 0 2 7 8\nEND\n",
 ];
 
-/// Whether a text is that of a log, and is written again as it was read.
-fn is_read_and_written(rt: &impl AllocGlobal, text: &str) -> Result<bool, Fail> {
-    let log = read_log(rt.alloc(), text.as_bytes())?;
-    let written = write_log(rt.alloc(), &log)?;
+/// Whether a text is that of a log, and is written again as it was read, in so many threads.
+fn is_read_and_written<R: Threads + Sync>(
+    rt: &R,
+    alloc: Global,
+    text: &str,
+    threads: usize,
+) -> Result<bool, Fail> {
+    let log = read_log(alloc, text.as_bytes())?;
+    let written = write_log(rt, alloc, &log, threads)?;
     Ok(written.as_slice() == text.as_bytes())
 }
 
 #[test]
 fn reads_and_writes_back(rt: HostRuntime) -> Result<(), Fail> {
     for text in RIGHT {
-        assert!(rt; is_read_and_written(&rt, text)?, "{text}");
+        assert!(rt; is_read_and_written(&rt, rt.alloc(), text, 1)?, "{text}");
+    }
+    Ok(())
+}
+
+#[test]
+fn writes_a_long_proof_in_threads(rt: HostRuntime) -> Result<(), Fail> {
+    let splits = "S 4\nS 77\n".repeat(rt.alloc(), 100)?;
+    let closes = "C 0 0\nC 2 1\nU 1 3 1 1\n".repeat(rt.alloc(), 100)?;
+    let text = format!(in rt.alloc();
+        "STEINERLOG 1\nCLAIM TREE 6 7\nTREE 1 0\nSTEPS 0\nPROOF\n{splits}{closes}C 9 0\nEND\n"
+    )?;
+    for threads in [0, 1, 2, 3, 4, 64] {
+        assert!(rt;
+            is_read_and_written(&rt, rt.alloc(), &text, threads)?,
+            "{threads}"
+        );
     }
     Ok(())
 }
@@ -255,7 +278,7 @@ fn reads_and_writes_many_steps(rt: HostRuntime) -> Result<(), Fail> {
         text.push_str("\nP 4\nD 5 6 2 7 7")?;
     }
     text.push_str("\nPROOF\nC 0 0\nEND\n")?;
-    assert!(rt; is_read_and_written(&rt, text.as_str())?);
+    assert!(rt; is_read_and_written(&rt, rt.alloc(), text.as_str(), 1)?);
     Ok(())
 }
 

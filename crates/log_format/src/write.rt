@@ -1,5 +1,6 @@
 ghost use Rattle.std.specs.Prelude.{◌≡◌, ◌<◌, ◌^◌, ◌∷◌, [], ◌++◌, length, map, OnOk, IfOk, codes, Some, None};
 ghost use Rattle.std.specs.List.{flat_map};
+ghost use Rattle.std.specs.Thread.{IsSync};
 ghost use Rattle.plain_text.specs.Lines.{ended};
 ghost use Rattle.log_format.specs.Text.{spaced, words, root_number, arc_line, cut_line, step_line, lines_of, claim_lines, log_text, IsInLogRange};
 
@@ -9,9 +10,14 @@ use itoa::Buffer;
 use lift_back::Step;
 use st_model::Tree;
 use std::alloc::{AllocError, Global};
+use std::mem;
+use std::thread::{Threads, join};
 
 // A text of which more and more is written.
 type Text = Vec<u8>;
+
+// How many splits and closes there are for each thread, at least: to start one takes as long as to write some.
+const LINES_FOR_A_THREAD: usize = 40;
 
 // Writes a space and a number.
 fn write_number(text: &mut Text, number: u64) -> Result<(), AllocError>
@@ -22,11 +28,11 @@ fn write_number(text: &mut Text, number: u64) -> Result<(), AllocError>
     text.extend_from_slice(buffer.format(number).as_bytes())
 }
 
-// Writes a keyword.
-fn write_word(text: &mut Text, word: &[u8]) -> Result<(), AllocError>
-    ensures { OnOk result (text.new.items ≡ text.old.items ++ word.now) }
+// Writes bytes as they are.
+fn write_bytes(text: &mut Text, bytes: &[u8]) -> Result<(), AllocError>
+    ensures { OnOk result (text.new.items ≡ text.old.items ++ bytes.now) }
 {
-    text.extend_from_slice(word)
+    text.extend_from_slice(bytes)
 }
 
 // Writes the end of a line.
@@ -42,7 +48,7 @@ fn write_pair(text: &mut Text, word: &[u8], first: u64, second: u64) -> Result<(
     ensures { OnOk result (text.new.items
         ≡ text.old.items ++ ended (words word.now (first ∷ second ∷ []))) }
 {
-    write_word(text, word)?;
+    write_bytes(text, word)?;
     write_number(text, first)?;
     write_number(text, second)?;
     write_end(text)
@@ -72,7 +78,7 @@ fn write_counted(text: &mut Text, vertices: &[u32]) -> Result<(), AllocError>
 fn write_cut(text: &mut Text, cut: &Cut) -> Result<(), AllocError>
     ensures { OnOk result (text.new.items ≡ text.old.items ++ ended (cut_line cut.now)) }
 {
-    write_word(text, b"U")?;
+    write_bytes(text, b"U")?;
     write_number(text, u64::from(cut.q))?;
     write_number(text, cut.y)?;
     write_counted(text, cut.set.as_slice())
@@ -111,7 +117,7 @@ fn write_single(text: &mut Text, word: &[u8], number: u64) -> Result<(), AllocEr
     ensures { OnOk result (text.new.items
         ≡ text.old.items ++ ended (words word.now (number ∷ []))) }
 {
-    write_word(text, word)?;
+    write_bytes(text, word)?;
     write_number(text, number)?;
     write_end(text)
 }
@@ -138,13 +144,64 @@ fn write_lines(text: &mut Text, lines: &[ProofLine]) -> Result<(), AllocError>
     Ok(())
 }
 
+// The text of splits and closes.
+fn lines_text(alloc: Global, lines: &[ProofLine]) -> Result<Text, AllocError>
+    ensures { IfOk result (λ text. text.items ≡ flat_map ended (flat_map lines_of lines.now)) }
+{
+    let mut text = Vec::new(alloc);
+    write_lines(&mut text, lines)?;
+    Ok(text)
+}
+
+// A text with the lines of splits and closes after it, the last part of which is written in a thread of
+// its own, as long as there are more threads.
+#[cycle(apart)]
+#[tactic(auto, using(crate::proofs::Texts::parts_written))]
+fn with_lines<R: Threads + Sync>(
+    rt: &R,
+    alloc: Global,
+    text: Text,
+    lines: &[ProofLine],
+    threads: usize,
+) -> Result<Text, AllocError>
+    ensures { IfOk result (λ whole. whole.items ≡ text.items ++ flat_map ended (flat_map lines_of lines.now)) }
+{
+    let mut text = text;
+    if threads <= 1 {
+        write_lines(&mut text, lines)?;
+        return Ok(text);
+    }
+    let (first, last) = lines.split_at(lines.len() - lines.len() / threads);
+    let apart = || -> Result<Text, AllocError>
+        ensures { IfOk result (λ part. part.items ≡ flat_map ended (flat_map lines_of last.entry.now)) }
+    { lines_text(alloc, last) };
+    let others = || -> Result<Text, AllocError>
+        requires { IsSync R.row × (1 < threads) }
+        ensures { IfOk result (λ whole. whole.items
+            ≡ text.items ++ flat_map ended (flat_map lines_of first.entry.now)) }
+    { with_lines(rt, alloc, text, first, threads - 1) };
+    let (part, whole) = join(rt, apart, others);
+    let mut whole = whole?;
+    write_bytes(&mut whole, &part?)?;
+    Ok(whole)
+}
+
 // Writes a proof, after the word that begins it.
-fn write_proof(text: &mut Text, lines: &[ProofLine]) -> Result<(), AllocError>
+fn write_proof<R: Threads + Sync>(
+    rt: &R,
+    alloc: Global,
+    text: &mut Text,
+    lines: &[ProofLine],
+    threads: usize,
+) -> Result<(), AllocError>
     ensures { OnOk result (text.new.items
         ≡ text.old.items ++ flat_map ended (codes "PROOF" ∷ flat_map lines_of lines.now)) }
 {
-    write_word(text, b"PROOF\n")?;
-    write_lines(text, lines)
+    write_bytes(text, b"PROOF\n")?;
+    let threads = threads.min(lines.len() / LINES_FOR_A_THREAD);
+    let begun = mem::replace(text, Vec::new(alloc));
+    *text = with_lines(rt, alloc, begun, lines, threads)?;
+    Ok(())
 }
 
 // Writes the line of a detour.
@@ -152,7 +209,7 @@ fn write_detour(text: &mut Text, a: u32, b: u32, inner: &[u32]) -> Result<(), Al
     ensures { OnOk result (text.new.items
         ≡ text.old.items ++ ended (step_line (Step.Detour a b inner.now))) }
 {
-    write_word(text, b"D")?;
+    write_bytes(text, b"D")?;
     write_number(text, u64::from(a))?;
     write_number(text, u64::from(b))?;
     write_counted(text, inner)
@@ -213,7 +270,13 @@ fn write_tree(text: &mut Text, tree: &Tree) -> Result<(), AllocError>
 }
 
 // Writes the lines of a claim.
-fn write_claim(text: &mut Text, claim: &Claim) -> Result<(), AllocError>
+fn write_claim<R: Threads + Sync>(
+    rt: &R,
+    alloc: Global,
+    text: &mut Text,
+    claim: &Claim,
+    threads: usize,
+) -> Result<(), AllocError>
     ensures { OnOk result (text.new.items
         ≡ text.old.items ++ flat_map ended (claim_lines claim.now)) }
 {
@@ -228,23 +291,29 @@ fn write_claim(text: &mut Text, claim: &Claim) -> Result<(), AllocError>
             write_pair(text, b"CLAIM TREE", *primal, *dual)?;
             write_tree(text, tree)?;
             write_steps(text, steps.as_slice())?;
-            write_proof(text, proof.lines())
+            write_proof(rt, alloc, text, proof.lines(), threads)
         }
         Claim::NoTree { wall } => {
-            write_word(text, b"CLAIM NONE\nWALL")?;
+            write_bytes(text, b"CLAIM NONE\nWALL")?;
             write_counted(text, wall.as_slice())
         }
     }
 }
 
-/// Writes the text of a log.
-pub fn write_log(alloc: Global, log: &Log) -> Result<Vec<u8>, AllocError>
+/// Writes the text of a log, in so many threads at most: where there are many splits and closes, each
+/// writes a part of them.
+pub fn write_log<R: Threads + Sync>(
+    rt: &R,
+    alloc: Global,
+    log: &Log,
+    threads: usize,
+) -> Result<Vec<u8>, AllocError>
     requires { IsInLogRange log.now }
     ensures { IfOk result (λ text. text.items ≡ log_text log.now) }
 {
     let mut text = Vec::new(alloc);
-    write_word(&mut text, b"STEINERLOG 1\n")?;
-    write_claim(&mut text, &log.claim)?;
-    write_word(&mut text, b"END\n")?;
+    write_bytes(&mut text, b"STEINERLOG 1\n")?;
+    write_claim(rt, alloc, &mut text, &log.claim, threads)?;
+    write_bytes(&mut text, b"END\n")?;
     Ok(text)
 }

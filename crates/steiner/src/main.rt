@@ -5,10 +5,10 @@
 
 use st_edge::{DiskShelf, StdSink};
 use std::alloc::AllocError;
-use std::env;
 use std::env::Env;
 use std::io::ErrorKind;
 use std::process::ExitCode;
+use std::{env, mem};
 use steiner_top::{OpenGate, Status, run};
 
 fn main(rt: HostRuntime) -> ExitCode {
@@ -16,7 +16,10 @@ fn main(rt: HostRuntime) -> ExitCode {
         Ok(words) => {
             let mut shelf = DiskShelf::new(&rt);
             let mut out = StdSink::new(&rt);
-            run(&rt, rt.alloc(), &words, &mut shelf, &mut out, &OpenGate).status
+            let ended = run(&rt, rt.alloc(), &words, &mut shelf, &mut out, &OpenGate);
+            // All memory goes back where the process ends, so what was found isn't given back piece by piece.
+            mem::forget(ended.outcome);
+            ended.status
         }
         Err(_) => Status::NoMemory,
     };

@@ -98,7 +98,8 @@ fn answer_bytes<R: Threads + Wait + Sync, G: Gate>(
 }
 
 // Saves the certificate's text, if there is one and the words ask for it.
-fn save<F: Shelf>(
+fn save<R: Threads + Sync, F: Shelf>(
+    rt: &R,
     alloc: Global,
     words: &SolveWords<'_>,
     outcome: &Option<Outcome>,
@@ -119,7 +120,7 @@ fn save<F: Shelf>(
     let (Some(name), Some(outcome)) = (words.log_name, outcome) else {
         return Ok(());
     };
-    let text = write_log(alloc, outcome.certificate())?;
+    let text = write_log(rt, alloc, outcome.certificate(), words.workers as usize)?;
     shelf.save(name, &text)?;
     Ok(())
 }
@@ -156,6 +157,6 @@ pub fn solve_command<R: Threads + Wait + Sync, F: Shelf, G: Gate>(
         Err(status) => return Err(status),
     };
     let answer = answer_bytes(rt, alloc, words, &bytes, gate)?;
-    save(alloc, words, &answer.outcome, shelf)?;
+    save(rt, alloc, words, &answer.outcome, shelf)?;
     Ok(answer)
 }

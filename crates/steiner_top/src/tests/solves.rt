@@ -1,6 +1,6 @@
 use super::{APART, PRIZES, TRIANGLE, WHEEL, ends, shelf_of, sink_of, text_of, words_of};
 use crate::{OpenGate, Outcome, Status, run, solve_bytes};
-use log_format::{Claim, read_log, write_log};
+use log_format::{Claim, read_log};
 use std::alloc::Global;
 use std::process::Abort;
 use std::sync::Wait;
