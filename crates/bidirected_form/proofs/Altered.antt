@@ -68,7 +68,7 @@ tails_altered marks change members old new h v = rw (h v) (by_case (has members 
     by_case true = tails_kept (altered marks change) (altered_tail marks change) (row_of old v)
     by_case false = refl
 
--- the arcs into a vertex are told by their tails
+-- the arcs into a vertex are known by their tails
 arcs_kept : (n v : ℕ) (old new : List Arc) → map tail_of new ≡ map tail_of old → AreArcsInto n v old → AreArcsInto n v new
 arcs_kept n v old new same h = record {
   ascending = λ i j d before below. subst (λ (p : ℕ × ℕ). p.0 < p.1) (two (sym (tail_at i d (omega (arith, before, below)))) (sym (tail_at j d below))) (h.ascending i j d before (omega (arith, long, below)));

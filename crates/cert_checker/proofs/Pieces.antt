@@ -15,15 +15,15 @@ use Rattle.cert_checker.specs.Lines.{Lines}
 -- ---- cuts
 
 -- a byte in front of what stands before the cut
-abbrev behind : ℕ → Option (List ℕ × List ℕ) → Option (List ℕ × List ℕ)
-behind b found = option_map (λ x. (b ∷ x.0, x.1)) found
+abbrev with_first : ℕ → Option (List ℕ × List ℕ) → Option (List ℕ × List ℕ)
+with_first b found = option_map (λ x. (b ∷ x.0, x.1)) found
 
 -- the bytes are what stands before and after the cut, and before it there is no such byte
 abbrev IsCutAt : List ℕ → List ℕ → List ℕ → Type 0
 IsCutAt bytes line after = (bytes ≡ line ++ 10 ∷ after) × (cut 10 line ≡ None)
 
 cut_later : (b : ℕ) (bs line after : List ℕ) (found : Option (List ℕ × List ℕ)) → (b == 10) ≡ false → ((l a : List ℕ) → found ≡ Some (l, a) → IsCutAt bs l a)
-    → behind b found ≡ Some (line, after) → IsCutAt (b ∷ bs) line after
+    → with_first b found ≡ Some (line, after) → IsCutAt (b ∷ bs) line after
 cut_later b bs line after None other back e = absurd cc
 cut_later b bs line after (Some (l, a)) other back e =
     let found : List ℕ × List ℕ = (b ∷ l, a) in
@@ -32,11 +32,11 @@ cut_later b bs line after (Some (l, a)) other back e =
     let first : b ∷ l ≡ line = ap (λ (x : List ℕ × List ℕ). x.0) same in
     let second : a ≡ after = ap (λ (x : List ℕ × List ℕ). x.1) same in
     let h = back l a refl in
-    let none : cut 10 (b ∷ l) ≡ None = ap (λ (t : Bool). cond t (Some ([], l)) (behind b (cut 10 l))) other ∙ ap (behind b) h.1 in
+    let none : cut 10 (b ∷ l) ≡ None = ap (λ (t : Bool). cond t (Some ([], l)) (with_first b (cut 10 l))) other ∙ ap (with_first b) h.1 in
     (ap (λ (r : List ℕ). b ∷ r) h.0 ∙ (λ i. first i ++ 10 ∷ second i), subst (λ (r : List ℕ). cut 10 r ≡ None) first none)
 
 cut_here : (b : ℕ) (bs line after : List ℕ) (t : Bool) → (b == 10) ≡ t → ((l a : List ℕ) → cut 10 bs ≡ Some (l, a) → IsCutAt bs l a)
-    → cond t (Some ([], bs)) (behind b (cut 10 bs)) ≡ Some (line, after) → IsCutAt (b ∷ bs) line after
+    → cond t (Some ([], bs)) (with_first b (cut 10 bs)) ≡ Some (line, after) → IsCutAt (b ∷ bs) line after
 cut_here b bs line after true same back e =
     let found : List ℕ × List ℕ = ([], bs) in
     let wanted : List ℕ × List ℕ = (line, after) in
@@ -57,11 +57,11 @@ lacks_uncut : (bytes : List ℕ) → cut 10 bytes ≡ None → lacks 10 bytes �
 lacks_uncut [] e = refl
 lacks_uncut (b ∷ bs) e = at (b == 10) refl e (cut 10 bs) refl (lacks_uncut bs)
   where
-    at : (t : Bool) → (b == 10) ≡ t → cond t (Some ([], bs)) (behind b (cut 10 bs)) ≡ None → (found : Option (List ℕ × List ℕ)) → cut 10 bs ≡ found → (cut 10 bs ≡ None → lacks 10 bs ≡ true)
+    at : (t : Bool) → (b == 10) ≡ t → cond t (Some ([], bs)) (with_first b (cut 10 bs)) ≡ None → (found : Option (List ℕ × List ℕ)) → cut 10 bs ≡ found → (cut 10 bs ≡ None → lacks 10 bs ≡ true)
         → not (b == 10) && lacks 10 bs ≡ true
     at true same e found is before = absurd cc
     at false other e None is before = rw (other, before is) refl
-    at false other e (Some x) is before = absurd (let some : behind b (Some x) ≡ None = ap (behind b) (sym is) ∙ e in cc)
+    at false other e (Some x) is before = absurd (let some : with_first b (Some x) ≡ None = ap (with_first b) (sym is) ∙ e in cc)
 
 -- ---- lines
 

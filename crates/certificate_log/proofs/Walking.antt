@@ -23,7 +23,7 @@ abbrev pub AreLeft : Gathered → List ℕ → List ProofLine → Type 0
 AreLeft G [] rest = rest ≡ []
 AreLeft G (id ∷ ids) rest = (q : ProofTree) × (above : List ProofLine) × IsReadOff G id q × (rest ≡ above ++ preorder q) × AreLeft G ids above
 
--- a tree's lines come before the others, where its id is put behind the other ids
+-- a tree's lines come before the others, where its id is put after the other ids
 pub with_id : (G : Gathered) (ids : List ℕ) (rest : List ProofLine) (id : ℕ) (q : ProofTree) → IsReadOff G id q → AreLeft G ids rest → AreLeft G (ids ++ id ∷ []) (preorder q ++ rest)
 with_id G [] rest id q reads left = (q, [], reads, ap (λ (r : List ProofLine). preorder q ++ r) left ∙ append-nil (preorder q), refl)
 with_id G (i ∷ ids) rest id q reads (p, above, here, is, later) =

@@ -12,7 +12,7 @@ use Rattle.st_model.specs.Branch.{IsVertexSet}
 use Rattle.bidirected_form.specs.Digraph.{Digraph, IsDigraph, remaining}
 use Rattle.bidirected_form.specs.Entering.{enters}
 use Rattle.flow_cuts.specs.Fewest.{entering_sum, entering_count, Separates, IsFewest, IsUsedUp}
-use Rattle.flow_cuts.specs.Sending.{back, IsOpen, IsFlow, IsBalanced, IsSearched, SendsOne}
+use Rattle.flow_cuts.specs.Sending.{back, CanSend, IsFlow, IsBalanced, IsSearched, SendsOne}
 use Rattle.flow_cuts.specs.declared.searching.Search.{Search}
 use Rattle.flow_cuts.proofs.Counts.{count_few}
 use Rattle.flow_cuts.proofs.Trees.{holds_q}
@@ -37,7 +37,7 @@ flow_at_most D q k f set h flow separates =
     by_case u v left is entering (inr some) = flow.single u v left is (omega arith)
 
 pub flow_at_least : (D : Digraph) (q k : ℕ) (f : ℕ → ℕ → ℕ) (set : List ℕ) → IsDigraph D → IsFlow D q k f → IsTrue (has set q) → IsFalse (has set D.root)
-    → ((u v : ℕ) → IsTrue (has set v) → IsOpen D f 1 u v → IsTrue (has set u)) → entering_count D set ≤ k
+    → ((u v : ℕ) → IsTrue (has set v) → CanSend D f 1 u v → IsTrue (has set u)) → entering_count D set ≤ k
 flow_at_least D q k f set h flow holds misses closed =
     let least = entering_le D (λ u v. back f u v + 1) f set h (λ u v left is entering. by_case u v left is (parts u v (has set v) (has set u) refl refl entering) (cases_lt (f u v) (f v u + 1))) in
     let both = net D q k f set flow.balanced holds misses in
@@ -56,7 +56,7 @@ flow_at_least D q k f set h flow holds misses closed =
 
 -- no used-up arc enters a closed set
 pub separates_closed : (D : Digraph) (q capacity : ℕ) (f : ℕ → ℕ → ℕ) (set : List ℕ) → IsTrue (has set q) → IsFalse (has set D.root)
-    → ((u v : ℕ) → IsTrue (has set v) → IsOpen D f capacity u v → IsTrue (has set u)) → Separates D q set
+    → ((u v : ℕ) → IsTrue (has set v) → CanSend D f capacity u v → IsTrue (has set u)) → Separates D q set
 separates_closed D q capacity f set holds misses closed = record {
   holds = holds;
   misses = misses;
@@ -70,7 +70,7 @@ separates_closed D q capacity f set holds misses closed = record {
 
 -- the set is closed and separates, so none is entered by fewer arcs
 pub fewest_found : (D : Digraph) (q k : ℕ) (f : ℕ → ℕ → ℕ) (set : List ℕ) → IsDigraph D → IsFlow D q k f → IsVertexSet D.n set → IsTrue (has set q) → IsFalse (has set D.root)
-    → ((u v : ℕ) → IsTrue (has set v) → IsOpen D f 1 u v → IsTrue (has set u)) → IsFewest D q set
+    → ((u v : ℕ) → IsTrue (has set v) → CanSend D f 1 u v → IsTrue (has set u)) → IsFewest D q set
 fewest_found D q k f set h flow is_set holds misses closed = record {
   candidate = record { set = is_set; separates = separates_closed D q 1 f set holds misses closed };
   least = λ other is. let below = flow_at_least D q k f set h flow holds misses closed in let above = flow_at_most D q k f other h flow is.separates in omega (arith, below, above);
@@ -98,11 +98,11 @@ flow_more D q k f g sends flow = record {
   few = λ u v. few u v (sends.over u v);
 }
   where
-    few : (u v : ℕ) → (g u v ≡ f u v) ⊎ (IsOpen D f 1 u v × (g u v ≡ f u v + 1)) → g u v ≤ k + 1
+    few : (u v : ℕ) → (g u v ≡ f u v) ⊎ (CanSend D f 1 u v × (g u v ≡ f u v + 1)) → g u v ≤ k + 1
     few u v (inl same) = omega (arith, same, flow.few u v)
     few u v (inr more) = omega (arith, more.1, flow.few u v)
 
-    room : (u v left : ℕ) → remaining D u v ≡ Some left → 0 < left → IsOpen D f 1 u v → f u v ≤ f v u
+    room : (u v left : ℕ) → remaining D u v ≡ Some left → 0 < left → CanSend D f 1 u v → f u v ≤ f v u
     room u v left is some free = told free.room
       where
         same : left ≡ free.left
@@ -112,7 +112,7 @@ flow_more D q k f g sends flow = record {
         told (inl none) = absurd (omega (arith, same, none, some))
         told (inr less) = omega (arith, less)
 
-    single : (u v left : ℕ) → remaining D u v ≡ Some left → 0 < left → (g u v ≡ f u v) ⊎ (IsOpen D f 1 u v × (g u v ≡ f u v + 1)) → g u v ≤ g v u + 1
+    single : (u v left : ℕ) → remaining D u v ≡ Some left → 0 < left → (g u v ≡ f u v) ⊎ (CanSend D f 1 u v × (g u v ≡ f u v + 1)) → g u v ≤ g v u + 1
     single u v left is some (inl same) = omega (arith, same, flow.single u v left is some, sends.more v u)
     single u v left is some (inr more) = omega (arith, more.1, room u v left is some more.0, sends.more v u)
 

@@ -16,7 +16,7 @@ use Rattle.bidirected_form.specs.Entering.{enters}
 use Rattle.bidirected_form.proofs.Lookups.{left_from-at, left_from-found}
 use Rattle.flow_cuts.specs.declared.searching.Search.{Search}
 use Rattle.flow_cuts.specs.Fewest.{LeadsTo, here, over, Separates}
-use Rattle.flow_cuts.specs.Sending.{HasRoom, IsOpen, AreSteps, is_led, IsTree, IsSearched}
+use Rattle.flow_cuts.specs.Sending.{HasRoom, CanSend, AreSteps, is_led, IsTree, IsSearched}
 use Rattle.flow_cuts.proofs.Walks.{reverse-push, begins}
 
 pub tree_start : (D : Digraph) (f : ℕ → ℕ → ℕ) (capacity q : ℕ) (s : Search) → IsVertex D.n q → s.reaching.count ≡ D.n + 1 → s.reaching.members ≡ q ∷ [] → s.steps.items ≡ []
@@ -32,7 +32,7 @@ tree_start D f capacity q s range count members steps = record {
     flips x y = grind (arith, nat_tests)
 
 -- an open arc into a vertex is in its row
-pub row_open : (D : Digraph) (f : ℕ → ℕ → ℕ) (capacity u v : ℕ) → IsOpen D f capacity u v
+pub row_open : (D : Digraph) (f : ℕ → ℕ → ℕ) (capacity u v : ℕ) → CanSend D f capacity u v
     → (k : ℕ) × (k < length (arcs_into D v)) × ((d : Arc) → (get_or (arcs_into D v) k d).tail ≡ u) ×
     ((d : Arc) → HasRoom f capacity (get_or (arcs_into D v) k d).remaining (get_or (arcs_into D v) k d).tail v)
 row_open D f capacity u v free =
@@ -41,7 +41,7 @@ row_open D f capacity u v free =
 
 -- and an arc of the row with room is open
 pub open_row : (D : Digraph) (f : ℕ → ℕ → ℕ) (capacity v k : ℕ) (d : Arc) → IsDigraph D → k < length (arcs_into D v)
-    → HasRoom f capacity (get_or (arcs_into D v) k d).remaining (get_or (arcs_into D v) k d).tail v → IsOpen D f capacity (get_or (arcs_into D v) k d).tail v
+    → HasRoom f capacity (get_or (arcs_into D v) k d).remaining (get_or (arcs_into D v) k d).tail v → CanSend D f capacity (get_or (arcs_into D v) k d).tail v
 open_row D f capacity v k d h below room = record { left = (get_or (arcs_into D v) k d).remaining; arc = left_from-at (arcs_into D v) k d (h.arcs v).ascending below; room = room }
 
 pub push_longer : (old members : List ℕ) (tail : ℕ) → (more : List ℕ) × (members ≡ old ++ more) → (more : List ℕ) × (members ++ tail ∷ [] ≡ old ++ more)
@@ -74,14 +74,14 @@ taken_up_to f capacity head row i e members new within keeps now before k d belo
 
 -- all of the row is taken
 pub taken_all : (D : Digraph) (f : ℕ → ℕ → ℕ) (capacity head i : ℕ) (members : List ℕ) → length (arcs_into D head) ≤ i → IsTakenUpTo f capacity head (arcs_into D head) i members → (u : ℕ)
-    → IsOpen D f capacity u head → IsTrue (has members u)
+    → CanSend D f capacity u head → IsTrue (has members u)
 taken_all D f capacity head i members long taken u free =
     let place = row_open D f capacity u head free in
     let nothing : Arc = record { tail = 0; remaining = 0 } in
     subst (λ (w : ℕ). IsTrue (has members w)) (place.2 nothing) (taken place.0 nothing (omega (arith, place.1)) (place.3 nothing))
 
 -- a vertex more, with its step
-pub tree_more : (D : Digraph) (f : ℕ → ℕ → ℕ) (capacity q : ℕ) (old new : Search) (tail head : ℕ) → IsVertex D.n tail → IsOpen D f capacity tail head → IsFalse (has old.reaching.members tail)
+pub tree_more : (D : Digraph) (f : ℕ → ℕ → ℕ) (capacity q : ℕ) (old new : Search) (tail head : ℕ) → IsVertex D.n tail → CanSend D f capacity tail head → IsFalse (has old.reaching.members tail)
     → IsTrue (has old.reaching.members head)
     → new.reaching.count ≡ old.reaching.count → new.reaching.members ≡ old.reaching.members ++ tail ∷ [] → new.steps.items ≡ old.steps.items ++ (tail, head) ∷ [] → IsTree D f capacity q old
     → IsTree D f capacity q new
@@ -104,10 +104,10 @@ tree_more D f capacity q old new tail head range free fresh held count members s
 
 -- the vertices up to a place are closed
 abbrev pub IsClosedUpTo : Digraph → (ℕ → ℕ → ℕ) → ℕ → ℕ → List ℕ → Type 0
-IsClosedUpTo D f capacity next members = (k : ℕ) → k < next → (u : ℕ) → IsOpen D f capacity u (get_or members k 0) → IsTrue (has members u)
+IsClosedUpTo D f capacity next members = (k : ℕ) → k < next → (u : ℕ) → CanSend D f capacity u (get_or members k 0) → IsTrue (has members u)
 
 pub closed_more : (D : Digraph) (f : ℕ → ℕ → ℕ) (capacity next head : ℕ) (members new : List ℕ) → slice_get members next ≡ Some head → (more : List ℕ) × (new ≡ members ++ more)
-    → ((u : ℕ) → IsOpen D f capacity u head → IsTrue (has new u)) → IsClosedUpTo D f capacity next members → IsClosedUpTo D f capacity (next + 1) new
+    → ((u : ℕ) → CanSend D f capacity u head → IsTrue (has new u)) → IsClosedUpTo D f capacity next members → IsClosedUpTo D f capacity (next + 1) new
 closed_more D f capacity next head members new found longer all closed k below u free = by_case (cases_lt k next)
   where
     within : next < length members
@@ -118,17 +118,17 @@ closed_more D f capacity next head members new found longer all closed k below u
 
     by_case : (k < next) ⊎ (next ≤ k) → IsTrue (has new u)
     by_case (inl before) = rw (longer.1, has-append members longer.0 u)
-        (or_left (has members u) (has longer.0 u) (closed k before u (subst (λ (w : ℕ). IsOpen D f capacity u w) (same (omega (arith, within))) free)))
+        (or_left (has members u) (has longer.0 u) (closed k before u (subst (λ (w : ℕ). CanSend D f capacity u w) (same (omega (arith, within))) free)))
     by_case (inr past) =
         let is : k ≡ next = omega arith in
         let at_next : get_or members k 0 ≡ head = ap (λ (j : ℕ). get_or members j 0) is ∙ get_or_from_slice_get members next head 0 found in
-        all u (subst (λ (w : ℕ). IsOpen D f capacity u w) (same (omega (arith, within)) ∙ at_next) free)
+        all u (subst (λ (w : ℕ). CanSend D f capacity u w) (same (omega (arith, within)) ∙ at_next) free)
 
 pub closed_done : (D : Digraph) (f : ℕ → ℕ → ℕ) (capacity q next : ℕ) (s : Search) → length s.reaching.members ≤ next → IsClosedUpTo D f capacity next s.reaching.members
     → IsTree D f capacity q s → IsSearched D f capacity q s
 closed_done D f capacity q next s long closed tree = record {
   tree = tree;
-  closed = λ misses u v held free. let place = place_of s.reaching.members v held in closed place.0 (omega (arith, place.1)) u (subst (λ (w : ℕ). IsOpen D f capacity u w) (sym place.2) free);
+  closed = λ misses u v held free. let place = place_of s.reaching.members v held in closed place.0 (omega (arith, place.1)) u (subst (λ (w : ℕ). CanSend D f capacity u w) (sym place.2) free);
 }
 
 pub met_root : (D : Digraph) (f : ℕ → ℕ → ℕ) (capacity q next : ℕ) (s : Search) → slice_get s.reaching.members next ≡ Some D.root → IsTree D f capacity q s → IsSearched D f capacity q s

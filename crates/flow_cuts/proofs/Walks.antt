@@ -7,7 +7,7 @@ use Rattle.st_model.specs.Lists.{has}
 use Rattle.bidirected_form.specs.Digraph.{Digraph, IsDigraph}
 use Rattle.bidirected_form.specs.Entering.{enters}
 use Rattle.flow_cuts.specs.Fewest.{entering_sum}
-use Rattle.flow_cuts.specs.Sending.{back, IsOpen, AreSteps, is_led, IsBalanced, SendsOne}
+use Rattle.flow_cuts.specs.Sending.{back, CanSend, AreSteps, is_led, IsBalanced, SendsOne}
 use Rattle.flow_cuts.proofs.Sums.{amount, entering_more}
 use Rattle.flow_cuts.proofs.Arcs.{head_in_range, turned_arc}
 
@@ -20,7 +20,7 @@ pub record IsUnderWay (D : Digraph) (q : ℕ) (old new : ℕ → ℕ → ℕ) (c
   pub balanced : (k : ℕ) → IsBalanced D q k old → (set : List ℕ)
       → entering_sum D new set + amount (has set D.root) (k + 1) ≡ entering_sum D (back new) set + amount (has set q) k + amount (has set current) 1
   pub more : (u v : ℕ) → old u v ≤ new u v
-  pub over : (u v : ℕ) → (new u v ≡ old u v) ⊎ (IsOpen D old 1 u v × (new u v ≡ old u v + 1))
+  pub over : (u v : ℕ) → (new u v ≡ old u v) ⊎ (CanSend D old 1 u v × (new u v ≡ old u v + 1))
   pub fresh : (u v : ℕ) → IsTrue (has (begins ahead) u) → new u v ≡ old u v
   pub steps : AreSteps D old 1 q ahead
   pub place : IsTrue (is_led q ahead current)
@@ -77,7 +77,7 @@ under_way_step D q old new next current head steps h sent w = record {
   place = w.steps.1;
 }
   where
-    free : IsOpen D old 1 current head
+    free : CanSend D old 1 current head
     free = w.steps.0
 
     plus : (b : Bool) (x : ℕ) → cond b (x + 1) x ≡ x + amount b 1
@@ -124,13 +124,13 @@ under_way_step D q old new next current head steps h sent w = record {
         later true b h = refl
         later false b h = h
 
-    over : (u v : ℕ) (a b : Bool) → eqb current u ≡ a → eqb head v ≡ b → (next u v ≡ old u v) ⊎ (IsOpen D old 1 u v × (next u v ≡ old u v + 1))
+    over : (u v : ℕ) (a b : Bool) → eqb current u ≡ a → eqb head v ≡ b → (next u v ≡ old u v) ⊎ (CanSend D old 1 u v × (next u v ≡ old u v + 1))
     over u v true true e i =
         let from : current ≡ u = eqb-true current u e in
         let to : head ≡ v = eqb-true head v i in
         let raised : next u v ≡ new u v + 1 = sent u v ∙ rw (e, i) refl in
         let start : new u v ≡ old u v = w.fresh u v (rw e refl) in
-        inr (subst (λ (y : ℕ). IsOpen D old 1 u y) to (subst (λ (x : ℕ). IsOpen D old 1 x head) from free), omega (arith, raised, start))
+        inr (subst (λ (y : ℕ). CanSend D old 1 u y) to (subst (λ (x : ℕ). CanSend D old 1 x head) from free), omega (arith, raised, start))
     over u v true false e i = let kept : next u v ≡ new u v = sent u v ∙ rw (e, i) refl in rw kept (w.over u v)
     over u v false b e i = let kept : next u v ≡ new u v = sent u v ∙ rw e refl in rw kept (w.over u v)
 

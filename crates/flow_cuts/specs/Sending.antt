@@ -21,7 +21,7 @@ abbrev pub HasRoom : (ℕ → ℕ → ℕ) → ℕ → ℕ → ℕ → ℕ → T
 HasRoom f capacity remaining u v = (remaining ≡ 0) ⊎ (f u v - f v u < capacity)
 
 -- one more unit can be sent from u to v
-pub record IsOpen (D : Digraph) (f : ℕ → ℕ → ℕ) (capacity u v : ℕ) : Type 0 where
+pub record CanSend (D : Digraph) (f : ℕ → ℕ → ℕ) (capacity u v : ℕ) : Type 0 where
   pub left : ℕ
   pub arc : remaining D u v ≡ Some left
   pub room : HasRoom f capacity left u v
@@ -30,10 +30,10 @@ pub record IsOpen (D : Digraph) (f : ℕ → ℕ → ℕ) (capacity u v : ℕ) :
 abbrev pub is_led : ℕ → List (ℕ × ℕ) → ℕ → Bool
 is_led q steps v = (v == q) || has (map (λ s. s.0) steps) v
 
--- the steps, the last one first, go over open arcs, each from a new vertex to one that is led to q
+-- the steps, the last one first, go over arcs that can send more, each from a new vertex to one that is led to q
 abbrev pub AreSteps : Digraph → (ℕ → ℕ → ℕ) → ℕ → ℕ → List (ℕ × ℕ) → Type 0
 AreSteps D f capacity q [] = ⊤
-AreSteps D f capacity q (s ∷ steps) = IsOpen D f capacity s.0 s.1 × IsTrue (is_led q steps s.1) × IsFalse (is_led q steps s.0) × AreSteps D f capacity q steps
+AreSteps D f capacity q (s ∷ steps) = CanSend D f capacity s.0 s.1 × IsTrue (is_led q steps s.1) × IsFalse (is_led q steps s.0) × AreSteps D f capacity q steps
 
 -- the vertices are those that the steps lead to q
 pub record IsTree (D : Digraph) (f : ℕ → ℕ → ℕ) (capacity q : ℕ) (s : Search) : Type 0 where
@@ -45,7 +45,7 @@ pub record IsTree (D : Digraph) (f : ℕ → ℕ → ℕ) (capacity q : ℕ) (s 
 -- and all that reach q, unless the root does
 pub record IsSearched (D : Digraph) (f : ℕ → ℕ → ℕ) (capacity q : ℕ) (s : Search) : Type 0 where
   pub tree : IsTree D f capacity q s
-  pub closed : IsFalse (has s.reaching.members D.root) → (u v : ℕ) → IsTrue (has s.reaching.members v) → IsOpen D f capacity u v → IsTrue (has s.reaching.members u)
+  pub closed : IsFalse (has s.reaching.members D.root) → (u v : ℕ) → IsTrue (has s.reaching.members v) → CanSend D f capacity u v → IsTrue (has s.reaching.members u)
 
 -- the units that enter a set are those that leave it, and k more where q is in it, and k fewer where the root is
 abbrev pub IsBalanced : Digraph → ℕ → ℕ → (ℕ → ℕ → ℕ) → Type 0
@@ -61,4 +61,4 @@ pub record IsFlow (D : Digraph) (q k : ℕ) (f : ℕ → ℕ → ℕ) : Type 0 w
 pub record SendsOne (D : Digraph) (q : ℕ) (old new : ℕ → ℕ → ℕ) : Type 0 where
   pub balanced : (k : ℕ) → IsBalanced D q k old → IsBalanced D q (k + 1) new
   pub more : (u v : ℕ) → old u v ≤ new u v
-  pub over : (u v : ℕ) → (new u v ≡ old u v) ⊎ (IsOpen D old 1 u v × (new u v ≡ old u v + 1))
+  pub over : (u v : ℕ) → (new u v ≡ old u v) ⊎ (CanSend D old 1 u v × (new u v ≡ old u v + 1))

@@ -1,7 +1,7 @@
 ghost use Rattle.std.specs.Prelude.{◌≡◌, ℕ, ◌+◌, ◌<◌, ◌↔◌, ◌∷◌, [], ◌++◌, IsTrue, IsFalse, IfOk, OnOk, List};
 ghost use Rattle.st_model.specs.Lists.{has};
 ghost use Rattle.st_model.specs.Network.{IsVertex};
-ghost use Rattle.flow_cuts.specs.Sending.{HasRoom, IsOpen, IsSearched, IsTree, sent};
+ghost use Rattle.flow_cuts.specs.Sending.{HasRoom, CanSend, IsSearched, IsTree, sent};
 
 use crate::flow::Flow;
 use bidirected_form::{Arc, Arcs};
@@ -74,7 +74,7 @@ impl Search {
             → IsTrue (has self.old.reaching.members head) → IsTree arcs.now (sent flow.now) capacity q self.new) }
         ensures longer { OnOk result ((more : List ℕ)
             × (self.new.reaching.members ≡ self.old.reaching.members ++ more)) }
-        ensures all { OnOk result ((u : ℕ) → IsOpen arcs.now (sent flow.now) capacity u head
+        ensures all { OnOk result ((u : ℕ) → CanSend arcs.now (sent flow.now) capacity u head
             → IsTrue (has self.new.reaching.members u)) }
         ensures count { self.new.reaching.count ≡ self.old.reaching.count }
     {

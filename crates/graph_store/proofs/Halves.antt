@@ -72,11 +72,11 @@ module _ (old new : List Half) (place : ℕ) (taken : IsTaken old new place) whe
         last : slice_get old (length old - 1) ≡ Some moved
         last = let yes : eqb place place ≡ true = eq-eqb place place refl in rw yes at (there place moved here).1
 
-        told : P moved.to ≡ Some (length old - 1, moved.cost)
-        told = but.placed (length old - 1) moved (λ e. omega (arith, less)) last
+        known : P moved.to ≡ Some (length old - 1, moved.cost)
+        known = but.placed (length old - 1) moved (λ e. omega (arith, less)) last
 
         told_now : Q moved.to ≡ Some (place, moved.cost)
-        told_now = let yes : eqb moved.to moved.to ≡ true = eq-eqb moved.to moved.to refl in turns moved.to ∙ rw (yes, told) refl
+        told_now = let yes : eqb moved.to moved.to ≡ true = eq-eqb moved.to moved.to refl in turns moved.to ∙ rw (yes, known) refl
 
         same : (w : ℕ) → (w ≡ moved.to → ⊥) → Q w ≡ P w
         same w other = let no : eqb w moved.to ≡ false = grind (arith, nat_tests) in turns w ∙ rw no refl
@@ -94,7 +94,7 @@ module _ (old new : List Half) (place : ℕ) (taken : IsTaken old new place) whe
                 let other : k ≡ place → ⊥ = λ e. grind (arith, nat_tests) in
                 let old_place = but.placed k half other (was k half other is) in
                 let bound = (there k half is).0 in
-                let apart : half.to ≡ moved.to → ⊥ = λ e. (let both : ◌≡◌ {A = Option (ℕ × ℕ)} (Some (k, half.cost)) (Some (length old - 1, moved.cost)) = sym old_place ∙ ap P e ∙ told in let places : k ≡ length old - 1 = (same_parts k half.cost (length old - 1) moved.cost both).0 in omega arith) in
+                let apart : half.to ≡ moved.to → ⊥ = λ e. (let both : ◌≡◌ {A = Option (ℕ × ℕ)} (Some (k, half.cost)) (Some (length old - 1, moved.cost)) = sym old_place ∙ ap P e ∙ known in let places : k ≡ length old - 1 = (same_parts k half.cost (length old - 1) moved.cost both).0 in omega arith) in
                 same half.to apart ∙ old_place
 
         found : (w k cost : ℕ) → Q w ≡ Some (k, cost) → slice_get new k ≡ Some (record { to = w; cost = cost })
@@ -214,7 +214,7 @@ AreHalves-without halves P Q to place cost are at turns = record {
         let half = are.found w k c is in
         ((λ e. (let both : ◌≡◌ {A = Option Half} (Some (record { to = w; cost = c })) (Some (record { to = to; cost = cost })) = sym half ∙ ap (slice_get halves) e ∙ here in let one : ◌≡◌ {A = Half} (record { to = w; cost = c }) (record { to = to; cost = cost }) = cc in let tos = ap (λ (h : Half). h.to) one in grind (arith, nat_tests))), half)
 
--- of what is said but for one place, the last half is told where another has moved
+-- of what is said but for one place, the last half is known where another has moved
 pub told_last : (old new : List Half) (place : ℕ) (P : ℕ → Option (ℕ × ℕ)) (moved : Half) → IsTaken old new place → AreHalvesBut place old P → slice_get new place ≡ Some moved → P moved.to ≡ Some (length old - 1, moved.cost)
 told_last old new place P moved taken but here =
     let at = there old new place taken place moved here in

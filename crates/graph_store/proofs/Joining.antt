@@ -68,7 +68,7 @@ module _ (es new : List Entry) (low high : ℕ) (before : low < high) (H : ℕ �
       → ((k : ℕ) → slice_get (H1 low) k ≡ cond (eqb k joint.low) (option_map (with_cost cost) (slice_get (H low) k)) (slice_get (H low) k)) → ((v : ℕ) → (v ≡ low → ⊥) → H1 v ≡ H v)
       → ((k : ℕ) → slice_get (H2 high) k ≡ cond (eqb k joint.high) (option_map (with_cost cost) (slice_get (H1 high) k)) (slice_get (H1 high) k)) → ((v : ℕ) → (v ≡ high → ⊥) → H2 v ≡ H1 v)
       → (v : ℕ) → AreHalves (H2 v) (place_of new v)
-  cheapened joint cost H1 H2 at is told first others1 second others2 v = by_case (eqb v low) (eqb v high) refl refl
+  cheapened joint cost H1 H2 at is known first others1 second others2 v = by_case (eqb v low) (eqb v high) refl refl
     where
       places : (x y : ℕ) → place_of new x y ≡ cond (are_ends low high x y) (option_map (λ p. (p.0, cost)) (place_of es x y)) (place_of es x y)
       places x y = ap (λ (es : List Entry). place_of es x y) is ∙ place_of-set_cost low high cost es joint (record { cost = cost; low = joint.low; high = joint.high }) x y before at refl
@@ -77,13 +77,13 @@ module _ (es new : List Entry) (low high : ℕ) (before : low < high) (H : ℕ �
       by_case true t is other =
           let is' : v ≡ low = grind (arith, nat_tests) in
           let apart : low ≡ high → ⊥ = λ e. omega arith in
-          let here = AreHalves-cost (H low) (H2 low) (place_of es low) (place_of new low) high joint.low joint.cost cost (λ k. ap (λ (hs : List Half). slice_get hs k) (others2 low apart) ∙ first k) (halves low) told.low_place
+          let here = AreHalves-cost (H low) (H2 low) (place_of es low) (place_of new low) high joint.low joint.cost cost (λ k. ap (λ (hs : List Half). slice_get hs k) (others2 low apart) ∙ first k) (halves low) known.low_place
           (λ w. places low w ∙ (let same : are_ends low high low w ≡ eqb w high = grind (arith, nat_tests) in ap (λ b. cond b (option_map (λ (p : ℕ × ℕ). (p.0, cost)) (place_of es low w)) (place_of es low w)) same)) in
           AreHalves-same (H2 low) (H2 v) (place_of new low) (place_of new v) (ap H2 is') (λ w. ap (λ x. place_of new x w) is') here
       by_case false true other is =
           let is' : v ≡ high = grind (arith, nat_tests) in
           let apart : high ≡ low → ⊥ = λ e. omega arith in
-          let here = AreHalves-cost (H high) (H2 high) (place_of es high) (place_of new high) low joint.high joint.cost cost (λ k. second k ∙ ap (λ (hs : List Half). cond (eqb k joint.high) (option_map (with_cost cost) (slice_get hs k)) (slice_get hs k)) (others1 high apart)) (halves high) told.high_place
+          let here = AreHalves-cost (H high) (H2 high) (place_of es high) (place_of new high) low joint.high joint.cost cost (λ k. second k ∙ ap (λ (hs : List Half). cond (eqb k joint.high) (option_map (with_cost cost) (slice_get hs k)) (slice_get hs k)) (others1 high apart)) (halves high) known.high_place
           (λ w. places high w ∙ (let same : are_ends low high high w ≡ eqb w low = grind (arith, nat_tests) in ap (λ b. cond b (option_map (λ (p : ℕ × ℕ). (p.0, cost)) (place_of es high w)) (place_of es high w)) same)) in
           AreHalves-same (H2 high) (H2 v) (place_of new high) (place_of new v) (ap H2 is') (λ w. ap (λ x. place_of new x w) is') here
       by_case false false not_low not_high =

@@ -92,10 +92,10 @@ is_told es a b low high joint ordered low_is high_is at = record {
         by_case false other = let apart : a ≡ b → ⊥ = λ e. grind (arith, nat_tests) in omega arith
 
 -- what is said of look-ups, said of places and of links
-place_of-where : (es new : List Entry) (v w : ℕ) (there : Bool) (found : Option Joint) (told : Option (ℕ × ℕ)) → joint_of new v w ≡ cond there found (joint_of es v w) → (there ≡ true → option_map (place_in v w) found ≡ told) → place_of new v w ≡ cond there told (place_of es v w)
-place_of-where es new v w there found told now at = ap (option_map (place_in v w)) now ∙ split there refl
+place_of-where : (es new : List Entry) (v w : ℕ) (there : Bool) (found : Option Joint) (known : Option (ℕ × ℕ)) → joint_of new v w ≡ cond there found (joint_of es v w) → (there ≡ true → option_map (place_in v w) found ≡ known) → place_of new v w ≡ cond there known (place_of es v w)
+place_of-where es new v w there found known now at = ap (option_map (place_in v w)) now ∙ split there refl
   where
-    split : (t : Bool) → there ≡ t → option_map (place_in v w) (cond t found (joint_of es v w)) ≡ cond t told (place_of es v w)
+    split : (t : Bool) → there ≡ t → option_map (place_in v w) (cond t found (joint_of es v w)) ≡ cond t known (place_of es v w)
     split true is = at is
     split false is = refl
 
@@ -162,10 +162,10 @@ place_of-pushed_others es new low high joint put v w not_low not_high =
     let other : are_ends low high v w ≡ false = grind (arith, nat_tests) in
     ap (option_map (place_in v w)) (put v w) ∙ rw other refl
 
--- where a place is told there is a link
-pub some_joint : (es : List Entry) (u w : ℕ) (told : ℕ × ℕ) → place_of es u w ≡ Some told → IsSome (joint_of es u w)
-some_joint es u w told at = split (joint_of es u w) at
+-- where a place is known there is a link
+pub some_joint : (es : List Entry) (u w : ℕ) (known : ℕ × ℕ) → place_of es u w ≡ Some known → IsSome (joint_of es u w)
+some_joint es u w known at = split (joint_of es u w) at
   where
-    split : (o : Option Joint) → option_map (place_in u w) o ≡ Some told → IsSome o
+    split : (o : Option Joint) → option_map (place_in u w) o ≡ Some known → IsSome o
     split None h = cc
     split (Some joint) h = refl

@@ -72,7 +72,7 @@ halves_at-here lists at list within = let yes : eqb at at ≡ true = eq-eqb at a
 pub halves_at-others : (lists : List (Vec Half Global)) (at : ℕ) (list : Vec Half Global) (v : ℕ) → at < length lists → (v ≡ at → ⊥) → halves_at (set lists at list) v ≡ halves_at lists v
 halves_at-others lists at list v within other = let no : eqb v at ≡ false = grind (arith, nat_tests) in halves_at-set lists at list v within ∙ rw no refl
 
--- the same where what is written is told of what was there
+-- the same where what is written is known from what was there
 pub halves_at-written : (lists : List (Vec Half Global)) (at : ℕ) (was list : Vec Half Global) (f : List Half → List Half) → at < length lists → was ≡ get_or lists at was → list.items ≡ f was.items → (v : ℕ) → halves_at (set lists at list) v ≡ cond (eqb v at) (f (halves_at lists at)) (halves_at lists v)
 halves_at-written lists at was list f within is written v = halves_at-set lists at list v within ∙ ap (λ hs. cond (eqb v at) hs (halves_at lists v)) (written ∙ ap f (sym (halves_at-read lists at was within is)))
 

@@ -41,20 +41,20 @@ are_neighbours I es v halves links pairs ends are = record { linked = λ w cost.
         let got = are.found w place.0 cost place.1 in
         (place.0, slice_get_within halves place.0 _ got, get_or_from_slice_get halves place.0 _ _ got)
 
-    told : (k : ℕ) (d : Half) → k < length halves → place_of es v (get_or halves k d).to ≡ Some (k, (get_or halves k d).cost)
-    told k d within = are.placed k (get_or halves k d) (slice_get-get_or halves k d within)
+    known : (k : ℕ) (d : Half) → k < length halves → place_of es v (get_or halves k d).to ≡ Some (k, (get_or halves k d).cost)
+    known k d within = are.placed k (get_or halves k d) (slice_get-get_or halves k d within)
 
     once : AllPairs (λ h k. h.to ≡ k.to → ⊥) halves
     once i j d before within same =
-        let both : ◌≡◌ {A = Option (ℕ × ℕ)} (Some (i, (get_or halves i d).cost)) (Some (j, (get_or halves j d).cost)) = sym (told i d (omega arith)) ∙ ap (place_of es v) same ∙ told j d within in
+        let both : ◌≡◌ {A = Option (ℕ × ℕ)} (Some (i, (get_or halves i d).cost)) (Some (j, (get_or halves j d).cost)) = sym (known i d (omega arith)) ∙ ap (place_of es v) same ∙ known j d within in
         let places = (same_parts i (get_or halves i d).cost j (get_or halves j d).cost both).0 in
         omega arith
 
     others : (k : ℕ) (d : Half) → k < length halves → IsVertex I.n (get_or halves k d).to × ((get_or halves k d).to ≡ v → ⊥)
     others k d within =
-        let is : link I.links v (get_or halves k d).to ≡ Some (get_or halves k d).cost = costs (get_or halves k d).to ∙ ap (option_map (λ (p : ℕ × ℕ). p.1)) (told k d within) in
+        let is : link I.links v (get_or halves k d).to ≡ Some (get_or halves k d).cost = costs (get_or halves k d).to ∙ ap (option_map (λ (p : ℕ × ℕ). p.1)) (known k d within) in
         let range = on_some _ _ _ is (linked_in_range I.n I.links v (get_or halves k d).to ends) in
-        (range.1, λ e. (let clash : ◌≡◌ {A = Option (ℕ × ℕ)} None (Some (k, (get_or halves k d).cost)) = sym (ap (option_map (place_in v v)) (joint_of-loop es v pairs.ordered)) ∙ ap (place_of es v) (sym e) ∙ told k d within in cc))
+        (range.1, λ e. (let clash : ◌≡◌ {A = Option (ℕ × ℕ)} None (Some (k, (get_or halves k d).cost)) = sym (ap (option_map (place_in v v)) (joint_of-loop es v pairs.ordered)) ∙ ap (place_of es v) (sym e) ∙ known k d within in cc))
 
 -- the other ends of halves
 abbrev ends_of : List Half → List ℕ

@@ -9,22 +9,22 @@ use Rattle.graph_store.specs.Joined.{Entry, joint_of, place_of, AreHalves, AreHa
 use Rattle.graph_store.proofs.Halves.{AreHalves-same, AreHalves-without}
 use Rattle.graph_store.proofs.LinkLemmas.{IsTold, place_of-gone, place_of-gone_high, place_of-gone_others}
 
-module _ (es e1 : List Entry) (a b low high : ℕ) (joint : Joint) (low_is : low ≡ min a b) (high_is : high ≡ max a b) (told : IsTold es low high joint)
+module _ (es e1 : List Entry) (a b low high : ℕ) (joint : Joint) (low_is : low ≡ min a b) (high_is : high ≡ max a b) (known : IsTold es low high joint)
     (gone : (x y : ℕ) → joint_of e1 x y ≡ cond (are_ends a b x y) None (joint_of es x y))
     (H : ℕ → List Half) (halves : (v : ℕ) → AreHalves (H v) (place_of es v)) where
   -- both halves are in the lists
   pub low_within : joint.low < length (H low)
-  low_within = slice_get_within (H low) joint.low _ ((halves low).found high joint.low joint.cost told.low_place)
+  low_within = slice_get_within (H low) joint.low _ ((halves low).found high joint.low joint.cost known.low_place)
 
   pub high_within : joint.high < length (H high)
-  high_within = slice_get_within (H high) joint.high _ ((halves high).found low joint.high joint.cost told.high_place)
+  high_within = slice_get_within (H high) joint.high _ ((halves high).found low joint.high joint.cost known.high_place)
 
   -- the lower end's, where its link is gone
   pub low_but : AreHalvesBut joint.low (H low) (place_of e1 low)
-  low_but = AreHalves-without (H low) (place_of es low) (place_of e1 low) high joint.low joint.cost (halves low) told.low_place (place_of-gone es e1 a b low high low_is high_is gone)
+  low_but = AreHalves-without (H low) (place_of es low) (place_of e1 low) high joint.low joint.cost (halves low) known.low_place (place_of-gone es e1 a b low high low_is high_is gone)
 
   pub high_but : AreHalvesBut joint.high (H high) (place_of e1 high)
-  high_but = AreHalves-without (H high) (place_of es high) (place_of e1 high) low joint.high joint.cost (halves high) told.high_place (place_of-gone_high es e1 a b low high low_is high_is gone)
+  high_but = AreHalves-without (H high) (place_of es high) (place_of e1 high) low joint.high joint.cost (halves high) known.high_place (place_of-gone_high es e1 a b low high low_is high_is gone)
 
   -- and once both are taken out, all lists are as their links say
   pub all_halves : (e2 e3 : List Entry) (H2 H3 : ℕ → List Half)
@@ -37,7 +37,7 @@ module _ (es e1 : List Entry) (a b low high : ℕ) (joint : Joint) (low_is : low
       by_case : (s t : Bool) → eqb v low ≡ s → eqb v high ≡ t → AreHalves (H3 v) (place_of e3 v)
       by_case true t is other =
           let is' : v ≡ low = grind (arith, nat_tests) in
-          let before = told.ordered in
+          let before = known.ordered in
           let apart : v ≡ high → ⊥ = λ e. omega arith in
           AreHalves-same (H2 low) (H3 v) (place_of e2 low) (place_of e3 v) (lists3 v apart ∙ ap H2 is') (λ w. places3 v w apart ∙ ap (λ x. place_of e2 x w) is') low_done
       by_case false true other is =

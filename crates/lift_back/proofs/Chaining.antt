@@ -13,9 +13,9 @@ use Rattle.lift_back.specs.Chains.{leads_to, arrival_at, LeadsOn, IsChainOf, Are
 use Rattle.lift_back.specs.Undoing.{led_past}
 use Rattle.lift_back.proofs.Leading.{led_past-append}
 
--- what is told of a vertex that an arc leads to
-abbrev pub told : ℕ → ℕ → Option Arrival
-told tail before = Some (record { tail = tail; before = before })
+-- how a vertex is reached that an arc leads to
+abbrev pub comes_from : ℕ → ℕ → Option Arrival
+comes_from tail before = Some (record { tail = tail; before = before })
 
 pub differ : (x y : ℕ) → (x == y) ≡ false → x ≢ y
 differ x y h e = false≢true (sym h ∙ eq-eqb x y e)
@@ -28,25 +28,25 @@ neither true q h = absurd (false≢true (sym h))
 pub leads_to-append : (xs ys : List (ℕ × ℕ)) (v : ℕ) → leads_to (xs ++ ys) v ≡ (leads_to xs v || leads_to ys v)
 leads_to-append xs ys v = list_any-append (λ arc. arc.1 == v) xs ys
 
--- what is told of a vertex that no arc leads to doesn't matter
-pub leads_still : (told_by : List (Option Arrival)) (p : ℕ) (arcs : List (ℕ × ℕ)) (last v : ℕ) (x : Option Arrival) → leads_to arcs v ≡ false → LeadsOn told_by p arcs last → LeadsOn (set told_by v x) p arcs last
-leads_still told_by p [] last v x none leads = leads
-leads_still told_by p (arc ∷ arcs) last v x none leads =
+-- what is kept at a vertex that no arc leads to doesn't matter
+pub leads_still : (arrivals : List (Option Arrival)) (p : ℕ) (arcs : List (ℕ × ℕ)) (last v : ℕ) (x : Option Arrival) → leads_to arcs v ≡ false → LeadsOn arrivals p arcs last → LeadsOn (set arrivals v x) p arcs last
+leads_still arrivals p [] last v x none leads = leads
+leads_still arrivals p (arc ∷ arcs) last v x none leads =
     let both = neither (arc.1 == v) (leads_to arcs v) none in
-    (get_or-set_other told_by v arc.1 x None (differ arc.1 v both.0) ∙ leads.0, leads_still told_by arc.1 arcs last v x both.1 leads.1)
+    (get_or-set_other arrivals v arc.1 x None (differ arc.1 v both.0) ∙ leads.0, leads_still arrivals arc.1 arcs last v x both.1 leads.1)
 
 -- one chain goes on where another ends
-pub leads_append : (told_by : List (Option Arrival)) (p q last : ℕ) (xs ys : List (ℕ × ℕ)) → LeadsOn told_by p xs q → LeadsOn told_by q ys last → LeadsOn told_by p (xs ++ ys) last
-leads_append told_by p q last [] ys first rest = subst (λ (x : ℕ). LeadsOn told_by x ys last) (sym first) rest
-leads_append told_by p q last (arc ∷ xs) ys first rest = (first.0, leads_append told_by arc.1 q last xs ys first.1 rest)
+pub leads_append : (arrivals : List (Option Arrival)) (p q last : ℕ) (xs ys : List (ℕ × ℕ)) → LeadsOn arrivals p xs q → LeadsOn arrivals q ys last → LeadsOn arrivals p (xs ++ ys) last
+leads_append arrivals p q last [] ys first rest = subst (λ (x : ℕ). LeadsOn arrivals x ys last) (sym first) rest
+leads_append arrivals p q last (arc ∷ xs) ys first rest = (first.0, leads_append arrivals arc.1 q last xs ys first.1 rest)
 
 -- a chain around the arc that leads to a head
-pub record Parts (told_by : List (Option Arrival)) (p last : ℕ) (arcs : List (ℕ × ℕ)) (tail head before : ℕ) : Type 0 where
+pub record Parts (arrivals : List (Option Arrival)) (p last : ℕ) (arcs : List (ℕ × ℕ)) (tail head before : ℕ) : Type 0 where
   pub first : List (ℕ × ℕ)
   pub rest : List (ℕ × ℕ)
   pub whole : arcs ≡ first ++ (tail, head) ∷ rest
-  pub leads : LeadsOn told_by p first before
-  pub on : LeadsOn told_by head rest last
+  pub leads : LeadsOn arrivals p first before
+  pub on : LeadsOn arrivals head rest last
 
 abbrev pub tail_of : Option Arrival → ℕ
 tail_of None = 0
@@ -56,14 +56,14 @@ abbrev pub before_of : Option Arrival → ℕ
 before_of None = 0
 before_of (Some a) = a.before
 
-pub parts_at : (told_by : List (Option Arrival)) (p last : ℕ) (arcs : List (ℕ × ℕ)) (tail head before : ℕ) → LeadsOn told_by p arcs last → IsTrue (leads_to arcs head) → arrival_at told_by head ≡ told tail before → Parts told_by p last arcs tail head before
-parts_at told_by p last [] tail head before leads there is = absurd (false≢true there)
-parts_at told_by p last (arc ∷ arcs) tail head before leads there is = by_test (arc.1 == head) refl there (λ h. parts_at told_by arc.1 last arcs tail head before leads.1 h is)
+pub parts_at : (arrivals : List (Option Arrival)) (p last : ℕ) (arcs : List (ℕ × ℕ)) (tail head before : ℕ) → LeadsOn arrivals p arcs last → IsTrue (leads_to arcs head) → arrival_at arrivals head ≡ comes_from tail before → Parts arrivals p last arcs tail head before
+parts_at arrivals p last [] tail head before leads there is = absurd (false≢true there)
+parts_at arrivals p last (arc ∷ arcs) tail head before leads there is = by_test (arc.1 == head) refl there (λ h. parts_at arrivals arc.1 last arcs tail head before leads.1 h is)
   where
-    here : arc.1 ≡ head → told arc.0 p ≡ told tail before
-    here e = sym leads.0 ∙ (ap (arrival_at told_by) e ∙ is)
+    here : arc.1 ≡ head → comes_from arc.0 p ≡ comes_from tail before
+    here e = sym leads.0 ∙ (ap (arrival_at arrivals) e ∙ is)
 
-    by_test : (b : Bool) → (arc.1 == head) ≡ b → (b || leads_to arcs head) ≡ true → (IsTrue (leads_to arcs head) → Parts told_by arc.1 last arcs tail head before) → Parts told_by p last (arc ∷ arcs) tail head before
+    by_test : (b : Bool) → (arc.1 == head) ≡ b → (b || leads_to arcs head) ≡ true → (IsTrue (leads_to arcs head) → Parts arrivals arc.1 last arcs tail head before) → Parts arrivals p last (arc ∷ arcs) tail head before
     by_test true e h more =
         let same = eqb-true arc.1 head e in
         record {
@@ -71,7 +71,7 @@ parts_at told_by p last (arc ∷ arcs) tail head before leads there is = by_test
           rest = arcs;
           whole = λ j. (ap tail_of (here same) j, same j) ∷ arcs;
           leads = ap before_of (here same);
-          on = subst (λ (x : ℕ). LeadsOn told_by x arcs last) same leads.1;
+          on = subst (λ (x : ℕ). LeadsOn arrivals x arcs last) same leads.1;
         }
     by_test false e h more =
         let later = more h in
@@ -132,29 +132,29 @@ around v a b tail head xs ys between once =
       apart = differ head v after.0;
     }
 
--- the arrivals once an arc is led past v: v is where its head was, and the head comes behind v
+-- the arrivals once an arc is led past v: v is where its head was, and the head comes after v
 abbrev pub past_arrivals : List (Option Arrival) → ℕ → ℕ → ℕ → ℕ → List (Option Arrival)
-past_arrivals told_by v tail head before = set (set told_by v (told tail before)) head (told v v)
+past_arrivals arrivals v tail head before = set (set arrivals v (comes_from tail before)) head (comes_from v v)
 
 -- the arc between a and b is led past v by two writes
-pub chain_past : (c new : Chain) (start v a b tail head before : ℕ) (arcs : List (ℕ × ℕ)) → is_between (a, b) tail head ≡ true → IsChainOf start arcs c → AreLed (length c.arrivals.items) start (led_past v a b arcs) → arrival_at c.arrivals.items head ≡ told tail before → (v < length c.arrivals.items → head < length c.arrivals.items → new.arrivals.items ≡ past_arrivals c.arrivals.items v tail head before) → new.last ≡ c.last → IsChainOf start (led_past v a b arcs) new
+pub chain_past : (c new : Chain) (start v a b tail head before : ℕ) (arcs : List (ℕ × ℕ)) → is_between (a, b) tail head ≡ true → IsChainOf start arcs c → AreLed (length c.arrivals.items) start (led_past v a b arcs) → arrival_at c.arrivals.items head ≡ comes_from tail before → (v < length c.arrivals.items → head < length c.arrivals.items → new.arrivals.items ≡ past_arrivals c.arrivals.items v tail head before) → new.last ≡ c.last → IsChainOf start (led_past v a b arcs) new
 chain_past c new start v a b tail head before arcs between chain led is written last =
-    let told_by = c.arrivals.items in
-    let parts = parts_at told_by start c.last arcs tail head before chain.leads head_there is in
+    let arrivals = c.arrivals.items in
+    let parts = parts_at arrivals start c.last arcs tail head before chain.leads head_there is in
     let xs = parts.first in
     let ys = parts.rest in
     let same : led_past v a b arcs ≡ led_past v a b (xs ++ (tail, head) ∷ ys) = ap (led_past v a b) parts.whole in
     let around = around v a b tail head xs ys between (subst AreOnce same led.once) in
     let all : led_past v a b arcs ≡ xs ++ (tail, v) ∷ (v, head) ∷ ys = same ∙ around.whole in
-    let v_in : v < length told_by = led.within v (ap (λ l. leads_to l v) all ∙ (leads_to-append xs ((tail, v) ∷ (v, head) ∷ ys) v ∙ or_right (leads_to xs v) (leads_to ((tail, v) ∷ (v, head) ∷ ys) v) (or_left (v == v) ((head == v) || leads_to ys v) (eq-eqb v v refl)))) in
-    let head_in : head < length told_by = led.within head (ap (λ l. leads_to l head) all ∙ (leads_to-append xs ((tail, v) ∷ (v, head) ∷ ys) head ∙ or_right (leads_to xs head) (leads_to ((tail, v) ∷ (v, head) ∷ ys) head) (or_right (v == head) ((head == head) || leads_to ys head) (or_left (head == head) (leads_to ys head) (eq-eqb head head refl))))) in
+    let v_in : v < length arrivals = led.within v (ap (λ l. leads_to l v) all ∙ (leads_to-append xs ((tail, v) ∷ (v, head) ∷ ys) v ∙ or_right (leads_to xs v) (leads_to ((tail, v) ∷ (v, head) ∷ ys) v) (or_left (v == v) ((head == v) || leads_to ys v) (eq-eqb v v refl)))) in
+    let head_in : head < length arrivals = led.within head (ap (λ l. leads_to l head) all ∙ (leads_to-append xs ((tail, v) ∷ (v, head) ∷ ys) head ∙ or_right (leads_to xs head) (leads_to ((tail, v) ∷ (v, head) ∷ ys) head) (or_right (v == head) ((head == head) || leads_to ys head) (or_left (head == head) (leads_to ys head) (eq-eqb head head refl))))) in
     let is_new = written v_in head_in in
-    let one = set told_by v (told tail before) in
-    let two = past_arrivals told_by v tail head before in
-    let at_v : arrival_at two v ≡ told tail before = get_or-set_other one head v (told v v) None (λ e. around.apart (sym e)) ∙ get_or-set_same told_by v (told tail before) None v_in in
-    let at_head : arrival_at two head ≡ told v v = get_or-set_same one head (told v v) None (subst (λ (n : ℕ). head < n) (sym (length-set told_by v (told tail before))) head_in) in
-    let first : LeadsOn two start xs before = leads_still one start xs before head (told v v) around.head_before (leads_still told_by start xs before v (told tail before) around.v_before parts.leads) in
-    let rest : LeadsOn two head ys c.last = leads_still one head ys c.last head (told v v) around.head_after (leads_still told_by head ys c.last v (told tail before) around.v_after parts.on) in
+    let one = set arrivals v (comes_from tail before) in
+    let two = past_arrivals arrivals v tail head before in
+    let at_v : arrival_at two v ≡ comes_from tail before = get_or-set_other one head v (comes_from v v) None (λ e. around.apart (sym e)) ∙ get_or-set_same arrivals v (comes_from tail before) None v_in in
+    let at_head : arrival_at two head ≡ comes_from v v = get_or-set_same one head (comes_from v v) None (subst (λ (n : ℕ). head < n) (sym (length-set arrivals v (comes_from tail before))) head_in) in
+    let first : LeadsOn two start xs before = leads_still one start xs before head (comes_from v v) around.head_before (leads_still arrivals start xs before v (comes_from tail before) around.v_before parts.leads) in
+    let rest : LeadsOn two head ys c.last = leads_still one head ys c.last head (comes_from v v) around.head_after (leads_still arrivals head ys c.last v (comes_from tail before) around.v_after parts.on) in
     let leads : LeadsOn two start (xs ++ (tail, v) ∷ (v, head) ∷ ys) c.last = leads_append two start before c.last xs ((tail, v) ∷ (v, head) ∷ ys) first (at_v, (at_head, rest)) in
     subst (λ (l : List (ℕ × ℕ)). IsChainOf start l new) (sym all) (record {
       leads = subst (λ (l : List (Option Arrival)). LeadsOn l start (xs ++ (tail, v) ∷ (v, head) ∷ ys) new.last) (sym is_new) (subst (λ (x : ℕ). LeadsOn two start (xs ++ (tail, v) ∷ (v, head) ∷ ys) x) (sym last) leads);
@@ -163,10 +163,10 @@ chain_past c new start v a b tail head before arcs between chain led is written 
           let from_v = neither (v == w) ((head == w) || leads_to ys w) parted.1 in
           let from_head = neither (head == w) (leads_to ys w) from_v.1 in
           let old : leads_to arcs w ≡ false = ap (λ l. leads_to l w) parts.whole ∙ (leads_to-append xs ((tail, head) ∷ ys) w ∙ rw (parted.0, from_head.0, from_head.1) refl) in
-          ap (λ l. arrival_at l w) is_new ∙ (get_or-set_other one head w (told v v) None (λ e. differ head w from_head.0 (sym e)) ∙ (get_or-set_other told_by v w (told tail before) None (λ e. differ v w from_v.0 (sym e)) ∙ chain.others w old));
+          ap (λ l. arrival_at l w) is_new ∙ (get_or-set_other one head w (comes_from v v) None (λ e. differ head w from_head.0 (sym e)) ∙ (get_or-set_other arrivals v w (comes_from tail before) None (λ e. differ v w from_v.0 (sym e)) ∙ chain.others w old));
     })
   where
-    none_is : None ≡ told tail before → ⊥
+    none_is : None ≡ comes_from tail before → ⊥
     none_is e = cc
 
     head_there : IsTrue (leads_to arcs head)
@@ -176,35 +176,35 @@ chain_past c new start v a b tail head before arcs between chain led is written 
         by_test true e = e
         by_test false e = absurd (none_is (sym (chain.others head e) ∙ is))
 
--- where no arc is told between a and b, none is led past v
-pub led_past-untold : (told_by : List (Option Arrival)) (p last v a b : ℕ) (arcs : List (ℕ × ℕ)) → LeadsOn told_by p arcs last → ((before : ℕ) → arrival_at told_by b ≢ told a before) → ((before : ℕ) → arrival_at told_by a ≢ told b before) → led_past v a b arcs ≡ arcs
-led_past-untold told_by p last v a b [] leads first second = refl
-led_past-untold told_by p last v a b (arc ∷ arcs) leads first second = by_test (is_between (a, b) arc.0 arc.1) refl (led_past-untold told_by arc.1 last v a b arcs leads.1 first second)
+-- where no arc is kept between a and b, none is led past v
+pub led_past-missing : (arrivals : List (Option Arrival)) (p last v a b : ℕ) (arcs : List (ℕ × ℕ)) → LeadsOn arrivals p arcs last → ((before : ℕ) → arrival_at arrivals b ≢ comes_from a before) → ((before : ℕ) → arrival_at arrivals a ≢ comes_from b before) → led_past v a b arcs ≡ arcs
+led_past-missing arrivals p last v a b [] leads first second = refl
+led_past-missing arrivals p last v a b (arc ∷ arcs) leads first second = by_test (is_between (a, b) arc.0 arc.1) refl (led_past-missing arrivals arc.1 last v a b arcs leads.1 first second)
   where
     by_test : (q : Bool) → is_between (a, b) arc.0 arc.1 ≡ q → led_past v a b arcs ≡ arcs → cond q ((arc.0, v) ∷ (v, arc.1) ∷ led_past v a b arcs) (arc ∷ led_past v a b arcs) ≡ arc ∷ arcs
     by_test true is rest = elim (between-ends (a, b) arc.0 arc.1 is) [
-      | inl e ↦ absurd (first p (ap (arrival_at told_by) e.1 ∙ (leads.0 ∙ ap (λ t. told t p) (sym e.0))))
-      | inr e ↦ absurd (second p (ap (arrival_at told_by) e.0 ∙ (leads.0 ∙ ap (λ t. told t p) (sym e.1))))
+      | inl e ↦ absurd (first p (ap (arrival_at arrivals) e.1 ∙ (leads.0 ∙ ap (λ t. comes_from t p) (sym e.0))))
+      | inr e ↦ absurd (second p (ap (arrival_at arrivals) e.0 ∙ (leads.0 ∙ ap (λ t. comes_from t p) (sym e.1))))
     ]
     by_test false is rest = ap (λ l. arc ∷ l) rest
 
--- an arc is put behind the others by one write
-pub chain_push : (c new : Chain) (start tail head : ℕ) (arcs : List (ℕ × ℕ)) → IsChainOf start arcs c → AreLed (length c.arrivals.items) start (arcs ++ (tail, head) ∷ []) → (head < length c.arrivals.items → new.arrivals.items ≡ set c.arrivals.items head (told tail c.last)) → new.last ≡ head → IsChainOf start (arcs ++ (tail, head) ∷ []) new
+-- an arc is put after the others by one write
+pub chain_push : (c new : Chain) (start tail head : ℕ) (arcs : List (ℕ × ℕ)) → IsChainOf start arcs c → AreLed (length c.arrivals.items) start (arcs ++ (tail, head) ∷ []) → (head < length c.arrivals.items → new.arrivals.items ≡ set c.arrivals.items head (comes_from tail c.last)) → new.last ≡ head → IsChainOf start (arcs ++ (tail, head) ∷ []) new
 chain_push c new start tail head arcs chain led written last =
-    let told_by = c.arrivals.items in
-    let two = set told_by head (told tail c.last) in
+    let arrivals = c.arrivals.items in
+    let two = set arrivals head (comes_from tail c.last) in
     let parts = once_parts arcs ((tail, head) ∷ []) led.once in
     let here : IsTrue (leads_to ((tail, head) ∷ []) head) = or_left (head == head) false (eq-eqb head head refl) in
-    let within : head < length told_by = led.within head (leads_to-append arcs ((tail, head) ∷ []) head ∙ or_right (leads_to arcs head) (leads_to ((tail, head) ∷ []) head) here) in
+    let within : head < length arrivals = led.within head (leads_to-append arcs ((tail, head) ∷ []) head ∙ or_right (leads_to arcs head) (leads_to ((tail, head) ∷ []) head) here) in
     let is_new = written within in
-    let at_head : arrival_at two head ≡ told tail c.last = get_or-set_same told_by head (told tail c.last) None within in
-    let leads : LeadsOn two start (arcs ++ (tail, head) ∷ []) head = leads_append two start c.last head arcs ((tail, head) ∷ []) (leads_still told_by start arcs c.last head (told tail c.last) (parts.2 head here) chain.leads) (at_head, refl) in
+    let at_head : arrival_at two head ≡ comes_from tail c.last = get_or-set_same arrivals head (comes_from tail c.last) None within in
+    let leads : LeadsOn two start (arcs ++ (tail, head) ∷ []) head = leads_append two start c.last head arcs ((tail, head) ∷ []) (leads_still arrivals start arcs c.last head (comes_from tail c.last) (parts.2 head here) chain.leads) (at_head, refl) in
     record {
       leads = subst (λ (l : List (Option Arrival)). LeadsOn l start (arcs ++ (tail, head) ∷ []) new.last) (sym is_new) (subst (λ (x : ℕ). LeadsOn two start (arcs ++ (tail, head) ∷ []) x) (sym last) leads);
       others = λ w none.
           let parted = neither (leads_to arcs w) (leads_to ((tail, head) ∷ []) w) (sym (leads_to-append arcs ((tail, head) ∷ []) w) ∙ none) in
           let apart = neither (head == w) false parted.1 in
-          ap (λ l. arrival_at l w) is_new ∙ (get_or-set_other told_by head w (told tail c.last) None (λ e. differ head w apart.0 (sym e)) ∙ chain.others w parted.0);
+          ap (λ l. arrival_at l w) is_new ∙ (get_or-set_other arrivals head w (comes_from tail c.last) None (λ e. differ head w apart.0 (sym e)) ∙ chain.others w parted.0);
     }
 
 -- what follows from a test's answer, whichever it is

@@ -155,7 +155,7 @@ ends-set_value n t es cost ends = All-from_recursion (IsLinkBetween n) (links_of
         by_test true rest = (record { low = all.0.low; ordered = all.0.ordered; high = all.0.high }, all.1)
         by_test false rest = (all.0, rest)
 
--- a new ordered pair behind the others
+-- a new ordered pair after the others
 pub ordered-push : (es new : List Entry) (low high : ℕ) (cost : ℕ) → new ≡ es ++ ((low, high), cost) ∷ [] → low < high → All IsOrdered (keys_of es) → All IsOrdered (keys_of new)
 ordered-push es new low high cost is h ordered =
     subst (λ (x : List Entry). All IsOrdered (keys_of x)) (sym is) (subst (All IsOrdered) (sym (map-append (λ (e : Entry). e.0) es (((low, high), cost) ∷ []))) (All-push IsOrdered (keys_of es) (low, high) ordered h))

@@ -17,21 +17,21 @@ use Rattle.lift_back.specs.declared.undo.Undo.{Undo}
 use Rattle.lift_back.specs.declared.undo.Undo.TheVariants.{Keep, Past, Leaf}
 use Rattle.lift_back.specs.Chains.{leads_to, arrival_at, LeadsOn, AreOnce, AreLed}
 use Rattle.lift_back.specs.Undoing.{led_past, arcs_before, arcs_at_first}
-use Rattle.lift_back.proofs.Chaining.{told, neither, leads_to-append, once_parts}
+use Rattle.lift_back.proofs.Chaining.{comes_from, neither, leads_to-append, once_parts}
 
--- the arcs but the last, which is told at the vertex that was reached last
-pub record LastStep (told_by : List (Option Arrival)) (p last : ℕ) (arcs : List (ℕ × ℕ)) : Type 0 where
+-- the arcs but the last, which is kept at the vertex that was reached last
+pub record LastStep (arrivals : List (Option Arrival)) (p last : ℕ) (arcs : List (ℕ × ℕ)) : Type 0 where
   pub first : List (ℕ × ℕ)
   pub tail : ℕ
   pub before : ℕ
   pub whole : arcs ≡ first ++ (tail, last) ∷ []
-  pub leads : LeadsOn told_by p first before
-  pub is : arrival_at told_by last ≡ told tail before
+  pub leads : LeadsOn arrivals p first before
+  pub is : arrival_at arrivals last ≡ comes_from tail before
 
-pub last_step : (told_by : List (Option Arrival)) (p last : ℕ) (arcs : List (ℕ × ℕ)) → LeadsOn told_by p arcs last → ((arcs ≡ []) × (p ≡ last)) ⊎ LastStep told_by p last arcs
-last_step told_by p last [] leads = inl (refl, leads)
-last_step told_by p last (arc ∷ arcs) leads = elim (last_step told_by arc.1 last arcs leads.1) [
-  | inl e ↦ inr (record { first = []; tail = arc.0; before = p; whole = λ j. (arc.0, e.1 j) ∷ e.0 j; leads = refl; is = ap (arrival_at told_by) (sym e.1) ∙ leads.0 })
+pub last_step : (arrivals : List (Option Arrival)) (p last : ℕ) (arcs : List (ℕ × ℕ)) → LeadsOn arrivals p arcs last → ((arcs ≡ []) × (p ≡ last)) ⊎ LastStep arrivals p last arcs
+last_step arrivals p last [] leads = inl (refl, leads)
+last_step arrivals p last (arc ∷ arcs) leads = elim (last_step arrivals arc.1 last arcs leads.1) [
+  | inl e ↦ inr (record { first = []; tail = arc.0; before = p; whole = λ j. (arc.0, e.1 j) ∷ e.0 j; leads = refl; is = ap (arrival_at arrivals) (sym e.1) ∙ leads.0 })
   | inr step ↦ inr (record { first = arc ∷ step.first; tail = step.tail; before = step.before; whole = ap (λ l. arc ∷ l) step.whole; leads = (leads.0, step.leads); is = step.is })
 ]
 

@@ -15,7 +15,7 @@ pub struct Arrival {
     pub before: u32,
 }
 
-// The arcs of a tree, each told at its head, so that one is led past a vertex in constant time.
+// The arcs of a tree, each kept at its head, so that one is led past a vertex in constant time.
 #[derive(Drop)]
 pub struct Chain {
     // For each vertex from 0 on how it is reached, if an arc leads there.
@@ -54,7 +54,7 @@ impl Chain {
         Ok(chain)
     }
 
-    // Puts an arc behind the others.
+    // Puts an arc after the others.
     fn push(&mut self, tail: u32, head: u32)
         ensures chain { (start : ℕ) (arcs : List (ℕ × ℕ)) → IsChainOf start arcs self.old
             → AreLed (length self.old.arrivals.items) start (arcs ++ (tail, head) ∷ [])

@@ -58,7 +58,7 @@ fn tidy_row(rows: &mut Vec<Vec<u32>>, links: &Links, vertex: u32)
 }
 
 // Leaves in front of the row vertices that are linked with this one, each once: all of them, or
-// three and whoever comes behind.
+// three and whoever comes after.
 fn tidy(row: &mut Vec<u32>, links: &Links, vertex: u32)
     requires pairs { ArePairs links.now.entries }
     requires covered { AreCovered (links_of links.now.entries) vertex row.old.items }

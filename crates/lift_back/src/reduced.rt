@@ -217,7 +217,7 @@ impl Reduced {
     }
 }
 
-// Puts one more behind the others.
+// Puts one more after the others.
 fn push_undo(undos: &mut Vec<Undo>, undo: Undo) -> Result<(), ApplyError>
     ensures ok { OnOk result (undos.new.items ≡ undos.old.items ++ undo ∷ []) }
     ensures err { OnErr result (undos.new.items ≡ undos.old.items) }

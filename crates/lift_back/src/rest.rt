@@ -82,7 +82,7 @@ impl Rest {
         Ok(gone)
     }
 
-    // Puts a vertex behind the others if it is gone.
+    // Puts a vertex after the others if it is gone.
     fn push_gone(&self, gone: &mut Vec<u32>, vertex: u32) -> Result<(), AllocError>
         requires marks { vertex < length self.now.gone.items }
         ensures { OnOk result (gone.new.items ≡ gone.old.items

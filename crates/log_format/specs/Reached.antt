@@ -8,7 +8,7 @@ use Rattle.log_format.specs.declared.stage.Proving.{Proving}
 use Rattle.log_format.specs.declared.stage.Stage.{Stage}
 use Rattle.log_format.specs.declared.stage.Stage.TheVariants.{AtHeader, AtClaim, AtTree, AtArcs, AtSteps, AtHalf, AtCuts, AtWall, AtEnd, AtNothing}
 use Rattle.log_format.specs.Text.{words, root_number, arc_line, cut_line, step_line, lines_of, header, claim_lines, IsAnyVertex, IsWritableCut, IsWritableStep, IsWritableLine, IsWritableTree, IsClaimInRange, IsProved}
-use Rattle.log_format.specs.Reading.{IsOpen, run}
+use Rattle.log_format.specs.Reading.{HalvesWait, run}
 
 -- the lines of a tree so far, of so many arcs
 abbrev pub tree_lines : ℕ → ℕ → ℕ → List (ℕ × ℕ) → ℕ → List (List ℕ)
@@ -48,7 +48,7 @@ pub record IsAnswer (a : Answer) : Type 0 where
 pub record IsProving (p : Proving) : Type 0 where
   pub answer_fits : IsAnswer p.answer
   pub lines_fit : AllByRecursion IsWritableLine p.lines
-  pub halves : IsOpen p
+  pub halves : HalvesWait p
 
 pub record AreArcsReached (primal dual start : ℕ) (arcs : List (ℕ × ℕ)) (left : ℕ) : Type 0 where
   pub primal_fits : primal < 2 ^ 64

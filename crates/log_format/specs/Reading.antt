@@ -197,6 +197,6 @@ open_after (suc count) (Close P ∷ lines) = open_after count lines
 open_after (suc count) (Split v ∷ lines) = open_after (suc (suc count)) lines
 
 -- as many halves wait as the lines have left open, but for the one that comes
-pub record IsOpen (p : Proving) : Type 0 where
+pub record HalvesWait (p : Proving) : Type 0 where
   pub still : open_after 1 p.lines ≡ Some (p.waiting + 1)
   pub few : p.waiting ≤ length p.lines

@@ -1,5 +1,5 @@
 ghost use Rattle.std.specs.Prelude.{◌≡◌, ◌∷◌, [], ◌++◌, ◌≤◌, IfOk};
-ghost use Rattle.log_format.specs.Reading.{Gives, IsOpen, root_of, cuts_left, closed, half_at, split_at, step};
+ghost use Rattle.log_format.specs.Reading.{Gives, HalvesWait, root_of, cuts_left, closed, half_at, split_at, step};
 
 use crate::fault::LineError;
 use crate::line::{MAX_VERTEX, cut_of, number_of, pair_of};
@@ -20,7 +20,7 @@ fn with_line(lines: Listed<ProofLine>, line: ProofLine) -> Result<Listed<ProofLi
 
 // What comes after a close: the next of the halves that wait, or the end.
 fn closed(proving: Proving, packing: Packing) -> Result<Stage, AllocError>
-    requires { IsOpen proving }
+    requires { HalvesWait proving }
     ensures { IfOk result (λ stage. stage
         ≡ closed proving.answer (proving.lines ++ ProofLine.Close packing ∷ []) proving.waiting) }
 {
@@ -55,7 +55,7 @@ fn closed(proving: Proving, packing: Packing) -> Result<Stage, AllocError>
 
 // What comes after a split: its two halves, one of which waits.
 fn split(proving: Proving, vertex: u32) -> Result<Stage, AllocError>
-    requires { IsOpen proving }
+    requires { HalvesWait proving }
     ensures { IfOk result (λ stage. stage ≡ split_at proving vertex) }
 {
     let Proving {
@@ -78,7 +78,7 @@ fn cuts_left(
     cuts: Listed<Cut>,
     left: u64,
 ) -> Result<Stage, AllocError>
-    requires { IsOpen proving }
+    requires { HalvesWait proving }
     ensures { IfOk result (λ stage. stage ≡ cuts_left proving root cuts left) }
 {
     if left == 0 {
@@ -101,7 +101,7 @@ pub fn root_of(number: u32) -> Option<u32>
 
 // What comes after the head of a close.
 fn at_close(alloc: Global, proving: Proving, line: &[u8]) -> Result<Stage, LineError>
-    requires { IsOpen proving }
+    requires { HalvesWait proving }
     ensures { Gives (λ s. s) result (half_at proving None line.now) }
 {
     let (root, left) = pair_of(line, b"C", 0, MAX_VERTEX, 0, u64::MAX).ok_or(LineError::BadLine)?;
@@ -117,7 +117,7 @@ fn at_close(alloc: Global, proving: Proving, line: &[u8]) -> Result<Stage, LineE
 /// What comes after a line where a half of a proof begins.
 #[tactic(auto, unfolding(crate::specs::Reading::step))]
 pub fn at_half(alloc: Global, proving: Proving, line: &[u8]) -> Result<Stage, LineError>
-    requires { IsOpen proving }
+    requires { HalvesWait proving }
     ensures { Gives (λ s. s) result (step (Stage.AtHalf proving) line.now) }
 {
     match number_of(line, b"S", 1, MAX_VERTEX) {
@@ -139,7 +139,7 @@ pub fn at_cuts(
     left: u64,
     line: &[u8],
 ) -> Result<Stage, LineError>
-    requires open { IsOpen proving }
+    requires open { HalvesWait proving }
     requires some { 1 ≤ left }
     ensures { Gives (λ s. s) result (step (Stage.AtCuts proving root cuts left) line.now) }
 {

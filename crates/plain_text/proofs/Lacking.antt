@@ -63,7 +63,7 @@ some_byte : (line rest : List ℕ) → [] ≡ ended line ++ rest → ⊥
 some_byte [] rest e = cc
 some_byte (b ∷ bs) rest e = cc
 
--- whole lines are told by their text
+-- whole lines are known by their text
 pub lines_same : (xs ys : List (List ℕ)) → are_whole xs ≡ true → are_whole ys ≡ true → flat_map ended xs ≡ flat_map ended ys → xs ≡ ys
 lines_same [] [] h k e = refl
 lines_same [] (y ∷ ys) h k e = absurd (some_byte y _ e)

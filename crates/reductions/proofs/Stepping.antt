@@ -1,4 +1,4 @@
--- A step is taken and told: what that leaves to be tried.
+-- A step is taken and noted: what that leaves to be tried.
 use Rattle.std.proofs.Common.{◌≡◌, ◌≢◌, ℕ, ◌<◌, ◌≤◌, Bool, true, false, ◌||◌, eqb, List, [], ◌∷◌, ◌++◌, length, Option, Some, None, IsSome, refl, sym, ap, subst, ◌∙◌, arith, ◌⊎◌, inl, inr}
 use Rattle.std.specs.Prelude.{All, IsFalse, OnSome}
 use Rattle.std.proofs.lemmas.Bool.Decides.{nat_tests}
@@ -30,11 +30,11 @@ applies_more (s ∷ steps) first last next step (middle, is, takes_first, rest) 
 
 -- who is linked is a vertex
 pub linked_vertices : (I : Network) (u w : ℕ) → IsInstance I → IsSome (link I.links u w) → IsVertex I.n u × IsVertex I.n w
-linked_vertices I u w is linked = told (link I.links u w) linked (linked_in_range I.n I.links u w is.ends)
+linked_vertices I u w is linked = by_case (link I.links u w) linked (linked_in_range I.n I.links u w is.ends)
   where
-    told : (o : Option ℕ) → IsSome o → OnSome o (IsVertex I.n u × IsVertex I.n w) → IsVertex I.n u × IsVertex I.n w
-    told None some h = absurd cc
-    told (Some c) some h = h
+    by_case : (o : Option ℕ) → IsSome o → OnSome o (IsVertex I.n u × IsVertex I.n w) → IsVertex I.n u × IsVertex I.n w
+    by_case None some h = absurd cc
+    by_case (Some c) some h = h
 
 -- three different neighbours are not among two
 not_three : (links : List Link) (v p q : ℕ) → ((x : ℕ) → IsSome (link links v x) → (x ≡ p) ⊎ (x ≡ q)) → (a b c : ℕ) → HasThree links v a b c → ⊥
@@ -141,7 +141,7 @@ module _ (old new : Work) (state : IsState new.reduced.state) (first : new.reduc
   pub went_work : (v : ℕ) (ends : Ends) (queue : List ℕ) → IsWork old (v ∷ queue) → HasEnds old.reduced.state.instance.links v ends → Went old new v → IsWork new (queue ++ row_of ends)
   went_work v ends queue work has_ends went = record {
     count = step.count ∙ work.count ∙ ap (λ (I : Network). I.n) (sym first);
-    applies = subst (λ (p : List Step × Network). Applies p.0 (whole p.1) new.reduced.state) (λ j. (sym went.took.told j, sym first j)) (applies_more old.steps.items (whole old.reduced.first) old.reduced.state new.reduced.state went.step work.applies state went.took.takes);
+    applies = subst (λ (p : List Step × Network). Applies p.0 (whole p.1) new.reduced.state) (λ j. (sym went.took.noted j, sym first j)) (applies_more old.steps.items (whole old.reduced.first) old.reduced.state new.reduced.state went.step work.applies state went.took.takes);
     state = state;
     vertices = subst (λ (n : ℕ). All (IsVertex n) (queue ++ row_of ends)) (sym step.count) (All-append (IsVertex old.reduced.state.instance.n) queue (row_of ends) (All-tail (IsVertex old.reduced.state.instance.n) v queue work.vertices) (row_vertices old.reduced.state.instance v ends work.state.instance has_ends));
     tried = λ w missing. by_vertex w (neither (has queue w) (has (row_of ends) w) (sym (has-append queue (row_of ends) w) ∙ missing)) (eqb v w) refl;
@@ -171,7 +171,7 @@ module _ (old new : Work) (state : IsState new.reduced.state) (first : new.reduc
   pub dropped_work : (a b : ℕ) (inner queue : List ℕ) → IsWork old queue → TookStep old new (Detour a b inner) → IsWork new (queue ++ a ∷ b ∷ [])
   dropped_work a b inner queue work took = record {
     count = takes.becomes.count ∙ work.count ∙ ap (λ (I : Network). I.n) (sym first);
-    applies = subst (λ (p : List Step × Network). Applies p.0 (whole p.1) new.reduced.state) (λ j. (sym took.told j, sym first j)) (applies_more old.steps.items (whole old.reduced.first) old.reduced.state new.reduced.state (Detour a b inner) work.applies state took.takes);
+    applies = subst (λ (p : List Step × Network). Applies p.0 (whole p.1) new.reduced.state) (λ j. (sym took.noted j, sym first j)) (applies_more old.steps.items (whole old.reduced.first) old.reduced.state new.reduced.state (Detour a b inner) work.applies state took.takes);
     state = state;
     vertices = subst (λ (n : ℕ). All (IsVertex n) (queue ++ a ∷ b ∷ [])) (sym takes.becomes.count) (All-append (IsVertex n) queue (a ∷ b ∷ []) work.vertices (All-cons (IsVertex n) a (b ∷ []) both.0 (All-cons (IsVertex n) b [] both.1 (All-nil (IsVertex n)))));
     tried = λ w missing. by_vertex w (neither (has queue w) (has (a ∷ b ∷ []) w) (sym (has-append queue (a ∷ b ∷ []) w) ∙ missing));

@@ -44,10 +44,10 @@ row_of (One u) = u ∷ []
 row_of (Two a b) = a ∷ b ∷ []
 row_of More = []
 
--- a step was taken, and told
+-- a step was taken, and noted
 pub record TookStep (old new : Work) (step : Step) : Type 0 where
   pub takes : Takes step old.reduced.state new.reduced.state
-  pub told : new.steps.items ≡ old.steps.items ++ step ∷ []
+  pub noted : new.steps.items ≡ old.steps.items ++ step ∷ []
 
 -- v went by a step
 pub record Went (old new : Work) (v : ℕ) : Type 0 where

@@ -41,7 +41,7 @@ impl Work {
     }
 
     // Takes steps by which a vertex goes, until there is none. The vertices round those that went are
-    // put behind the others.
+    // put after the others.
     pub fn settle(&mut self, around: &mut Vec<u32>) -> Result<(), AllocError>
         requires { IsWork self.old self.old.queue.items }
         ensures settled { OnOk result (IsSettled self.new) }
@@ -251,7 +251,7 @@ impl Work {
     }
 }
 
-// Puts where links lead behind the others, if there are two at most.
+// Puts where links lead after the others, if there are two at most.
 fn push_ends(queue: &mut Vec<u32>, ends: Ends) -> Result<(), AllocError>
     ensures { OnOk result (queue.new.items ≡ queue.old.items ++ row_of ends) }
 {

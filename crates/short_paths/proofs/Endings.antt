@@ -35,9 +35,9 @@ route-is settled places v some within =
 
 -- what a vertex's mark tells is its route
 pub route_told : (settled : List Settled) (marks : List Mark) (v : ℕ) (mark : Mark) (o p : Option ℕ) → IsVertex (length (routes_of settled (places_of marks))) v → mark ≡ get_or marks v mark → o ≡ place_in mark → o ≡ p → route_of (routes_of settled (places_of marks)) v ≡ option_map (route_at settled) p
-route_told settled marks v mark o p range is told same =
+route_told settled marks v mark o p range is known same =
     let inside = vertex_place settled (places_of marks) v range in
-    route-is settled (places_of marks) v range.0 inside ∙ ap (option_map (route_at settled)) (place_read marks v mark o inside is told ∙ same)
+    route-is settled (places_of marks) v range.0 inside ∙ ap (option_map (route_at settled)) (place_read marks v mark o inside is known ∙ same)
 
 -- of a search that is done, the routes are all there are
 pub are_routes : (links : List Link) (n : ℕ) (sources : List ℕ) (limit : ℕ) (search : Search) → IsGoing links n sources limit search search.queue → length search.queue ≡ 0 → AreRoutes links n sources limit (routes_of search.settled.items (places_of search.marks.items))

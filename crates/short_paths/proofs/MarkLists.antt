@@ -69,4 +69,4 @@ length-places_of marks = length-map marks place_in
 
 -- what a vertex's mark tells is its place
 pub place_read : (marks : List Mark) (v : ℕ) (mark : Mark) (o : Option ℕ) → v < length (places_of marks) → mark ≡ get_or marks v mark → o ≡ place_in mark → place_of (places_of marks) v ≡ o
-place_read marks v mark o within is told = place_at marks v mark (let long = length-places_of marks in omega arith) is ∙ sym told
+place_read marks v mark o within is known = place_at marks v mark (let long = length-places_of marks in omega arith) is ∙ sym known

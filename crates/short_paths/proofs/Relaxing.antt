@@ -72,7 +72,7 @@ followed_more links n limit vertex cost halves half first old new within in_rang
         settled = followed.1.settled ∙ before.settled;
         best_long = gains.best_long ∙ before.best_long;
         more = λ w x h. gains.more w x (before.more w x h);
-        offered = All-push (λ half. (limit < cost + half.cost) ⊎ IsOffered (bests_of new.marks.items) half.to (cost + half.cost)) halves half (All-weaker (λ half. (limit < cost + half.cost) ⊎ IsOffered (bests_of old.marks.items) half.to (cost + half.cost)) (λ half. (limit < cost + half.cost) ⊎ IsOffered (bests_of new.marks.items) half.to (cost + half.cost)) (λ h told. weaker gains.more h told) halves before.offered) (inr gains.offered);
+        offered = All-push (λ half. (limit < cost + half.cost) ⊎ IsOffered (bests_of new.marks.items) half.to (cost + half.cost)) halves half (All-weaker (λ half. (limit < cost + half.cost) ⊎ IsOffered (bests_of old.marks.items) half.to (cost + half.cost)) (λ half. (limit < cost + half.cost) ⊎ IsOffered (bests_of new.marks.items) half.to (cost + half.cost)) (λ h known. weaker gains.more h known) halves before.offered) (inr gains.offered);
         length = (let long = length-append halves (half ∷ []) in let bound = before.length in omega arith);
         keeps = λ sources place s placed at vertex_is cost_is h.
             gains.keeps sources (record {

@@ -5,12 +5,12 @@ use Rattle.std.specs.declared.vec.Vec.{Vec}
 use Rattle.st_edge.specs.declared.shelf.LoadFault.{LoadFault}
 use Rattle.st_edge.specs.declared.shelf.LoadFault.TheVariants.{TooLong}
 
--- A load answers a text within the limit: the one that was told, where one was.
+-- A load answers a text within the limit: the one that was known, where one was.
 -- It says that a text is too long only where that text is longer than the limit.
-pub record Loads (told : Option (List ℕ)) (limit : ℕ) (result : Result (Vec ℕ Global) LoadFault) : Type 0 where
+pub record Loads (known : Option (List ℕ)) (limit : ℕ) (result : Result (Vec ℕ Global) LoadFault) : Type 0 where
   pub within : IfOk result (λ bytes. length bytes.items ≤ limit)
-  pub text : IfSome told (λ text. IfOk result (λ bytes. bytes.items ≡ text))
-  pub too_long : IfSome told (λ text. IsErrOf result TooLong → limit < length text)
+  pub text : IfSome known (λ text. IfOk result (λ bytes. bytes.items ≡ text))
+  pub too_long : IfSome known (λ text. IsErrOf result TooLong → limit < length text)
 
 -- every name has the text that it had
 abbrev pub SameTexts : (List ℕ → Option (List ℕ)) → (List ℕ → Option (List ℕ)) → Type 0

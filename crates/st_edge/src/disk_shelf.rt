@@ -62,7 +62,7 @@ impl<R: Files> Shelf for DiskShelf<R> {
             → self.new ≡ record self.old { read_faults = one_more self.old.read_faults } }
         ensures kept { result ≢ Err LoadFault.Failed → self.new ≡ self.old }
 
-        // As of every shelf, where nothing is told of the texts.
+        // As of every shelf, where nothing is known of the texts.
         ensures within { IfOk result (λ bytes. length bytes.items ≤ limit) }
         ensures cause { HasCause self.old.read_faults self.new.read_faults (IsErrOf result LoadFault.Failed) }
         ensures write_faults { self.new.write_faults ≡ self.old.write_faults }
@@ -81,7 +81,7 @@ impl<R: Files> Shelf for DiskShelf<R> {
             → self.new ≡ record self.old { write_faults = one_more self.old.write_faults } }
         ensures kept { result ≢ Err SaveFault.Failed → self.new ≡ self.old }
 
-        // As of every shelf, where nothing is told of the texts.
+        // As of every shelf, where nothing is known of the texts.
         ensures cause { HasCause self.old.write_faults self.new.write_faults (IsErrOf result SaveFault.Failed) }
         ensures read_faults { self.new.read_faults ≡ self.old.read_faults }
     {

@@ -51,7 +51,7 @@ impl<P: Print> Sink for StdSink<P> {
           faults = one_more self.old.faults;
         }) }
 
-        // As of every sink, where nothing is told of what it took.
+        // As of every sink, where nothing is known of what it took.
         ensures empty { piece.now ≡ [] → result ≡ Ok 0 }
         ensures least { piece.now ≢ [] → IfOk result (λ count. 0 < count) }
         ensures most { IfOk result (λ count. count ≤ length piece.now) }

@@ -41,7 +41,7 @@ absent ls links i d apart within are = ap (λ x. link x (get_or ls i d).a (get_o
 absent_pair : (ls : List Link) (i : ℕ) (d : Link) → AllPairs (λ l m. IsFalse (joins m l.a l.b)) ls → i < length ls → list_any (λ y. (min (get_or ls i d).a (get_or ls i d).b == y.0) && (max (get_or ls i d).a (get_or ls i d).b == y.1)) (map ends (take i ls)) ≡ false
 absent_pair ls i d apart within = no_pair (take i ls) (get_or ls i d).a (get_or ls i d).b (others_before ls i d apart within)
 
--- so it stands behind them
+-- so it stands after them
 pub pairs_more : (ls : List Link) (i : ℕ) (d : Link) (keys : List (ℕ × ℕ)) (low high : ℕ) → AllPairs (λ l m. IsFalse (joins m l.a l.b)) ls → i < length ls → keys ≡ map ends (take i ls) → low ≡ min (get_or ls i d).a (get_or ls i d).b → high ≡ max (get_or ls i d).a (get_or ls i d).b
     → cond (list_any (λ y. (low == y.0) && (high == y.1)) keys) keys (keys ++ (low, high) ∷ []) ≡ map ends (take (i + 1) ls)
 pairs_more ls i d keys low high apart within are low_is high_is =

@@ -95,9 +95,9 @@ answered_file w bytes TooLong outcome texts taken now sent law short s took save
 answered_file w bytes Usage outcome texts taken now sent law short s took saved = absurd s
 answered_file w bytes WriteFault outcome texts taken now sent law short s took saved = absurd s
 
--- what is told of a text is what was loaded
-told_loaded : (told : Option (List ℕ)) (loaded bytes : List ℕ) → told ≡ Some bytes → IsLoaded told loaded → (loaded ≡ bytes) × (length bytes ≤ 2 ^ 34)
-told_loaded told loaded bytes is h =
+-- what is known of a text is what was loaded
+known_loaded : (known : Option (List ℕ)) (loaded bytes : List ℕ) → known ≡ Some bytes → IsLoaded known loaded → (loaded ≡ bytes) × (length bytes ≤ 2 ^ 34)
+known_loaded known loaded bytes is h =
     let same : loaded ≡ bytes = subst (λ o. IfSome o (λ t. loaded ≡ t)) is h.same in
     (same, subst (λ b. length b ≤ 2 ^ 34) same h.short)
 
@@ -115,22 +115,22 @@ pub solves_file : (w : SolveWords) (bytes : List ℕ) (old new : Texts) (status 
     → RefusedExactly bytes → old w.file ≡ Some bytes → (status ≡ ReadFault → ⊥) → (status ≡ NoMemory → ⊥)
     → EndsWith (Some (solve w)) old status outcome sent → now ≡ append_known taken sent → IsSaved (Some (solve w)) new outcome
     → SolvesFile w bytes status outcome new taken now
-solves_file w bytes old new status outcome taken now sent law told read memory (inl h) took saved =
-    let same = told_loaded (old w.file) h.0 bytes told h.1 in
+solves_file w bytes old new status outcome taken now sent law known read memory (inl h) took saved =
+    let same = known_loaded (old w.file) h.0 bytes known h.1 in
     answered_file w bytes status outcome new taken now sent law same.1 (subst (λ b. SolveAnswer w b status outcome sent) same.0 h.2) took saved
-solves_file w bytes old new TooLong outcome taken now sent law told read memory (inr h) took saved = elim h.0 [
-  | inl long ↦ long_file w bytes outcome new taken now (subst (λ o. IfSome o (λ text. 2 ^ 34 < length text)) told long)
+solves_file w bytes old new TooLong outcome taken now sent law known read memory (inr h) took saved = elim h.0 [
+  | inl long ↦ long_file w bytes outcome new taken now (subst (λ o. IfSome o (λ text. 2 ^ 34 < length text)) known long)
   | inr none ↦ absurd none
 ]
-solves_file w bytes old new ReadFault outcome taken now sent law told read memory (inr h) took saved = absurd (read refl)
-solves_file w bytes old new NoMemory outcome taken now sent law told read memory (inr h) took saved = absurd (memory refl)
-solves_file w bytes old new Optimal outcome taken now sent law told read memory (inr h) took saved = absurd h.0
-solves_file w bytes old new Usage outcome taken now sent law told read memory (inr h) took saved = absurd h.0
-solves_file w bytes old new Budget outcome taken now sent law told read memory (inr h) took saved = absurd h.0
-solves_file w bytes old new Infeasible outcome taken now sent law told read memory (inr h) took saved = absurd h.0
-solves_file w bytes old new RefusedFile outcome taken now sent law told read memory (inr h) took saved = absurd h.0
-solves_file w bytes old new RefusedLog outcome taken now sent law told read memory (inr h) took saved = absurd h.0
-solves_file w bytes old new WriteFault outcome taken now sent law told read memory (inr h) took saved = absurd h.0
+solves_file w bytes old new ReadFault outcome taken now sent law known read memory (inr h) took saved = absurd (read refl)
+solves_file w bytes old new NoMemory outcome taken now sent law known read memory (inr h) took saved = absurd (memory refl)
+solves_file w bytes old new Optimal outcome taken now sent law known read memory (inr h) took saved = absurd h.0
+solves_file w bytes old new Usage outcome taken now sent law known read memory (inr h) took saved = absurd h.0
+solves_file w bytes old new Budget outcome taken now sent law known read memory (inr h) took saved = absurd h.0
+solves_file w bytes old new Infeasible outcome taken now sent law known read memory (inr h) took saved = absurd h.0
+solves_file w bytes old new RefusedFile outcome taken now sent law known read memory (inr h) took saved = absurd h.0
+solves_file w bytes old new RefusedLog outcome taken now sent law known read memory (inr h) took saved = absurd h.0
+solves_file w bytes old new WriteFault outcome taken now sent law known read memory (inr h) took saved = absurd h.0
 
 -- a verdict ends no run as too long, or with the usage line
 verdict_ends : (v : Verdict) → (status_of_verdict v ≡ TooLong → ⊥) × (status_of_verdict v ≡ Usage → ⊥)
@@ -171,36 +171,36 @@ long_log stp log taken now long = record {
   ];
 }
 
--- a file and a log that are told are answered, or one of them is too long
+-- a file and a log that are known are answered, or one of them is too long
 log_ends : (w : CheckWords) (stp log : List ℕ) (old : Texts) (status : Status) (outcome : Option Outcome) (sent : List ℕ)
     → old w.file ≡ Some stp → old w.log_name ≡ Some log → (status ≡ ReadFault → ⊥) → (status ≡ NoMemory → ⊥) → EndsWith (Some (check w)) old status outcome sent
     → ((length stp ≤ 2 ^ 34) × (length log ≤ 2 ^ 34) × CheckAnswer stp log status sent) ⊎ ((status ≡ TooLong) × ((2 ^ 34 < length stp) ⊎ (2 ^ 34 < length log)))
-log_ends w stp log old status outcome sent told told' read memory (inl h) =
-    let same = told_loaded (old w.file) h.0 stp told h.2 in
-    let same' = told_loaded (old w.log_name) h.1 log told' h.3 in
+log_ends w stp log old status outcome sent known known' read memory (inl h) =
+    let same = known_loaded (old w.file) h.0 stp known h.2 in
+    let same' = known_loaded (old w.log_name) h.1 log known' h.3 in
     inl (same.1, same'.1, subst (λ l. CheckAnswer stp l status sent) same'.0 (subst (λ b. CheckAnswer b h.1 status sent) same.0 h.4))
-log_ends w stp log old TooLong outcome sent told told' read memory (inr h) = elim h.0 [
-  | inl long ↦ inr (refl, inl (subst (λ o. IfSome o (λ text. 2 ^ 34 < length text)) told long))
+log_ends w stp log old TooLong outcome sent known known' read memory (inr h) = elim h.0 [
+  | inl long ↦ inr (refl, inl (subst (λ o. IfSome o (λ text. 2 ^ 34 < length text)) known long))
   | inr rest ↦ elim rest [
-    | inl long ↦ inr (refl, inr (subst (λ o. IfSome o (λ text. 2 ^ 34 < length text)) told' long))
+    | inl long ↦ inr (refl, inr (subst (λ o. IfSome o (λ text. 2 ^ 34 < length text)) known' long))
     | inr none ↦ absurd none
   ]
 ]
-log_ends w stp log old ReadFault outcome sent told told' read memory (inr h) = absurd (read refl)
-log_ends w stp log old NoMemory outcome sent told told' read memory (inr h) = absurd (memory refl)
-log_ends w stp log old Optimal outcome sent told told' read memory (inr h) = absurd h.0
-log_ends w stp log old Usage outcome sent told told' read memory (inr h) = absurd h.0
-log_ends w stp log old Budget outcome sent told told' read memory (inr h) = absurd h.0
-log_ends w stp log old Infeasible outcome sent told told' read memory (inr h) = absurd h.0
-log_ends w stp log old RefusedFile outcome sent told told' read memory (inr h) = absurd h.0
-log_ends w stp log old RefusedLog outcome sent told told' read memory (inr h) = absurd h.0
-log_ends w stp log old WriteFault outcome sent told told' read memory (inr h) = absurd h.0
+log_ends w stp log old ReadFault outcome sent known known' read memory (inr h) = absurd (read refl)
+log_ends w stp log old NoMemory outcome sent known known' read memory (inr h) = absurd (memory refl)
+log_ends w stp log old Optimal outcome sent known known' read memory (inr h) = absurd h.0
+log_ends w stp log old Usage outcome sent known known' read memory (inr h) = absurd h.0
+log_ends w stp log old Budget outcome sent known known' read memory (inr h) = absurd h.0
+log_ends w stp log old Infeasible outcome sent known known' read memory (inr h) = absurd h.0
+log_ends w stp log old RefusedFile outcome sent known known' read memory (inr h) = absurd h.0
+log_ends w stp log old RefusedLog outcome sent known known' read memory (inr h) = absurd h.0
+log_ends w stp log old WriteFault outcome sent known known' read memory (inr h) = absurd h.0
 
 -- how a run ends decides how a log is answered, where nothing fails
 pub checks_log : (w : CheckWords) (stp log : List ℕ) (old : Texts) (status : Status) (outcome : Option Outcome) (taken now : Option (List ℕ)) (sent : List ℕ)
     → old w.file ≡ Some stp → old w.log_name ≡ Some log → (status ≡ ReadFault → ⊥) → (status ≡ NoMemory → ⊥)
     → EndsWith (Some (check w)) old status outcome sent → now ≡ append_known taken sent → ChecksLog stp log status taken now
-checks_log w stp log old status outcome taken now sent told told' read memory ends took = elim (log_ends w stp log old status outcome sent told told' read memory ends) [
+checks_log w stp log old status outcome taken now sent known known' read memory ends took = elim (log_ends w stp log old status outcome sent known known' read memory ends) [
   | inl h ↦ answered_log stp log status taken now sent h.0 h.1 h.2 took
   | inr h ↦ subst (λ s. ChecksLog stp log s taken now) (sym h.0) (long_log stp log taken now h.1)
 ]
@@ -209,7 +209,7 @@ checks_log w stp log old status outcome taken now sent told told' read memory en
 pub checks_exactly : (w : CheckWords) (stp log : List ℕ) (old : Texts) (status : Status) (outcome : Option Outcome) (taken now : Option (List ℕ)) (sent : List ℕ)
     → old w.file ≡ Some stp → old w.log_name ≡ Some log → (status ≡ ReadFault → ⊥) → (status ≡ NoMemory → ⊥) → length stp ≤ 2 ^ 34 → length log ≤ 2 ^ 34
     → EndsWith (Some (check w)) old status outcome sent → now ≡ append_known taken sent → ChecksExactly stp log status taken now
-checks_exactly w stp log old status outcome taken now sent told told' read memory short short' ends took = elim (log_ends w stp log old status outcome sent told told' read memory ends) [
+checks_exactly w stp log old status outcome taken now sent known known' read memory short short' ends took = elim (log_ends w stp log old status outcome sent known known' read memory ends) [
   | inl h ↦ record {
     some = (h.2.answer, h.2.exact, (sent, h.2.line, took));
     each = λ answer is other. (sent, subst (λ a. IsLineOf a status sent) (h.2.only answer is other) h.2.line, took);
@@ -279,8 +279,8 @@ pub decides : (command : Option Command) (old new : Texts) (reads reads_now save
     → Headline command old new reads reads_now saves saves_now writes writes_now status outcome taken now
 decides command old new reads reads_now saves saves_now writes writes_now status outcome taken now law sent saved read write = record {
   usage = λ fine. let e = ended fine in usage_ends command old status outcome e.0 fine.memory e.1;
-  solves = λ w bytes is told fine. let e = ended fine in solves_file w bytes old new status outcome taken now e.0 (law bytes) told (λ r. fine.loaded (read r)) fine.memory (subst (λ c. EndsWith c old status outcome e.0) is e.1) e.2 (subst (λ c. IsSaved c new outcome) is saved);
-  checks = λ w stp log is told told' fine. let e = ended fine in checks_log w stp log old status outcome taken now e.0 told told' (λ r. fine.loaded (read r)) fine.memory (subst (λ c. EndsWith c old status outcome e.0) is e.1) e.2;
+  solves = λ w bytes is known fine. let e = ended fine in solves_file w bytes old new status outcome taken now e.0 (law bytes) known (λ r. fine.loaded (read r)) fine.memory (subst (λ c. EndsWith c old status outcome e.0) is e.1) e.2 (subst (λ c. IsSaved c new outcome) is saved);
+  checks = λ w stp log is known known' fine. let e = ended fine in checks_log w stp log old status outcome taken now e.0 known known' (λ r. fine.loaded (read r)) fine.memory (subst (λ c. EndsWith c old status outcome e.0) is e.1) e.2;
   draws = λ w is fine. let e = ended fine in sends_drawn w old status outcome taken now e.0 fine.memory (subst (λ c. EndsWith c old status outcome e.0) is e.1) e.2;
   tries = λ w is fine. let e = ended fine in sends_tried w old status outcome taken now e.0 fine.memory (subst (λ c. EndsWith c old status outcome e.0) is e.1) e.2;
 } where
@@ -299,6 +299,6 @@ pub decides_checks : (command : Option Command) (old : Texts) (reads reads_now s
     → (status ≡ ReadFault → Rose reads reads_now)
     → (status ≡ WriteFault → Rose saves saves_now ⊎ Rose writes writes_now)
     → NothingFails reads reads_now saves saves_now writes writes_now status → ChecksBothWays command old status taken now
-decides_checks command old reads reads_now saves saves_now writes writes_now status outcome taken now sent read write fine w stp log is told told' short short' =
+decides_checks command old reads reads_now saves saves_now writes writes_now status outcome taken now sent read write fine w stp log is known known' short short' =
     let e = sent (λ failed. elim (write failed) [ inl rose ↦ fine.saved rose | inr rose ↦ fine.sent rose ]) in
-    checks_exactly w stp log old status outcome taken now e.0 told told' (λ r. fine.loaded (read r)) fine.memory short short' (subst (λ c. EndsWith c old status outcome e.0) is e.1) e.2
+    checks_exactly w stp log old status outcome taken now e.0 known known' (λ r. fine.loaded (read r)) fine.memory short short' (subst (λ c. EndsWith c old status outcome e.0) is e.1) e.2

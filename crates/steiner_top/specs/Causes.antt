@@ -36,8 +36,8 @@ status_of_save save.Failed = WriteFault
 status_of_save save.NoMemory = NoMemory
 
 -- the bytes that a shelf loaded: those that it tells, if it tells any, and not too many
-pub record IsLoaded (told : Option (List ℕ)) (bytes : List ℕ) : Type 0 where
-  pub same : IfSome told (λ t. bytes ≡ t)
+pub record IsLoaded (known : Option (List ℕ)) (bytes : List ℕ) : Type 0 where
+  pub same : IfSome known (λ t. bytes ≡ t)
   pub short : length bytes ≤ 2 ^ 34
 
 -- one of these names has a text that is too long, where the shelf tells it

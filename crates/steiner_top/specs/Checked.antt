@@ -19,7 +19,7 @@ pub record ChecksExactly (stp log : List ℕ) (status : Status) (taken now : Opt
   pub some : (answer : Result Verdict CheckFault) × IsAnswer stp log answer × Gives status taken now answer
   pub each : (answer : Result Verdict CheckFault) → IsAnswer stp log answer → answer ≢ Err NoMemory → Gives status taken now answer
 
--- so it is where the words ask for it and both texts are told, short enough and loaded
+-- so it is where the words ask for it and both texts are known, short enough and loaded
 abbrev pub ChecksBothWays : Option Command → Texts → Status → Option (List ℕ) → Option (List ℕ) → Type 0
 ChecksBothWays command texts status taken now = (w : CheckWords) (stp log : List ℕ) → command ≡ Some (check w) → texts w.file ≡ Some stp → texts w.log_name ≡ Some log
     → length stp ≤ 2 ^ 34 → length log ≤ 2 ^ 34 → ChecksExactly stp log status taken now

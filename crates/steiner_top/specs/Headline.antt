@@ -50,14 +50,14 @@ pub record IsSolved (w : SolveWords) (bytes : List ℕ) (I : Network) (status : 
   pub checks : IsAnswer bytes (log_text certificate) (Ok (if dual == primal then verdict.Optimal primal else verdict.Bound dual primal))
   pub log : IfSome w.log_name (λ name. IfSome (texts name) (λ text. text ≡ log_text certificate))
 
--- how a file is answered that is to be solved, and whose text is told
+-- how a file is answered that is to be solved, and whose text is known
 pub record SolvesFile (w : SolveWords) (bytes : List ℕ) (status : Status) (outcome : Option Outcome) (texts : Texts) (taken now : Option (List ℕ)) : Type 0 where
   pub too_long : (status ≡ TooLong) ↔ (2 ^ 34 < length bytes)
   pub refused : length bytes ≤ 2 ^ 34 → (status ≡ RefusedFile) ↔ ((line : ℕ) × (reason : Reason) × Refused bytes line reason)
   pub infeasible : (I : Network) → Reads bytes I → length bytes ≤ 2 ^ 34 → (status ≡ Infeasible) ↔ ((t : Tree) → IsTree I t → ⊥)
   pub solved : (I : Network) (t : Tree) → Reads bytes I → length bytes ≤ 2 ^ 34 → IsTree I t → IsSolved w bytes I status outcome texts taken now
 
--- how a file and a log are answered that are to be checked, and whose texts are told
+-- how a file and a log are answered that are to be checked, and whose texts are known
 pub record ChecksLog (stp log : List ℕ) (status : Status) (taken now : Option (List ℕ)) : Type 0 where
   pub too_long : (status ≡ TooLong) ↔ ((2 ^ 34 < length stp) ⊎ (2 ^ 34 < length log))
   pub verdict : (v : Verdict) → length stp ≤ 2 ^ 34 → length log ≤ 2 ^ 34 → IsAnswer stp log (Ok v) → (status ≡ status_of_verdict v) × (now ≡ append_known taken (verdict_line v))

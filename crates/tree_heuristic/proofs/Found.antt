@@ -21,7 +21,7 @@ use Rattle.graph_store.specs.Graph.{Graph, IsGraph, is_in}
 use Rattle.graph_store.proofs.PutLinks.{in_range}
 use Rattle.tree_heuristic.specs.declared.spread.Spread.{Spread}
 use Rattle.tree_heuristic.specs.Reaching.{IsTreeOf, ReachesPresent}
-use Rattle.tree_heuristic.specs.Spreading.{IsOpen, IsSpread, IsClosed}
+use Rattle.tree_heuristic.specs.Spreading.{MayJoin, IsSpread, IsClosed}
 
 -- a test that holds is not refused
 pub clash : {b : Bool} → b ≡ true → b ≡ false → ⊥
@@ -37,7 +37,7 @@ certain_required I B v h = rw h refl
 -- the tree that was grown
 pub spread_arborescence : (g : Graph) (out : List ℕ) (s : Spread) (t : Tree) → IsGraph g → IsSpread g out s → t.start ≡ s.start → t.arcs ≡ s.arcs.items → IsArborescence g.network t
 spread_arborescence g out s t graph is start arcs = record {
-  start = rw start (in_range g s.start graph (is.open_only s.start (is.same s.start ∙ has-reached_from (s.start ∷ []) s.arcs.items s.start (has-cons_head [] s.start s.start refl))).present);
+  start = rw start (in_range g s.start graph (is.only_joining s.start (is.same s.start ∙ has-reached_from (s.start ∷ []) s.arcs.items s.start (has-cons_head [] s.start s.start refl))).present);
   grows = rw (start, arcs) is.grows;
 }
 
@@ -50,11 +50,11 @@ spread_tree g B out s t graph is start arcs all = record {
   required = λ v vertex h. spread_reached g out s t v is start arcs ∙ all v vertex (certain_required g.network B v h);
 }
 
--- a tree that reaches only what is open, and all that is inside
-open_belongs : (g : Graph) (B : Branch) (out : List ℕ) (t : Tree) → IsGraph g → IsBranch g.network B → ((v : ℕ) → IsVertex g.network.n v → has out v ≡ has B.outside v) → ((v : ℕ) → IsTrue (has (reached t) v) → IsOpen g out v) → ((v : ℕ) → IsVertex g.network.n v → IsTrue (is_certain g.network B v) → IsTrue (has (reached t) v)) → Belongs B t
-open_belongs g B out t graph branch same open_only all = record {
+-- a tree that reaches only what may join, and all that is inside
+joining_belongs : (g : Graph) (B : Branch) (out : List ℕ) (t : Tree) → IsGraph g → IsBranch g.network B → ((v : ℕ) → IsVertex g.network.n v → has out v ≡ has B.outside v) → ((v : ℕ) → IsTrue (has (reached t) v) → MayJoin g out v) → ((v : ℕ) → IsVertex g.network.n v → IsTrue (is_certain g.network B v) → IsTrue (has (reached t) v)) → Belongs B t
+joining_belongs g B out t graph branch same only_joining all = record {
   inside = λ v h. all v (IsVertexSet-member g.network.n B.inside v branch.inside h) (certain_inside g.network B v h);
-  outside = λ v h. false_from_ne_true (has (reached t) v) (λ there. let here = open_only v there in clash h (sym (same v (in_range g v graph here.present)) ∙ here.inside));
+  outside = λ v h. false_from_ne_true (has (reached t) v) (λ there. let here = only_joining v there in clash h (sym (same v (in_range g v graph here.present)) ∙ here.inside));
 }
 
 -- so it is a tree of the branch
@@ -62,17 +62,17 @@ pub spread_tree_of : (g : Graph) (B : Branch) (out : List ℕ) (s : Spread) (t :
     → ((v : ℕ) → IsVertex g.network.n v → IsTrue (is_certain g.network B v) → IsTrue (has s.reached.members v)) → IsTreeOf g B t
 spread_tree_of g B out s t graph branch outside is start arcs all = record {
   tree = spread_tree g B out s t graph is start arcs all;
-  belongs = open_belongs g B out t graph branch outside open_only (λ v vertex h. same v ∙ all v vertex h);
-  present = λ v h. (open_only v h).present;
+  belongs = joining_belongs g B out t graph branch outside only_joining (λ v vertex h. same v ∙ all v vertex h);
+  present = λ v h. (only_joining v h).present;
 }
   where
     same : (v : ℕ) → has (reached t) v ≡ has s.reached.members v
     same v = spread_reached g out s t v is start arcs
 
-    open_only : (v : ℕ) → IsTrue (has (reached t) v) → IsOpen g out v
-    open_only v h = is.open_only v (sym (same v) ∙ h)
+    only_joining : (v : ℕ) → IsTrue (has (reached t) v) → MayJoin g out v
+    only_joining v h = is.only_joining v (sym (same v) ∙ h)
 
--- no tree of open vertices reaches one of such a set and one that isn't of it
+-- no tree of vertices that may join reaches one of such a set and one that isn't of it
 pub no_tree_across : (g : Graph) (B : Branch) (out R : List ℕ) (c d : ℕ) → IsGraph g → ((v : ℕ) → IsVertex g.network.n v → has out v ≡ has B.outside v) → IsClosed g.network out R R → IsVertex g.network.n c → IsTrue (is_certain g.network B c) → IsTrue (has R c) → IsVertex g.network.n d → IsTrue (is_certain g.network B d) → IsFalse (has R d) → (t : Tree) → IsTree g.network t → Belongs B t → ⊥
 no_tree_across g B out R c d graph outside closed c_vertex c_certain c_in d_vertex d_certain d_out t tree belongs =
     let all = one_side g.network (has R) (has R t.start) (t.start ∷ []) t.arcs same tree.arborescence.grows (λ w h. ap (has R) (sym (has-one t.start w h))) in
@@ -106,15 +106,15 @@ first_alone I instance free = record {
   required = λ v vertex h. absurd (free v vertex h);
 }
 
--- a vertex alone that is open belongs to a branch that holds no vertex for certain
-alone_belongs : (g : Graph) (B : Branch) (out : List ℕ) (v : ℕ) → IsBranch g.network B → ((w : ℕ) → IsVertex g.network.n w → has out w ≡ has B.outside w) → NoneIsCertain g.network B → IsVertex g.network.n v → IsOpen g out v → Belongs B (record { start = v; arcs = [] })
+-- a vertex alone that may join belongs to a branch that holds no vertex for certain
+alone_belongs : (g : Graph) (B : Branch) (out : List ℕ) (v : ℕ) → IsBranch g.network B → ((w : ℕ) → IsVertex g.network.n w → has out w ≡ has B.outside w) → NoneIsCertain g.network B → IsVertex g.network.n v → MayJoin g out v → Belongs B (record { start = v; arcs = [] })
 alone_belongs g B out v branch same free vertex here = record {
   inside = λ w h. absurd (clash (certain_inside g.network B w h) (free w (IsVertexSet-member g.network.n B.inside w branch.inside h)));
   outside = λ w h. false_from_ne_true (has (v ∷ []) w) (λ there. clash (subst (λ x. IsTrue (has B.outside x)) (sym (has-one v w there)) h) (sym (same v vertex) ∙ here.inside));
 }
 
 -- so it is a tree of the branch
-pub alone_tree : (g : Graph) (B : Branch) (out : List ℕ) (v : ℕ) → IsGraph g → IsBranch g.network B → ((w : ℕ) → IsVertex g.network.n w → has out w ≡ has B.outside w) → NoneIsCertain g.network B → IsVertex g.network.n v → IsOpen g out v → IsTreeOf g B (record { start = v; arcs = [] })
+pub alone_tree : (g : Graph) (B : Branch) (out : List ℕ) (v : ℕ) → IsGraph g → IsBranch g.network B → ((w : ℕ) → IsVertex g.network.n w → has out w ≡ has B.outside w) → NoneIsCertain g.network B → IsVertex g.network.n v → MayJoin g out v → IsTreeOf g B (record { start = v; arcs = [] })
 alone_tree g B out v graph branch same free vertex here = record {
   tree = record {
     arborescence = record { start = vertex; grows = tt };
@@ -124,9 +124,9 @@ alone_tree g B out v graph branch same free vertex here = record {
   present = λ w h. subst (λ x. IsTrue (is_in g x)) (has-one v w h) here.present;
 }
 
--- the start of a tree of the branch is open
-pub start_open : (g : Graph) (B : Branch) (out : List ℕ) (t : Tree) → IsGraph g → ((w : ℕ) → IsVertex g.network.n w → has out w ≡ has B.outside w) → Belongs B t → ReachesPresent g t → IsVertex g.network.n t.start × IsOpen g out t.start
-start_open g B out t graph same belongs present =
+-- the start of a tree of the branch may join
+pub start_may_join : (g : Graph) (B : Branch) (out : List ℕ) (t : Tree) → IsGraph g → ((w : ℕ) → IsVertex g.network.n w → has out w ≡ has B.outside w) → Belongs B t → ReachesPresent g t → IsVertex g.network.n t.start × MayJoin g out t.start
+start_may_join g B out t graph same belongs present =
     let there = has-reached_from (t.start ∷ []) t.arcs t.start (has-cons_head [] t.start t.start refl) in
     let vertex = in_range g t.start graph (present t.start there) in
     (vertex, record { present = present t.start there; inside = same t.start vertex ∙ false_from_ne_true (has B.outside t.start) (λ o. clash there (belongs.outside t.start o)) })

@@ -18,18 +18,18 @@ use Rattle.st_model.proofs.ThinGrowth.{Grows-push}
 use Rattle.graph_store.specs.declared.half.Half.{Half}
 use Rattle.graph_store.specs.Graph.{Graph, IsGraph, is_in}
 use Rattle.tree_heuristic.specs.declared.spread.Spread.{Spread}
-use Rattle.tree_heuristic.specs.Spreading.{IsOpen, IsSpread, Follows, HasGoneOn}
+use Rattle.tree_heuristic.specs.Spreading.{MayJoin, IsSpread, Follows, HasGoneOn}
 
 -- both ends of a link are present
 pub linked_present : (g : Graph) (u v : ℕ) → IsGraph g → IsSome (link g.network.links u v) → IsTrue (is_in g u) × IsTrue (is_in g v)
 linked_present g u v graph h = linked_ends (λ w. IsTrue (is_in g w)) g.network.links u v (recursion_from_All _ g.network.links graph.ends) h
 
 -- the start alone
-pub IsSpread-start : (g : Graph) (out : List ℕ) (s : Spread) → IsOpen g out s.start → s.arcs.items ≡ [] → s.reached.members ≡ s.start ∷ [] → s.reached.count ≡ g.network.n + 1 → IsSpread g out s
+pub IsSpread-start : (g : Graph) (out : List ℕ) (s : Spread) → MayJoin g out s.start → s.arcs.items ≡ [] → s.reached.members ≡ s.start ∷ [] → s.reached.count ≡ g.network.n + 1 → IsSpread g out s
 IsSpread-start g out s here arcs members count = record {
   grows = rw arcs tt;
   same = λ v. rw (arcs, members) refl;
-  open_only = λ v h. subst (IsOpen g out) (has-one s.start v (rw members at h)) here;
+  only_joining = λ v h. subst (MayJoin g out) (has-one s.start v (rw members at h)) here;
   count = count;
 }
 
@@ -38,16 +38,16 @@ IsSpread-same : (g : Graph) (out : List ℕ) (old new : Spread) → IsSpread g o
 IsSpread-same g out old new s start arcs members count = record {
   grows = rw (start, arcs) s.grows;
   same = λ v. rw (start, arcs, members) (s.same v);
-  open_only = λ v h. s.open_only v (rw members at h);
+  only_joining = λ v h. s.only_joining v (rw members at h);
   count = count ∙ s.count;
 }
 
 -- one arc more
-IsSpread-take : (g : Graph) (out : List ℕ) (old new : Spread) (tail head : ℕ) → IsSpread g out old → IsTrue (has old.reached.members tail) → IsSome (link g.network.links tail head) → IsOpen g out head → IsFalse (has old.reached.members head) → new.start ≡ old.start → new.arcs.items ≡ old.arcs.items ++ (tail, head) ∷ [] → new.reached.members ≡ old.reached.members ++ head ∷ [] → new.reached.count ≡ old.reached.count → IsSpread g out new
+IsSpread-take : (g : Graph) (out : List ℕ) (old new : Spread) (tail head : ℕ) → IsSpread g out old → IsTrue (has old.reached.members tail) → IsSome (link g.network.links tail head) → MayJoin g out head → IsFalse (has old.reached.members head) → new.start ≡ old.start → new.arcs.items ≡ old.arcs.items ++ (tail, head) ∷ [] → new.reached.members ≡ old.reached.members ++ head ∷ [] → new.reached.count ≡ old.reached.count → IsSpread g out new
 IsSpread-take g out old new tail head s from linked here fresh start arcs members count = record {
   grows = rw (start, arcs) (Grows-push g.network (old.start ∷ []) old.arcs.items tail head s.grows linked (sym (s.same tail) ∙ from) (sym (s.same head) ∙ fresh));
   same = same;
-  open_only = open_only;
+  only_joining = only_joining;
   count = count ∙ s.count;
 }
   where
@@ -57,12 +57,12 @@ IsSpread-take g out old new tail head s from linked here fresh start arcs member
         let right : reaches new.start new.arcs.items v ≡ ((head == v) || reaches old.start old.arcs.items v) = rw (start, arcs) (ap (λ l. has l v) (reached_from-append (old.start ∷ []) old.arcs.items ((tail, head) ∷ []))) in
         left ∙ (ap (λ b. b || (head == v)) (s.same v) ∙ (or_comm (reaches old.start old.arcs.items v) (head == v) ∙ sym right))
 
-    open_only : (v : ℕ) → IsTrue (has new.reached.members v) → IsOpen g out v
-    open_only v h =
+    only_joining : (v : ℕ) → IsTrue (has new.reached.members v) → MayJoin g out v
+    only_joining v h =
         let both : (has old.reached.members v || (head == v)) ≡ true = sym (has-push old.reached.members head v) ∙ rw members at h in
         elim (or_cases (has old.reached.members v) (head == v) both) [
-          | inl before ↦ s.open_only v before
-          | inr now ↦ subst (IsOpen g out) (eqb-true head v now) here
+          | inl before ↦ s.only_joining v before
+          | inr now ↦ subst (MayJoin g out) (eqb-true head v now) here
         ]
 
 -- no half so far
@@ -106,7 +106,7 @@ gone_on_more g out old mid new halves half tail graph on from linked f = by_case
         let t : (has out half.to || has mid.reached.members half.to) ≡ false = rw (o, m) refl in
         let arcs : new.arcs.items ≡ mid.arcs.items ++ (tail, half.to) ∷ [] = rw t at f.arcs in
         let members : new.reached.members ≡ mid.reached.members ++ half.to ∷ [] = rw t at f.members in
-        let here : IsOpen g out half.to = record { present = (linked_present g tail half.to graph linked).1; inside = o } in
+        let here : MayJoin g out half.to = record { present = (linked_present g tail half.to graph linked).1; inside = o } in
         let more : (v : ℕ) → IsTrue (has mid.reached.members v) → IsTrue (has new.reached.members v) = λ v h. rw members (has-push mid.reached.members half.to v ∙ rw h refl) in
         record {
           spread = IsSpread-take g out mid new tail half.to on.spread (kept tail from) linked here m f.start arcs members f.count;

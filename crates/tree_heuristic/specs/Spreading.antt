@@ -9,16 +9,16 @@ use Rattle.graph_store.specs.declared.half.Half.{Half}
 use Rattle.graph_store.specs.Graph.{Graph, is_in}
 use Rattle.tree_heuristic.specs.declared.spread.Spread.{Spread}
 
--- v is present and not outside
-pub record IsOpen (g : Graph) (out : List ℕ) (v : ℕ) : Type 0 where
+-- v is present and not outside, so a tree may join it
+pub record MayJoin (g : Graph) (out : List ℕ) (v : ℕ) : Type 0 where
   pub present : IsTrue (is_in g v)
   pub inside : IsFalse (has out v)
 
--- arcs that grow from the start over open vertices, and the vertices that they reach
+-- arcs that grow from the start over vertices that may join, and the vertices that they reach
 pub record IsSpread (g : Graph) (out : List ℕ) (s : Spread) : Type 0 where
   pub grows : Grows g.network (s.start ∷ []) s.arcs.items
   pub same : (v : ℕ) → has s.reached.members v ≡ reaches s.start s.arcs.items v
-  pub open_only : (v : ℕ) → IsTrue (has s.reached.members v) → IsOpen g out v
+  pub only_joining : (v : ℕ) → IsTrue (has s.reached.members v) → MayJoin g out v
   pub count : s.reached.count ≡ g.network.n + 1
 
 -- a link from the first to a vertex that isn't outside leads to one of all
@@ -53,7 +53,7 @@ pub record IsUnderWay (g : Graph) (out : List ℕ) (from : ℕ) (s : Spread) (co
   pub start : s.start ≡ from
   pub few : count ≤ length s.reached.members
 
--- of the open vertices up to a last one the best is one that pays most, and this is what it pays
+-- of the vertices that may join, up to a last one the best is one that pays most, and this is what it pays
 abbrev pub IsDearest : Graph → List ℕ → ℕ → Option ℕ → ℕ → Type 0
-IsDearest g out last None p = (w : ℕ) → IsVertex last w → IsOpen g out w → ⊥
-IsDearest g out last (Some v) p = (p ≡ pays g.network v) × IsVertex last v × IsOpen g out v × ((w : ℕ) → IsVertex last w → IsOpen g out w → pays g.network w ≤ p)
+IsDearest g out last None p = (w : ℕ) → IsVertex last w → MayJoin g out w → ⊥
+IsDearest g out last (Some v) p = (p ≡ pays g.network v) × IsVertex last v × MayJoin g out v × ((w : ℕ) → IsVertex last w → MayJoin g out w → pays g.network w ≤ p)

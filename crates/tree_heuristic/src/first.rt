@@ -4,7 +4,7 @@ ghost use Rattle.st_model.specs.Branch.{Belongs, IsBranch, is_certain, NoneIsCer
 ghost use Rattle.st_model.specs.Network.{IsVertex, pays};
 ghost use Rattle.graph_store.specs.Graph.{IsGraph, is_in};
 ghost use Rattle.tree_heuristic.specs.Reaching.{HasNoTree, IsNoDearerThanOne, IsTreeOf, ReachesPresent};
-ghost use Rattle.tree_heuristic.specs.Spreading.{IsOpen};
+ghost use Rattle.tree_heuristic.specs.Spreading.{MayJoin};
 
 use crate::certain::missing;
 use crate::growing::{Growing, Guide};
@@ -66,7 +66,7 @@ fn joined_tree(
     ensures tree { IfOk result (λ found. IfSome found (IsTreeOf store.now branch.now)) }
     ensures none { IfOk result (λ found. IfNone found (HasNoTree store.now branch.now)) }
 {
-    if !is_open(store, branch, start) {
+    if !may_join(store, branch, start) {
         return Ok(None);
     }
     match grown_tree(alloc, store, branch, weights, start)? {
@@ -85,7 +85,7 @@ fn grown_tree(
 ) -> Result<Option<Tree>, AllocError>
     requires branch { IsBranch store.now.network branch.now }
     requires vertex { IsVertex store.now.network.n start }
-    requires open_start { IsOpen store.now branch.now.outside start }
+    requires start_joins { MayJoin store.now branch.now.outside start }
     ensures { IfOk result (λ found. IfSome found (IsTreeOf store.now branch.now)) }
 {
     let worth = worths(alloc, store, branch)?;
@@ -111,7 +111,7 @@ fn spanning_tree(
     requires branch { IsBranch store.now.network branch.now }
     requires vertex { IsVertex store.now.network.n start }
     requires certain { IsTrue (is_certain store.now.network branch.now start) }
-    requires open_start { IsOpen store.now branch.now.outside start }
+    requires start_joins { MayJoin store.now branch.now.outside start }
     ensures tree { IfOk result (λ found. IfSome found (IsTreeOf store.now branch.now)) }
     ensures none { IfOk result (λ found. IfNone found (HasNoTree store.now branch.now)) }
 {
@@ -143,9 +143,9 @@ fn worth_of(store: &Store, branch: &Sides, vertex: u32) -> u64
 }
 
 // Whether a vertex is present and not outside.
-fn is_open(store: &Store, branch: &Sides, vertex: u32) -> bool
+fn may_join(store: &Store, branch: &Sides, vertex: u32) -> bool
     requires { IsVertex store.now.network.n vertex }
-    ensures { IsTrue result ↔ IsOpen store.now branch.now.outside vertex }
+    ensures { IsTrue result ↔ MayJoin store.now branch.now.outside vertex }
 {
     store.is_present(vertex) && !branch.is_outside(vertex)
 }
@@ -195,7 +195,7 @@ fn lone_tree(alloc: Global, store: &Store, branch: &Sides) -> Option<Tree>
     requires uncertain { NoneIsCertain store.now.network branch.now }
     requires branch { IsBranch store.now.network branch.now }
     ensures start { IfSome result (λ t. IsVertex store.now.network.n t.start ×
-        IsOpen store.now branch.now.outside t.start × (t.arcs ≡ [])) }
+        MayJoin store.now branch.now.outside t.start × (t.arcs ≡ [])) }
     ensures tree { IfSome result (IsTreeOf store.now branch.now) }
     ensures none { IfNone result (HasNoTree store.now branch.now) }
     ensures lone { IfSome result (IsNoDearerThanOne store.now branch.now) }
@@ -210,11 +210,11 @@ fn lone_tree(alloc: Global, store: &Store, branch: &Sides) -> Option<Tree>
 
 // Of the vertices that are present and not outside one that pays most.
 fn dearest(store: &Store, branch: &Sides) -> Option<u32>
-    ensures some { IfSome result (λ v. IsVertex store.now.network.n v × IsOpen store.now branch.now.outside v) }
+    ensures some { IfSome result (λ v. IsVertex store.now.network.n v × MayJoin store.now branch.now.outside v) }
     ensures most { IfSome result (λ v. (w : ℕ) → IsVertex store.now.network.n w →
-        IsOpen store.now branch.now.outside w → pays store.now.network w ≤ pays store.now.network v) }
+        MayJoin store.now branch.now.outside w → pays store.now.network w ≤ pays store.now.network v) }
     ensures none { IfNone result ((w : ℕ) → IsVertex store.now.network.n w →
-        IsOpen store.now branch.now.outside w → ⊥) }
+        MayJoin store.now branch.now.outside w → ⊥) }
     ensures graph { IsGraph store.now }
 {
     let mut best = None;
@@ -222,7 +222,7 @@ fn dearest(store: &Store, branch: &Sides) -> Option<u32>
     for before in 0..store.vertices() {
         let vertex = before + 1;
         let pays = store.prize(vertex);
-        if is_open(store, branch, vertex) && (best.is_none() || pays > prize) {
+        if may_join(store, branch, vertex) && (best.is_none() || pays > prize) {
             best = Some(vertex);
             prize = pays;
         }

@@ -6,13 +6,13 @@ use Rattle.graph_store.proofs.links.detach.Goals as goal
 
 pub put_place-requires-clause-linked : goal.put_place-requires-clause-linked
 put_place-requires-clause-linked c =
-    let told = told_last (halves_at c.args.lists.now.items c.args.from) (halves_at c.take_half.new.lists.items c.args.from) c.args.place (place_of c.args.joints.now.entries c.args.from) c.in-Some.moved c.in-Some.ensures.here c.requires.halves (sym c.in-Some.ensures.moved) in
-    some_joint c.args.joints.now.entries c.args.from c.in-Some.moved.to _ told
+    let known = told_last (halves_at c.args.lists.now.items c.args.from) (halves_at c.take_half.new.lists.items c.args.from) c.args.place (place_of c.args.joints.now.entries c.args.from) c.in-Some.moved c.in-Some.ensures.here c.requires.halves (sym c.in-Some.ensures.moved) in
+    some_joint c.args.joints.now.entries c.args.from c.in-Some.moved.to _ known
 
 pub put_place-requires-clause-different : goal.put_place-requires-clause-different
 put_place-requires-clause-different c same =
-    let told = told_last (halves_at c.args.lists.now.items c.args.from) (halves_at c.take_half.new.lists.items c.args.from) c.args.place (place_of c.args.joints.now.entries c.args.from) c.in-Some.moved c.in-Some.ensures.here c.requires.halves (sym c.in-Some.ensures.moved) in
-    let clash : ◌≡◌ {A = Option (ℕ × ℕ)} None (Some _) = sym (ap (option_map (place_in c.args.from c.args.from)) (joint_of-loop c.args.joints.now.entries c.args.from c.requires.pairs.ordered)) ∙ ap (place_of c.args.joints.now.entries c.args.from) same ∙ told in
+    let known = told_last (halves_at c.args.lists.now.items c.args.from) (halves_at c.take_half.new.lists.items c.args.from) c.args.place (place_of c.args.joints.now.entries c.args.from) c.in-Some.moved c.in-Some.ensures.here c.requires.halves (sym c.in-Some.ensures.moved) in
+    let clash : ◌≡◌ {A = Option (ℕ × ℕ)} None (Some _) = sym (ap (option_map (place_in c.args.from c.args.from)) (joint_of-loop c.args.joints.now.entries c.args.from c.requires.pairs.ordered)) ∙ ap (place_of c.args.joints.now.entries c.args.from) same ∙ known in
     cc
 
 pub returns-in-Some-clause-halves : goal.returns-in-Some-clause-halves

@@ -4,7 +4,7 @@ use Rattle.std.proofs.lemmas.Bool.{false≢true}
 use Rattle.st_model.specs.Lists.{has}
 use Rattle.bidirected_form.specs.declared.arc.Arc.{Arc}
 use Rattle.st_model.specs.Network.{IsVertex}
-use Rattle.flow_cuts.specs.Sending.{HasRoom, IsOpen, sent}
+use Rattle.flow_cuts.specs.Sending.{HasRoom, CanSend, sent}
 use Rattle.flow_cuts.proofs.Trees.{IsTakenUpTo, longer_keeps, open_row, push_has, push_keeps, push_longer, taken_all, taken_up_to, tree_more}
 use Rattle.flow_cuts.proofs.searching.Search.add_tails.Goals as goal
 use Rattle.flow_cuts.proofs.searching.Search.add_tails.Goals.{then-finds+in_ok-add, else-finds}
@@ -38,7 +38,7 @@ loop-arc-preserved c =
         tree = λ q tree held. tree_more D f c.args.capacity q c.loop-arc.self w.add.new.self a.tail c.args.head
             (subst (λ (xs : List Arc). IsVertex D.n (get_or xs i none).tail) (sym into) ((c.arcs_into-row.ensures.digraph.arcs c.args.head).tails i none below).0)
             (subst (λ (xs : List Arc). HasRoom f c.args.capacity (get_or xs i none).remaining (get_or xs i none).tail c.args.head
-            → IsOpen D f c.args.capacity (get_or xs i none).tail c.args.head) (sym into) (open_row D f c.args.capacity c.args.head i none c.arcs_into-row.ensures.digraph below)
+            → CanSend D f c.args.capacity (get_or xs i none).tail c.args.head) (sym into) (open_row D f c.args.capacity c.args.head i none c.arcs_into-row.ensures.digraph below)
             (c.finds.ensures.0 w.if-finds.true).1)
             (c.finds.ensures.0 w.if-finds.true).0
             (longer_keeps c.args.self.now.reaching.members now c.args.head c.loop-arc.invariant.longer held)

@@ -18,15 +18,15 @@ returns-in_default-clause-once c = rw (← c.self.view_is) (one_each c.self.insi
 pub put_half_cost-requires-clause-place : goal.put_half_cost-requires-clause-place
 put_half_cost-requires-clause-place c =
     let joint = c.in-Some.joint in
-    let told : IsTold c.self.inside.joints.entries c.args.low c.args.high joint = is_told c.self.inside.joints.entries c.args.low c.args.high c.args.low c.args.high joint c.self.invariant.pairs.ordered (omega arith) (omega arith) (sym c.in-Some.ensures) in
-    slice_get_within _ joint.low _ ((c.self.invariant.halves c.args.low).found c.args.high joint.low joint.cost told.low_place)
+    let known : IsTold c.self.inside.joints.entries c.args.low c.args.high joint = is_told c.self.inside.joints.entries c.args.low c.args.high c.args.low c.args.high joint c.self.invariant.pairs.ordered (omega arith) (omega arith) (sym c.in-Some.ensures) in
+    slice_get_within _ joint.low _ ((c.self.invariant.halves c.args.low).found c.args.high joint.low joint.cost known.low_place)
 
 pub put_half_cost-requires-then-cost-joint-clause-place : goal.put_half_cost-requires-then-cost-joint-clause-place
 put_half_cost-requires-then-cost-joint-clause-place c =
     let joint = c.in-Some.joint in
-    let told : IsTold c.self.inside.joints.entries c.args.low c.args.high joint = is_told c.self.inside.joints.entries c.args.low c.args.high c.args.low c.args.high joint c.self.invariant.pairs.ordered (omega arith) (omega arith) (sym c.in-Some.ensures) in
+    let known : IsTold c.self.inside.joints.entries c.args.low c.args.high joint = is_told c.self.inside.joints.entries c.args.low c.args.high c.args.low c.args.high joint c.self.invariant.pairs.ordered (omega arith) (omega arith) (sym c.in-Some.ensures) in
     let same = c.put_half_cost.ensures.others c.args.high (λ e. (let before = c.requires.ordered in omega arith)) in
-    rw same (slice_get_within _ joint.high _ ((c.self.invariant.halves c.args.high).found c.args.low joint.high joint.cost told.high_place))
+    rw same (slice_get_within _ joint.high _ ((c.self.invariant.halves c.args.high).found c.args.low joint.high joint.cost known.high_place))
 
 pub invariant_of-self : goal.invariant_of-self
 invariant_of-self c = record {
@@ -34,9 +34,9 @@ invariant_of-self c = record {
   pairs = c.put_cost.ensures.pairs;
   halves =
       let joint = c.in-Some.joint in
-      let told : IsTold c.self.inside.joints.entries c.args.low c.args.high joint = is_told c.self.inside.joints.entries c.args.low c.args.high c.args.low c.args.high joint c.self.invariant.pairs.ordered (omega arith) (omega arith) (sym c.in-Some.ensures) in
+      let known : IsTold c.self.inside.joints.entries c.args.low c.args.high joint = is_told c.self.inside.joints.entries c.args.low c.args.high c.args.low c.args.high joint c.self.invariant.pairs.ordered (omega arith) (omega arith) (sym c.in-Some.ensures) in
       let at = sym (joint_of-ordered c.args.low c.args.high c.self.inside.joints.entries c.requires.ordered) ∙ sym c.in-Some.ensures in
-      cheapened c.self.inside.joints.entries c.put_cost.new.joints.entries c.args.low c.args.high c.requires.ordered (halves_at c.self.inside.lists.items) c.self.invariant.halves joint c.args.cost (halves_at c.put_half_cost.new.lists.items) (halves_at c.put_half_cost-then-cost-joint.new.lists.items) at c.put_cost.ensures.entries told c.put_half_cost.ensures.here c.put_half_cost.ensures.others c.put_half_cost-then-cost-joint.ensures.here c.put_half_cost-then-cost-joint.ensures.others;
+      cheapened c.self.inside.joints.entries c.put_cost.new.joints.entries c.args.low c.args.high c.requires.ordered (halves_at c.self.inside.lists.items) c.self.invariant.halves joint c.args.cost (halves_at c.put_half_cost.new.lists.items) (halves_at c.put_half_cost-then-cost-joint.new.lists.items) at c.put_cost.ensures.entries known c.put_half_cost.ensures.here c.put_half_cost.ensures.others c.put_half_cost-then-cost-joint.ensures.here c.put_half_cost-then-cost-joint.ensures.others;
 }
 
 pub returns-then-cost-joint-clause-yes : goal.returns-then-cost-joint-clause-yes

@@ -13,33 +13,33 @@ use Rattle.graph_store.proofs.links.Links.remove.Goals as goal
 
 pub detach-requires-clause-place : goal.detach-requires-clause-place
 detach-requires-clause-place c =
-    let told : IsTold c.self.inside.joints.entries c.min.result (max c.args.a c.args.b) c.in-Some.joint = is_told c.self.inside.joints.entries c.args.a c.args.b c.min.result (max c.args.a c.args.b) c.in-Some.joint c.self.invariant.pairs.ordered c.min.ensures refl (sym c.in-Some.ensures.value) in
-    low_within c.self.inside.joints.entries c.take_joint.new.joints.entries c.args.a c.args.b c.min.result (max c.args.a c.args.b) c.in-Some.joint c.min.ensures refl told c.in-Some.ensures.others (halves_at c.self.inside.lists.items) c.self.invariant.halves
+    let known : IsTold c.self.inside.joints.entries c.min.result (max c.args.a c.args.b) c.in-Some.joint = is_told c.self.inside.joints.entries c.args.a c.args.b c.min.result (max c.args.a c.args.b) c.in-Some.joint c.self.invariant.pairs.ordered c.min.ensures refl (sym c.in-Some.ensures.value) in
+    low_within c.self.inside.joints.entries c.take_joint.new.joints.entries c.args.a c.args.b c.min.result (max c.args.a c.args.b) c.in-Some.joint c.min.ensures refl known c.in-Some.ensures.others (halves_at c.self.inside.lists.items) c.self.invariant.halves
 
 pub detach-requires-clause-halves : goal.detach-requires-clause-halves
 detach-requires-clause-halves c =
-    let told : IsTold c.self.inside.joints.entries c.min.result (max c.args.a c.args.b) c.in-Some.joint = is_told c.self.inside.joints.entries c.args.a c.args.b c.min.result (max c.args.a c.args.b) c.in-Some.joint c.self.invariant.pairs.ordered c.min.ensures refl (sym c.in-Some.ensures.value) in
-    low_but c.self.inside.joints.entries c.take_joint.new.joints.entries c.args.a c.args.b c.min.result (max c.args.a c.args.b) c.in-Some.joint c.min.ensures refl told c.in-Some.ensures.others (halves_at c.self.inside.lists.items) c.self.invariant.halves
+    let known : IsTold c.self.inside.joints.entries c.min.result (max c.args.a c.args.b) c.in-Some.joint = is_told c.self.inside.joints.entries c.args.a c.args.b c.min.result (max c.args.a c.args.b) c.in-Some.joint c.self.invariant.pairs.ordered c.min.ensures refl (sym c.in-Some.ensures.value) in
+    low_but c.self.inside.joints.entries c.take_joint.new.joints.entries c.args.a c.args.b c.min.result (max c.args.a c.args.b) c.in-Some.joint c.min.ensures refl known c.in-Some.ensures.others (halves_at c.self.inside.lists.items) c.self.invariant.halves
 
 pub detach-requires-in-Some-clause-place : goal.detach-requires-in-Some-clause-place
 detach-requires-in-Some-clause-place c =
-    let told : IsTold c.self.inside.joints.entries c.min.result c.max.result c.in-Some.joint = is_told c.self.inside.joints.entries c.args.a c.args.b c.min.result c.max.result c.in-Some.joint c.self.invariant.pairs.ordered c.min.ensures c.max.ensures (sym c.in-Some.ensures.value) in
-    let apart : c.max.result ≡ c.min.result → ⊥ = λ e. (let before = told.ordered in omega arith) in
-    rw (c.detach.ensures.other_halves c.max.result apart) (high_within c.self.inside.joints.entries c.take_joint.new.joints.entries c.args.a c.args.b c.min.result c.max.result c.in-Some.joint c.min.ensures c.max.ensures told c.in-Some.ensures.others (halves_at c.self.inside.lists.items) c.self.invariant.halves)
+    let known : IsTold c.self.inside.joints.entries c.min.result c.max.result c.in-Some.joint = is_told c.self.inside.joints.entries c.args.a c.args.b c.min.result c.max.result c.in-Some.joint c.self.invariant.pairs.ordered c.min.ensures c.max.ensures (sym c.in-Some.ensures.value) in
+    let apart : c.max.result ≡ c.min.result → ⊥ = λ e. (let before = known.ordered in omega arith) in
+    rw (c.detach.ensures.other_halves c.max.result apart) (high_within c.self.inside.joints.entries c.take_joint.new.joints.entries c.args.a c.args.b c.min.result c.max.result c.in-Some.joint c.min.ensures c.max.ensures known c.in-Some.ensures.others (halves_at c.self.inside.lists.items) c.self.invariant.halves)
 
 pub detach-requires-in-Some-clause-halves : goal.detach-requires-in-Some-clause-halves
 detach-requires-in-Some-clause-halves c =
-    let told : IsTold c.self.inside.joints.entries c.min.result c.max.result c.in-Some.joint = is_told c.self.inside.joints.entries c.args.a c.args.b c.min.result c.max.result c.in-Some.joint c.self.invariant.pairs.ordered c.min.ensures c.max.ensures (sym c.in-Some.ensures.value) in
-    let apart : c.max.result ≡ c.min.result → ⊥ = λ e. (let before = told.ordered in omega arith) in
-    AreHalvesBut-same c.in-Some.joint.high (halves_at c.self.inside.lists.items c.max.result) (halves_at c.detach.new.lists.items c.max.result) (place_of c.take_joint.new.joints.entries c.max.result) (place_of c.detach.new.joints.entries c.max.result) (c.detach.ensures.other_halves c.max.result apart) (λ w. c.detach.ensures.other_places c.max.result w apart) (high_but c.self.inside.joints.entries c.take_joint.new.joints.entries c.args.a c.args.b c.min.result c.max.result c.in-Some.joint c.min.ensures c.max.ensures told c.in-Some.ensures.others (halves_at c.self.inside.lists.items) c.self.invariant.halves)
+    let known : IsTold c.self.inside.joints.entries c.min.result c.max.result c.in-Some.joint = is_told c.self.inside.joints.entries c.args.a c.args.b c.min.result c.max.result c.in-Some.joint c.self.invariant.pairs.ordered c.min.ensures c.max.ensures (sym c.in-Some.ensures.value) in
+    let apart : c.max.result ≡ c.min.result → ⊥ = λ e. (let before = known.ordered in omega arith) in
+    AreHalvesBut-same c.in-Some.joint.high (halves_at c.self.inside.lists.items c.max.result) (halves_at c.detach.new.lists.items c.max.result) (place_of c.take_joint.new.joints.entries c.max.result) (place_of c.detach.new.joints.entries c.max.result) (c.detach.ensures.other_halves c.max.result apart) (λ w. c.detach.ensures.other_places c.max.result w apart) (high_but c.self.inside.joints.entries c.take_joint.new.joints.entries c.args.a c.args.b c.min.result c.max.result c.in-Some.joint c.min.ensures c.max.ensures known c.in-Some.ensures.others (halves_at c.self.inside.lists.items) c.self.invariant.halves)
 
 pub invariant_of-self : goal.invariant_of-self
 invariant_of-self c = record {
   long = (search rules);
   pairs = c.detach-in-Some.ensures.pairs;
   halves =
-      let told : IsTold c.self.inside.joints.entries c.min.result c.max.result c.in-Some.joint = is_told c.self.inside.joints.entries c.args.a c.args.b c.min.result c.max.result c.in-Some.joint c.self.invariant.pairs.ordered c.min.ensures c.max.ensures (sym c.in-Some.ensures.value) in
-      all_halves c.self.inside.joints.entries c.take_joint.new.joints.entries c.args.a c.args.b c.min.result c.max.result c.in-Some.joint c.min.ensures c.max.ensures told c.in-Some.ensures.others (halves_at c.self.inside.lists.items) c.self.invariant.halves c.detach.new.joints.entries c.detach-in-Some.new.joints.entries (halves_at c.detach.new.lists.items) (halves_at c.detach-in-Some.new.lists.items) c.detach.ensures.halves c.detach-in-Some.ensures.halves c.detach.ensures.other_halves c.detach-in-Some.ensures.other_halves c.detach.ensures.other_places c.detach-in-Some.ensures.other_places;
+      let known : IsTold c.self.inside.joints.entries c.min.result c.max.result c.in-Some.joint = is_told c.self.inside.joints.entries c.args.a c.args.b c.min.result c.max.result c.in-Some.joint c.self.invariant.pairs.ordered c.min.ensures c.max.ensures (sym c.in-Some.ensures.value) in
+      all_halves c.self.inside.joints.entries c.take_joint.new.joints.entries c.args.a c.args.b c.min.result c.max.result c.in-Some.joint c.min.ensures c.max.ensures known c.in-Some.ensures.others (halves_at c.self.inside.lists.items) c.self.invariant.halves c.detach.new.joints.entries c.detach-in-Some.new.joints.entries (halves_at c.detach.new.lists.items) (halves_at c.detach-in-Some.new.lists.items) c.detach.ensures.halves c.detach-in-Some.ensures.halves c.detach.ensures.other_halves c.detach-in-Some.ensures.other_halves c.detach.ensures.other_places c.detach-in-Some.ensures.other_places;
 }
 
 pub returns-in-Some-clause-out : goal.returns-in-Some-clause-out

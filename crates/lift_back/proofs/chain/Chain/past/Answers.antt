@@ -3,7 +3,7 @@ use Rattle.lift_back.specs.declared.chain.Chain.{Chain}
 use Rattle.lift_back.specs.Chains.{AreLed, IsChainOf, arrival_at}
 use Rattle.lift_back.specs.Undoing.{led_past}
 use Rattle.lift_back.proofs.Along.{itself_turned}
-use Rattle.lift_back.proofs.Chaining.{either, led_past-untold, told}
+use Rattle.lift_back.proofs.Chaining.{either, led_past-missing, comes_from}
 use Rattle.lift_back.proofs.chain.Chain.past.Goals as goal
 
 pub returns-then-not-arc_past-clause-chain : goal.returns-then-not-arc_past-clause-chain
@@ -19,5 +19,5 @@ returns-then-not-arc_past-clause-chain c start arcs chain led =
     either c.arc_past-then-not-arc_past.result second.led second.none second.same
     (λ past. past start a b arcs (itself_turned (a, b)) still led_still)
     (λ none same.
-    let untold = led_past-untold c.args.self.now.arrivals.items start c.args.self.now.last v a b arcs chain.leads first.none (subst (λ (x : Chain). (before : ℕ) → arrival_at x.arrivals.items a ≢ told b before) first.same none) in
-    subst (λ (l : List (ℕ × ℕ)). IsChainOf start l new) (sym untold) (subst (IsChainOf start arcs) (sym same) still))
+    let missing = led_past-missing c.args.self.now.arrivals.items start c.args.self.now.last v a b arcs chain.leads first.none (subst (λ (x : Chain). (before : ℕ) → arrival_at x.arrivals.items a ≢ comes_from b before) first.same none) in
+    subst (λ (l : List (ℕ × ℕ)). IsChainOf start l new) (sym missing) (subst (IsChainOf start arcs) (sym same) still))

@@ -10,7 +10,7 @@ use Rattle.reductions.proofs.Starting.{same_but_queue}
 use Rattle.reductions.proofs.Stepping.{not_tried, row_short, went_less, went_work}
 use Rattle.reductions.proofs.work.Work.settle_at.Goals as goal
 
--- the ends were put behind those that wait
+-- the ends were put after those that wait
 pushed : (old new : Work) (queue : Vec ℕ Global) (row : List ℕ) → new.queue ≡ old.queue → queue.items ≡ new.queue.items ++ row → queue.items ≡ old.queue.items ++ row
 pushed old new queue row same is = is ∙ ap (λ (q : Vec ℕ Global). q.items ++ row) same
 

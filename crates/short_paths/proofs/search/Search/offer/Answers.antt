@@ -7,11 +7,11 @@ pub returns-then-is_offered-clause-ok : goal.returns-then-is_offered-clause-ok
 returns-then-is_offered-clause-ok c =
     let mark = c.index-mark.result.now in
     let marks = c.args.self.now.marks.items in
-    let told = offered_from (best_of mark) c.args.cost c.if-is_offered.ensures.yes in
+    let known = offered_from (best_of mark) c.args.cost c.if-is_offered.ensures.yes in
     record {
       places = refl;
       settled = refl;
-      either = inl ((told.0, best_at marks c.args.to mark c.requires c.index-mark.ensures ∙ told.1, told.2), refl, refl);
+      either = inl ((known.0, best_at marks c.args.to mark c.requires c.index-mark.ensures ∙ known.1, known.2), refl, refl);
     }
 
 pub returns-clause-ok : goal.returns-clause-ok

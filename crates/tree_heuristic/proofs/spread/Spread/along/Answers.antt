@@ -17,7 +17,7 @@ reach_along-requires-clause-vertex c =
     let members = c.loop-tail.spread.reached.members in
     let at = sym c.in-Some.ensures.member in
     let there = subst (λ v. IsTrue (has members v)) (get_or_from_slice_get members c.loop-tail.next c.in-Some.tail 0 at) (has_at members c.loop-tail.next 0 (slice_get_within members c.loop-tail.next c.in-Some.tail at)) in
-    in_range c.args.store.now c.in-Some.tail c.vertices.ensures.graph (c.loop-tail.invariant.0.open_only c.in-Some.tail there).present
+    in_range c.args.store.now c.in-Some.tail c.vertices.ensures.graph (c.loop-tail.invariant.0.only_joining c.in-Some.tail there).present
 
 pub loop-tail-smaller : goal.loop-tail-smaller
 loop-tail-smaller c =
