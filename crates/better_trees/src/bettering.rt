@@ -8,10 +8,11 @@ use crate::draws::Draws;
 use crate::effort::Effort;
 use crate::growing::grown;
 use crate::price::Priced;
+use crate::used_up::UsedUp;
 use bidirected_form::Arcs;
 use graph_store::Whole;
 use local_search::{improve, judged};
-use st_model::{Sides, Tree, tree_cost};
+use st_model::{Listed, Sides, Tree, tree_cost};
 use std::alloc::{AllocError, Global};
 use tree_heuristic::{guided_tree, prune};
 
@@ -49,10 +50,11 @@ pub fn used_up_tree(
     ensures tree { IfOk result (λ tree. IfSome tree (IsTree whole.now.instance)) }
     ensures belongs { IfOk result (λ tree. IfSome tree (Belongs branch.now)) }
 {
-    let Some(tree) = grown_along(alloc, whole, branch, arcs, &[])? else {
+    let arcs = UsedUp::of(alloc, &whole.store, arcs)?;
+    let Some(tree) = grown_along(alloc, whole, branch, &arcs, &[])? else {
         return Ok(None);
     };
-    let tree = cheapest_grown(alloc, whole, branch, arcs, tree, effort)?;
+    let tree = cheapest_grown(alloc, whole, branch, &arcs, tree, effort)?;
     Ok(Some(improve(alloc, whole, branch, tree)?))
 }
 
@@ -62,7 +64,7 @@ fn cheapest_grown(
     alloc: Global,
     whole: &Whole,
     branch: &Sides,
-    arcs: &Arcs,
+    arcs: &UsedUp,
     first: Tree,
     effort: Effort,
 ) -> Result<Tree, AllocError>
@@ -75,7 +77,7 @@ fn cheapest_grown(
     let mut draws = Draws::of(effort.seed);
     let mut best = first;
     for _growth in 0..effort.growths() {
-        let weights = draws.weights(alloc, arcs.vertices(), LEAST, MORE)?;
+        let weights = draws.weights(alloc, whole.store.vertices(), LEAST, MORE)?;
         if let Some(tree) = grown_along(alloc, whole, branch, arcs, &weights)? {
             if tree_cost(&whole.instance, &tree) < tree_cost(&whole.instance, &best) {
                 best = tree;
@@ -90,7 +92,7 @@ fn grown_along(
     alloc: Global,
     whole: &Whole,
     branch: &Sides,
-    arcs: &Arcs,
+    arcs: &UsedUp,
     weights: &[u64],
 ) -> Result<Option<Tree>, AllocError>
     requires branch { IsBranch whole.now.instance branch.now }
@@ -120,4 +122,13 @@ pub fn tree_along(
     };
     let tree = prune(alloc, &whole.instance, branch, tree)?;
     Ok(Some(improve(alloc, whole, branch, tree)?))
+}
+
+/// The same arcs once more.
+pub fn copied(alloc: Global, tree: &Tree) -> Result<Tree, AllocError> {
+    let arcs = Vec::from_slice(alloc, tree.arcs.as_slice())?;
+    Ok(Tree {
+        start: tree.start,
+        arcs: Listed::of(arcs),
+    })
 }

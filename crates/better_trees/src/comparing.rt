@@ -42,6 +42,14 @@ pub fn least_after(least: u64, better: &Option<Priced>) -> u64
     }
 }
 
+/// The better tree, if there is one, and else the one known before.
+pub fn tree_of<'a>(known: &'a Tree, better: &'a Option<Priced>) -> &'a Tree {
+    match better {
+        Some(found) => &found.tree,
+        None => known,
+    }
+}
+
 /// Of a better tree and the one found after it, if there is one, the later.
 pub fn later(better: Option<Priced>, more: Option<Priced>) -> Option<Priced>
     ensures { result ≡ later better more }

@@ -1,5 +1,6 @@
 ghost use Rattle.st_model.specs.Arborescence.{IsTree};
 
+use crate::bettering::copied;
 use crate::by_vertex::{at, put};
 use crate::draws::Draws;
 use st_model::{Instance, Tree, tree_cost};
@@ -7,6 +8,9 @@ use std::alloc::{AllocError, Global};
 
 // How many trees are kept.
 const KEPT: usize = 10;
+
+// After how many times in a row that walks came to no cheaper tree there are no more.
+const PATIENCE: u32 = 2;
 
 // What a vertex weighs, in hundredths, that both of two trees reach, that one of them does, and that
 // none does; the second up to so much more.
@@ -16,19 +20,21 @@ const IN_ONE: (u64, u64) = (20, 30);
 
 const IN_NONE: u64 = 200;
 
-// A tree that is kept: its vertices, and what it costs.
+// A tree that is kept, its vertices, and what it costs.
 #[derive(Drop)]
 struct Kept {
+    tree: Tree,
     reached: Vec<bool>,
-    vertices: usize,
     price: u64,
 }
 
-/// Which vertices the cheapest trees reach that were found so far. Nothing is claimed of them: they say
-/// where to look.
+/// The cheapest trees that were found so far, and which vertices they reach. Nothing is claimed of them:
+/// they say where to look.
 #[derive(Drop)]
 pub struct Elite {
     trees: Vec<Kept>,
+    // How many times in a row walks from there came to no cheaper tree.
+    idle: u32,
 }
 
 impl Elite {
@@ -36,7 +42,22 @@ impl Elite {
     pub fn new(alloc: Global) -> Elite {
         Elite {
             trees: Vec::new(alloc),
+            idle: 0,
         }
+    }
+
+    /// Whether walks from these trees are worth their time.
+    pub fn is_worth_walks(&self) -> bool {
+        self.idle < PATIENCE
+    }
+
+    /// Tells whether walks came to a cheaper tree.
+    pub fn walked(&mut self, has_gained: bool) {
+        self.idle = if has_gained {
+            0
+        } else {
+            self.idle.saturating_add(1)
+        };
     }
 
     /// How many trees are kept.
@@ -44,7 +65,8 @@ impl Elite {
         self.trees.len()
     }
 
-    /// Keeps a tree, in place of the dearest one where there are enough; not one like another.
+    /// Keeps a tree, in place of the dearest one that costs no less where there are enough; not one like
+    /// another.
     pub fn keep(
         &mut self,
         alloc: Global,
@@ -63,7 +85,7 @@ impl Elite {
         }
         let dearest = self.dearest();
         if let Some(kept) = self.trees.get_mut(dearest) {
-            if new.price < kept.price {
+            if new.price <= kept.price {
                 *kept = new;
             }
         }
@@ -81,6 +103,28 @@ impl Elite {
             }
         }
         dearest
+    }
+
+    /// One of the cheapest trees that is drawn, if there are any that cost no more than a price.
+    pub fn cheapest(&self, price: u64, draws: &mut Draws) -> Option<&Tree> {
+        let mut found = None;
+        let mut least = price;
+        let mut count: u64 = 0;
+        for kept in self.trees.iter() {
+            if kept.price > least {
+                continue;
+            }
+            count = if kept.price < least {
+                1
+            } else {
+                count.saturating_add(1)
+            };
+            least = kept.price;
+            if draws.below(count) == 0 {
+                found = Some(&kept.tree);
+            }
+        }
+        found
     }
 
     /// By vertex, weights for which paths keep to two of the trees that are drawn.
@@ -124,14 +168,14 @@ impl Kept {
             put(&mut reached, *head, true);
         }
         Ok(Kept {
+            tree: copied(alloc, tree)?,
             reached,
-            vertices: tree.arcs.as_slice().len(),
             price: tree_cost(instance, tree),
         })
     }
 
-    // Whether a tree costs the same and has as many vertices.
+    // Whether a tree costs the same and reaches the same vertices.
     fn is_like(&self, other: &Kept) -> bool {
-        self.price == other.price && self.vertices == other.vertices
+        self.price == other.price && self.reached.as_slice() == other.reached.as_slice()
     }
 }

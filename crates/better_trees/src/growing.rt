@@ -1,5 +1,5 @@
 use crate::by_vertex::{at, put};
-use bidirected_form::Arcs;
+use crate::used_up::UsedUp;
 use graph_store::Whole;
 use st_model::{Listed, Sides, Tree};
 use std::alloc::{AllocError, Global};
@@ -9,7 +9,7 @@ use std::collections::BinaryHeap;
 // What a vertex weighs without a weight, in hundredths.
 const ONE: u64 = 100;
 
-// A tree that grows from a root over arcs with nothing left, by one cheap path after another. Nothing is
+// A tree that grows from a root over used-up arcs, by one cheap path after another. Nothing is
 // claimed of it: the tree is judged.
 #[derive(Drop)]
 struct Growth {
@@ -25,18 +25,18 @@ struct Growth {
     arcs: Vec<(u32, u32)>,
 }
 
-/// A tree from the root over arcs with nothing left, to all that it has to reach, as far as these lead
-/// there, and to whoever pays more than it costs to reach. The cost of an arc is weighted by its head, in
-/// hundredths; a vertex past the weights weighs 100. (Wong 1984)
+/// A tree from the root over used-up arcs, to all that it has to reach, as far as these lead there, and
+/// to whoever pays more than it costs to reach. The cost of an arc is weighted by its head, in hundredths; a
+/// vertex past the weights weighs 100. (Wong 1984)
 pub fn grown(
     alloc: Global,
     whole: &Whole,
     branch: &Sides,
-    arcs: &Arcs,
+    arcs: &UsedUp,
     weights: &[u64],
 ) -> Result<Tree, AllocError> {
-    let root = arcs.root();
-    let mut growth = Growth::at(alloc, arcs.vertices(), root)?;
+    let root = arcs.root;
+    let mut growth = Growth::at(alloc, whole.store.vertices(), root)?;
     for _offer in 0..u64::MAX {
         let Some(Reverse((cost, vertex))) = growth.offers.pop() else {
             break;
@@ -81,7 +81,7 @@ impl Growth {
         &mut self,
         whole: &Whole,
         branch: &Sides,
-        arcs: &Arcs,
+        arcs: &UsedUp,
         weights: &[u64],
         cost: u64,
         vertex: u32,
@@ -92,7 +92,7 @@ impl Growth {
         if !at(&self.joined, vertex, true) && is_worth(whole, branch, vertex, cost) {
             return self.join(vertex);
         }
-        self.expand(whole, arcs, weights, cost, vertex)
+        self.expand(arcs, weights, cost, vertex)
     }
 
     // The path to a vertex joins the tree: its vertices are offered at no cost.
@@ -115,20 +115,16 @@ impl Growth {
         Ok(())
     }
 
-    // Offers each vertex to which an arc with nothing left leads what it costs by there.
+    // Offers each vertex to which a used-up arc leads what it costs by there.
     fn expand(
         &mut self,
-        whole: &Whole,
-        arcs: &Arcs,
+        arcs: &UsedUp,
         weights: &[u64],
         cost: u64,
         tail: u32,
     ) -> Result<(), AllocError> {
-        if tail < 1 || whole.store.vertices() < tail {
-            return Ok(());
-        }
-        for half in whole.store.neighbours(tail) {
-            if !at(&self.joined, half.to, true) && arcs.remaining(tail, half.to) == Some(0) {
+        for half in arcs.from(tail) {
+            if !at(&self.joined, half.to, true) {
                 let weighted = half.cost.saturating_mul(at(weights, half.to, ONE));
                 self.offer(half.to, tail, cost.saturating_add(weighted))?;
             }

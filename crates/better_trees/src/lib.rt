@@ -1,7 +1,7 @@
 //! Looks for trees of a branch that cost less than the cheapest one known: over arcs with nothing left,
-//! and along weights that are drawn, several side by side. Of a tree that is answered callers may rely on
-//! that it is one of the branch and costs less; nothing is claimed of whether one is found, and what is drawn is
-//! the same for the same seed.
+//! along weights that are drawn, and on walks over trees that cost the same, several side by side. Of a
+//! tree that is answered callers may rely on that it is one of the branch and costs less; nothing is claimed
+//! of whether one is found, and what is drawn is the same for the same seed.
 #![tactic(auto)]
 
 mod bettering;
@@ -20,9 +20,12 @@ mod sampling;
 #[cfg(test)]
 mod tests;
 mod trees;
+mod used_up;
+mod walk;
+mod wandering;
 
 pub use bettering::better_tree;
-pub use comparing::{gap, later, least_after, priced};
+pub use comparing::{gap, later, least_after, priced, tree_of};
 pub use distances::near_root;
 pub use draws::Draws;
 pub use effort::Effort;

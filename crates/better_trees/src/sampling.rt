@@ -5,7 +5,7 @@ ghost use Rattle.better_trees.specs.Better.{IsBetter};
 
 use crate::by_vertex::{at, put};
 use crate::comparing::{later, least_after, priced};
-use crate::draft::{Draft, grow_all};
+use crate::draft::{Draft, Source, grow_all};
 use crate::draws::Draws;
 use crate::effort::Effort;
 use crate::elite::Elite;
@@ -62,16 +62,15 @@ pub fn drawn_tree<R: Threads + Sync>(
         if bound >= u128::from(known) {
             return Ok(best);
         }
-        let mut drafts = new_drafts(alloc, count, is_between, arcs, elite, &mut draws)?;
-        grow_all(rt, alloc, whole, branch, drafts.as_mut_slice(), threads);
-        let found = best_of(alloc, whole, branch, drafts, elite, known)?;
+        let drafts = new_drafts(alloc, count, is_between, arcs, elite, &mut draws)?;
+        let found = best_grown(rt, alloc, whole, branch, drafts, threads, elite, known)?;
         best = later(best, found);
     }
     Ok(best)
 }
 
-// How many vertices aren't outside.
-fn open_vertices(instance: &Instance, branch: &Sides) -> u64 {
+/// How many vertices aren't outside.
+pub fn open_vertices(instance: &Instance, branch: &Sides) -> u64 {
     let outside = branch.branch().outside.as_slice().len() as u64;
     u64::from(instance.vertices()).saturating_sub(outside)
 }
@@ -100,9 +99,29 @@ fn new_drafts(
         } else {
             draws.weights(alloc, arcs.vertices(), DRAWN.0, DRAWN.1)?
         };
-        drafts.push(Draft::of(weights))?;
+        drafts.push(Draft::of(Source::Weights(weights)))?;
     }
     Ok(drafts)
+}
+
+/// The cheapest tree that comes of drafts, in so many threads, if it costs less than the least cost known.
+pub fn best_grown<R: Threads + Sync>(
+    rt: &R,
+    alloc: Global,
+    whole: &Whole,
+    branch: &Sides,
+    drafts: Vec<Draft>,
+    threads: usize,
+    elite: &mut Elite,
+    least: u64,
+) -> Result<Option<Priced>, AllocError>
+    requires branch { IsBranch whole.now.instance branch.now }
+    ensures { IfOk result (λ better. IfSome better (IsBetter whole.now.instance branch.now least)) }
+{
+    let mut grown = drafts;
+    grow_all(rt, alloc, whole, branch, grown.as_mut_slice(), threads);
+    let found = best_of(alloc, whole, branch, grown, elite, least)?;
+    Ok(found)
 }
 
 // The cheapest tree of the drafts, if it costs less than the least cost known.

@@ -33,7 +33,7 @@ fn bare(alloc: Global) -> Packing {
 }
 
 // A tree of these arcs from 1.
-fn tree_of(alloc: Global, arcs: &[(u32, u32)]) -> Result<Tree, AllocError> {
+fn tree_over(alloc: Global, arcs: &[(u32, u32)]) -> Result<Tree, AllocError> {
     Ok(Tree {
         start: 1,
         arcs: Listed::of(Vec::from_slice(alloc, arcs)?),
@@ -52,7 +52,7 @@ fn price_beside<R: Threads + Sync>(
 {
     let branch = all(alloc)?;
     let arcs = Arcs::of(alloc, &whole.store, &branch, 1)?;
-    let known = tree_of(alloc, &[(1, 2), (2, 3)])?;
+    let known = tree_over(alloc, &[(1, 2), (2, 3)])?;
     let effort = Effort::at(branch.branch(), true, threads);
     let mut elite = Elite::new(alloc);
     let packing = bare(alloc);
@@ -136,9 +136,12 @@ fn measures_from_the_root(rt: HostRuntime) -> Result<(), Fail> {
 fn counts_where_trees_branch(rt: HostRuntime) -> Result<(), Fail> {
     let instance = triangle_with_centre(rt.alloc(), 4)?;
     let mut joints = Joints::of_none(rt.alloc(), &instance)?;
-    joints.count(rt.alloc(), &tree_of(rt.alloc(), &[(1, 2), (2, 3)])?)?;
+    joints.count(rt.alloc(), &tree_over(rt.alloc(), &[(1, 2), (2, 3)])?)?;
     assert_eq!(rt; (joints.at(2), joints.at(4)), (0, 0));
-    joints.count(rt.alloc(), &tree_of(rt.alloc(), &[(1, 4), (4, 2), (4, 3)])?)?;
+    joints.count(
+        rt.alloc(),
+        &tree_over(rt.alloc(), &[(1, 4), (4, 2), (4, 3)])?,
+    )?;
     assert_eq!(rt; (joints.at(2), joints.at(4)), (0, 3));
     Ok(())
 }

@@ -4,7 +4,7 @@ ghost use Rattle.better_trees.specs.Part.{IsPartOf};
 ghost use Rattle.better_trees.specs.Better.{IsBetter};
 
 use crate::bettering::used_up_tree;
-use crate::comparing::{cheaper, gap, later, least_after};
+use crate::comparing::{cheaper, gap, later, least_after, tree_of};
 use crate::distances::near_root;
 use crate::effort::Effort;
 use crate::elite::Elite;
@@ -12,12 +12,16 @@ use crate::joints::Joints;
 use crate::narrowing::narrowed;
 use crate::price::Priced;
 use crate::sampling::drawn_tree;
+use crate::wandering::wandered_tree;
 use bidirected_form::Arcs;
 use cut_packing::{Packing, weight};
 use graph_store::Whole;
 use st_model::{Sides, Tree};
 use std::alloc::{AllocError, Global};
 use std::thread::Threads;
+
+// Walks are among vertices that are nearer to the root than this part of what is left.
+const WALKED: u64 = 4;
 
 /// What the trees tell that were found at a node: one that is cheaper than the least cost known, if
 /// there is one, and where trees branch.
@@ -60,7 +64,44 @@ pub fn trees_at<R: Threads + Sync>(
     let better = or_drawn(
         rt, alloc, whole, branch, packing, arcs, elite, better, least, effort,
     )?;
+    let better = or_wandered(
+        rt, alloc, whole, branch, packing, arcs, known, elite, better, least, effort,
+    )?;
     Ok(Trees { better, joints })
+}
+
+// A tree that walks come to, where it is cheaper than a better tree that was found, and else that one.
+#[tactic(auto, using(crate::proofs::Found::found_later))]
+fn or_wandered<R: Threads + Sync>(
+    rt: &R,
+    alloc: Global,
+    whole: &Whole,
+    branch: &Sides,
+    packing: &Packing,
+    arcs: &Arcs,
+    known: &Tree,
+    elite: &mut Elite,
+    better: Option<Priced>,
+    least: u64,
+    effort: Effort,
+) -> Result<Option<Priced>, AllocError>
+    requires branch { IsBranch whole.now.instance branch.now }
+    requires better { IfSome better (IsBetter whole.now.instance branch.now least) }
+    ensures { IfOk result (λ found. IfSome found (IsBetter whole.now.instance branch.now least)) }
+{
+    let bound = weight(&whole.instance, branch.branch(), packing);
+    let price = least_after(least, &better);
+    if bound >= u128::from(price) || !elite.is_worth_walks() {
+        return Ok(better);
+    }
+    let below = gap(&whole.instance, branch, packing, price);
+    let near = near_root(alloc, arcs, 1 + below / WALKED)?;
+    let tree = tree_of(known, &better);
+    let found = wandered_tree(
+        rt, alloc, whole, branch, &near, tree, elite, effort, price, bound,
+    )?;
+    elite.walked(found.is_some());
+    Ok(later(better, found))
 }
 
 // A tree that is drawn, where it is cheaper than a better tree that was found, and else that one. None

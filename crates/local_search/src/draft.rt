@@ -103,6 +103,12 @@ impl Draft {
         self.seats.at(vertex).degree
     }
 
+    // The next vertex towards the root, and what the link there costs; 0 at the top of a part.
+    pub fn up(&self, vertex: u32) -> (u32, u64) {
+        let seat = self.seats.at(vertex);
+        (seat.up, seat.cost)
+    }
+
     // Whether a vertex is linked with the next one towards the root.
     pub fn is_below(&self, vertex: u32, above: u32) -> bool {
         let seat = self.seats.at(vertex);
@@ -345,7 +351,7 @@ impl Draft {
     }
 
     // A vertex that is linked with this one and farther from the root; 0 where there is none.
-    fn below(&self, ground: &Ground, vertex: u32) -> u32 {
+    pub fn below(&self, ground: &Ground, vertex: u32) -> u32 {
         for half in ground.neighbours(vertex) {
             if self.is_below(half.to, vertex) {
                 return half.to;

@@ -1,7 +1,9 @@
+use crate::bounds::Bounds;
 use crate::by_vertex::ByVertex;
 use crate::draft::Draft;
 use crate::ground::Ground;
 use crate::joins::Joins;
+use crate::key_paths::{may_exchange, may_take_out};
 use crate::search::{Bridge, Search};
 use st_model::Tree;
 use std::alloc::{AllocError, Global};
@@ -42,12 +44,14 @@ pub fn with_all_worth(
     Ok(Some(exchange.draft.tree(alloc, ground)?))
 }
 
-// A tree that is changed by ways that are searched for.
+// A tree that is changed by ways that are searched for, and what ways cost at least as it was at the
+// beginning of a pass.
 #[derive(Drop)]
 struct Exchange {
     alloc: Global,
     draft: Draft,
     search: Search,
+    bounds: Bounds,
 }
 
 impl Exchange {
@@ -56,11 +60,14 @@ impl Exchange {
             alloc,
             draft: Draft::of(alloc, ground, tree)?,
             search: Search::new(alloc, ground)?,
+            bounds: Bounds::none(alloc)?,
         })
     }
 
     // Tries each vertex once; whether the tree is cheaper now.
     fn try_all(&mut self, ground: &Ground) -> Result<bool, AllocError> {
+        let tree = self.draft.tree(self.alloc, ground)?;
+        self.bounds = Bounds::of(self.alloc, ground, &tree)?;
         let mut gains = false;
         for before in 0..ground.vertices() {
             if self.try_at(ground, before + 1)? {
@@ -112,6 +119,9 @@ impl Exchange {
 
     // Joins all below a key vertex with the rest by another path.
     fn exchange_path(&mut self, ground: &Ground, vertex: u32) -> Result<bool, AllocError> {
+        if !may_exchange(ground, &self.draft, &self.bounds, vertex) {
+            return Ok(false);
+        }
         self.draft.drop_above(ground, vertex)?;
         self.search.begin();
         self.search.add_part(ground, &self.draft, vertex)?;
@@ -120,6 +130,9 @@ impl Exchange {
 
     // Takes a key vertex out with all its key paths.
     fn take_out(&mut self, ground: &Ground, vertex: u32) -> Result<bool, AllocError> {
+        if !may_take_out(ground, &self.draft, &self.bounds, vertex) {
+            return Ok(false);
+        }
         if self.draft.is_root(vertex) {
             let below = self.draft.key_below(ground, vertex);
             self.draft.root_at(below)?;

@@ -1,51 +1,78 @@
 use crate::by_vertex::ByVertex;
+use crate::noise::Noise;
 use graph_store::{Half, Store};
 use st_model::{Need, Sides};
 use std::alloc::{AllocError, Global};
 
-// The graph that a tree is changed in, and the branch that it is to stay in.
+// The graph that a tree is changed in, the branch that it is to stay in, and the noise on what links cost.
 #[derive(Drop)]
 pub struct Ground<'a> {
-    pub store: &'a Store,
-    pub branch: &'a Sides,
-    // The links to vertices that a tree may reach, vertex by vertex, the cheapest first, and where those of
-    // each vertex begin and end.
-    open: Vec<Half>,
-    places: ByVertex<(usize, usize)>,
+    store: &'a Store,
+    branch: &'a Sides,
+    noise: Noise,
+    // The links, vertex by vertex: first those to vertices that a tree may reach, the cheapest first.
+    links: Vec<Half>,
+    spans: ByVertex<Span>,
 }
+
+// Where the links of a vertex begin, where those end that lead to vertices that a tree may reach, and
+// where all end.
+#[derive(Clone, Copy)]
+struct Span {
+    begin: usize,
+    open: usize,
+    end: usize,
+}
+
+const NO_LINKS: Span = Span {
+    begin: 0,
+    open: 0,
+    end: 0,
+};
 
 impl<'a> Ground<'a> {
     pub fn of(
         alloc: Global,
         store: &'a Store,
         branch: &'a Sides,
+        noise: Noise,
     ) -> Result<Ground<'a>, AllocError> {
         let mut ground = Ground {
             store,
             branch,
-            open: Vec::new(alloc),
-            places: ByVertex::new(alloc, store.vertices() as usize + 1, (0, 0))?,
+            noise,
+            links: Vec::new(alloc),
+            spans: ByVertex::new(alloc, store.vertices() as usize + 1, NO_LINKS)?,
         };
         for before in 0..store.vertices() {
-            ground.open_links(alloc, before + 1)?;
+            ground.add(alloc, before + 1)?;
         }
         Ok(ground)
     }
 
-    // Adds the open links of a vertex.
-    fn open_links(&mut self, alloc: Global, vertex: u32) -> Result<(), AllocError> {
-        let begin = self.open.len();
-        for half in links_of(self.store, vertex) {
-            if !self.branch.is_outside(half.to) {
-                self.open.push(*half)?;
-            }
-        }
-        let end = self.open.len();
-        self.places.put(vertex, (begin, end));
-        match self.open.as_mut_slice().get_mut(begin..) {
+    // Adds the links of the next vertex.
+    fn add(&mut self, alloc: Global, vertex: u32) -> Result<(), AllocError> {
+        let begin = self.links.len();
+        self.add_some(vertex, true)?;
+        let open = self.links.len();
+        self.add_some(vertex, false)?;
+        let end = self.links.len();
+        self.spans.put(vertex, Span { begin, open, end });
+        match self.links.as_mut_slice().get_mut(begin..open) {
             Some(links) => links.sort_by_key(alloc, |half: &Half| half.cost),
             None => Ok(()),
         }
+    }
+
+    // Adds the links of a vertex to those that a tree may reach, or to the others.
+    fn add_some(&mut self, vertex: u32, are_open: bool) -> Result<(), AllocError> {
+        for half in links_of(self.store, vertex) {
+            if self.is_open(half.to) == are_open {
+                let cost = self.noise.cost(vertex, half.to, half.cost);
+                self.links.push(Half { to: half.to, cost })?;
+            }
+        }
+        Ok(())
     }
 }
 
@@ -61,18 +88,24 @@ impl Ground<'_> {
 
     // The links of a vertex.
     pub fn neighbours(&self, vertex: u32) -> &[Half] {
-        links_of(self.store, vertex)
+        let span = self.spans.at(vertex);
+        let links = self.links.as_slice().get(span.begin..span.end);
+        links.unwrap_or(&[])
     }
 
     // The links of a vertex to those that a tree may reach, the cheapest first.
     pub fn open_neighbours(&self, vertex: u32) -> &[Half] {
-        let (begin, end) = self.places.at(vertex);
-        self.open.as_slice().get(begin..end).unwrap_or(&[])
+        let span = self.spans.at(vertex);
+        let links = self.links.as_slice().get(span.begin..span.open);
+        links.unwrap_or(&[])
     }
 
     // What the link between two vertices costs; nothing where there is none.
     pub fn link_cost(&self, a: u32, b: u32) -> u64 {
-        self.store.link_cost(a, b).unwrap_or(0)
+        match self.store.link_cost(a, b) {
+            Some(cost) => self.noise.cost(a, b, cost),
+            None => 0,
+        }
     }
 
     // Whether a tree may reach a vertex.
@@ -86,7 +119,7 @@ impl Ground<'_> {
             return 0;
         }
         match self.store.need(vertex) {
-            Need::Pays(prize) if !self.branch.is_inside(vertex) => prize,
+            Need::Pays(prize) if !self.branch.is_inside(vertex) => self.noise.scaled(prize),
             _ => u64::MAX,
         }
     }

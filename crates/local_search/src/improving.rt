@@ -8,6 +8,7 @@ use crate::exchanging::{with_all_worth, with_exchanges};
 use crate::ground::Ground;
 use crate::inserting::with_more;
 use crate::judging::cheaper;
+use crate::noise::Noise;
 use crate::spanning::spanning_tree;
 use graph_store::Whole;
 use st_model::{Sides, Tree, tree_cost};
@@ -26,7 +27,7 @@ pub fn improve(alloc: Global, whole: &Whole, branch: &Sides, tree: Tree) -> Resu
     ensures belongs { IfOk result (Belongs branch.now) }
     ensures cost { IfOk result (λ new. cost whole.now.instance new ≤ cost whole.now.instance tree) }
 {
-    let ground = Ground::of(alloc, &whole.store, branch)?;
+    let ground = Ground::of(alloc, &whole.store, branch, Noise::none())?;
     let mut best = moved(alloc, whole, branch, &ground, tree)?;
     for _round in 0..ROUNDS {
         let before = tree_cost(&whole.instance, &best);

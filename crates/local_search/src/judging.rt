@@ -28,6 +28,29 @@ pub fn cheaper(
     }
 }
 
+// The other tree where it is a tree of the branch and costs no more, and else the first one.
+pub fn no_dearer(
+    alloc: Global,
+    instance: &Instance,
+    branch: &Sides,
+    tree: Tree,
+    other: Tree,
+) -> Result<Tree, AllocError>
+    requires branch { IsBranch instance.now branch.now }
+    requires tree { IsTree instance.now tree }
+    requires belongs { Belongs branch.now tree }
+    ensures { IfOk result (IsNoDearer instance.now branch.now tree) }
+{
+    let Some(other) = judged(alloc, instance, branch, other)? else {
+        return Ok(tree);
+    };
+    if tree_cost(instance, &other) <= tree_cost(instance, &tree) {
+        Ok(other)
+    } else {
+        Ok(tree)
+    }
+}
+
 // Whether the other one is a tree of the branch and costs less.
 fn is_better(
     alloc: Global,

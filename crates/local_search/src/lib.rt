@@ -3,10 +3,13 @@
 //! `improve` changes a tree of a branch by moves until none of them gains: the least spanning tree
 //! of what is reached, branches that aren't worth their links taken off, vertices put in, key
 //! paths exchanged, and key vertices taken out (Uchoa and Werneck 2010, Fast local search for
-//! Steiner trees in graphs). A caller may rely on what comes out: a tree of the branch that costs
-//! no more. A tree that was found elsewhere is judged by `judged`. Which moves are tried, and in which order, is free: what they lay out is judged.
+//! Steiner trees in graphs), but for moves of which bounds show that they gain nothing. A caller may rely
+//! on what comes out: a tree of the branch that costs no more. `wander` moves on among trees that cost
+//! the same before it improves one, and owes the same. A tree that was found elsewhere is judged by
+//! `judged`. Which moves are tried, and in which order, is free: what they lay out is judged.
 #![tactic(auto)]
 
+mod bounds;
 mod branches;
 mod by_vertex;
 mod draft;
@@ -16,10 +19,15 @@ mod improving;
 mod inserting;
 mod joins;
 mod judging;
+mod key_paths;
+mod noise;
+mod regions;
 mod search;
 mod spanning;
 #[cfg(test)]
 mod tests;
+mod wandering;
 
 pub use improving::improve;
 pub use judging::judged;
+pub use wandering::wander;

@@ -7,8 +7,10 @@ use std::alloc::{AllocError, Global};
 use std::test::Fail;
 use test_instances::{link, triangle_with_centre};
 
+mod bounds;
 mod brute_force;
 mod drawn;
+mod noise;
 
 // What is left of a tree costs once it is improved, and u64::MAX where the arcs are no tree.
 fn improved_cost(

@@ -5,7 +5,9 @@ ghost use Rattle.worker_loop.specs.Raising.{IsExtendable, IsExtendedTo, IsRaised
 
 use crate::raising::raise;
 use crate::refining::{Guide, refine};
-use better_trees::{Effort, Elite, Joints, Priced, Trees, gap, later, least_after, trees_at};
+use better_trees::{
+    Effort, Elite, Joints, Priced, Trees, gap, later, least_after, tree_of, trees_at,
+};
 use cut_packing::Packing;
 use dual_ascent::Extension;
 use graph_store::Whole;
@@ -170,12 +172,4 @@ fn refined<R: Threads + Sync>(
         &mut guide,
     )?;
     Ok(refined)
-}
-
-/// The better tree, if there is one, and else the one known before.
-pub fn tree_of<'a>(known: &'a Tree, better: &'a Option<Priced>) -> &'a Tree {
-    match better {
-        Some(found) => &found.tree,
-        None => known,
-    }
 }

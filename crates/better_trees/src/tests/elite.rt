@@ -24,6 +24,11 @@ fn keep(
     Ok(())
 }
 
+// How many arcs a tree has, if there is one.
+fn arcs_of(tree: Option<&Tree>) -> Option<usize> {
+    Some(tree?.arcs.as_slice().len())
+}
+
 // Two trees over the sides cost the same and reach as much, so the second isn't kept; one over the
 // centre costs something else.
 #[test]
@@ -38,5 +43,19 @@ fn keeps_trees_that_differ(rt: HostRuntime) -> Result<(), Fail> {
     assert!(rt; weights.as_slice() == [200, 10, 10, 10, 200].as_slice());
     keep(alloc, &mut elite, &instance, &[(1, 4), (4, 2), (4, 3)])?;
     assert_eq!(rt; elite.len(), 2);
+    let draws = &mut Draws::of(1);
+    assert_eq!(rt; arcs_of(elite.cheapest(8, draws)), Some(3));
+    assert_eq!(rt; arcs_of(elite.cheapest(5, draws)), None);
+    Ok(())
+}
+
+// After two times without a gain there are no more walks, until there is one.
+#[test]
+fn loses_patience_with_walks(rt: HostRuntime) -> Result<(), Fail> {
+    let mut elite = Elite::new(rt.alloc());
+    for (has_gained, more) in [(false, true), (true, true), (false, true), (false, false)] {
+        elite.walked(has_gained);
+        assert_eq!(rt; elite.is_worth_walks(), more);
+    }
     Ok(())
 }

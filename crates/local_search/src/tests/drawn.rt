@@ -4,7 +4,7 @@ ghost use Rattle.st_model.specs.Branch.{Belongs, IsBranch};
 ghost use Rattle.st_model.specs.Network.{IsVertex};
 
 use super::brute_force::least_over_sets;
-use crate::improve;
+use crate::{improve, wander};
 use graph_store::Whole;
 use st_model::{Branch, Instance, Sides, Tree, is_tree, tree_cost};
 use std::alloc::{AllocError, Global};
@@ -25,17 +25,18 @@ fn sides(alloc: Global, instance: &Instance, inside: u32, outside: u32) -> Resul
     Ok(sides)
 }
 
-// What trees of a drawn branch cost: the first one, it improved, and the cheapest one; and whether
-// what is improved is a tree of the branch.
+// What trees of a drawn branch cost: the first one, it improved, what a walk from there comes to, and the
+// cheapest one; and whether what the walk comes to is a tree of the branch.
 #[derive(Drop)]
 struct Costs {
     first: u64,
     better: u64,
+    walked: u64,
     least: u64,
     holds: bool,
 }
 
-// Improves the first tree of the branch that reaches vertex 2 and not vertex 5.
+// Improves the first tree of the branch that reaches vertex 2 and not vertex 5, and walks on from there.
 fn improved(
     alloc: Global,
     whole: &Whole,
@@ -50,10 +51,13 @@ fn improved(
     let first = tree_cost(&whole.instance, &tree);
     let tree = improve(alloc, whole, branch, tree)?;
     let better = tree_cost(&whole.instance, &tree);
+    let tree = wander(alloc, whole, branch, tree, 7, 4)?;
+    let walked = tree_cost(&whole.instance, &tree);
     let grows = is_tree(alloc, &whole.instance, &tree)?;
     Ok(Costs {
         first,
         better,
+        walked,
         least,
         holds: grows && reaches(&tree, 2) && !reaches(&tree, 5),
     })
@@ -80,9 +84,9 @@ fn drawn_costs(alloc: Global, seed: u64) -> Result<Option<Costs>, AllocError> {
     Ok(Some(costs))
 }
 
-// Of drawn branches, how many have a tree, in how many of these what is improved is a tree that
-// costs no more than the first one and no less than the cheapest one, and in how many it is
-// cheapest.
+// Of drawn branches, how many have a tree, in how many of these what is improved costs no more than the
+// first one, and what is walked to no more than that and no less than the cheapest one, and in how many what is
+// improved is cheapest.
 #[derive(Drop)]
 struct Tally {
     trees: u32,
@@ -93,7 +97,8 @@ struct Tally {
 impl Tally {
     fn count(&mut self, costs: &Costs) {
         self.trees = self.trees.saturating_add(1);
-        if costs.holds && costs.better <= costs.first && costs.least <= costs.better {
+        let (better, walked) = (costs.better, costs.walked);
+        if costs.holds && better <= costs.first && walked <= better && costs.least <= walked {
             self.sound = self.sound.saturating_add(1);
         }
         if costs.better == costs.least {
