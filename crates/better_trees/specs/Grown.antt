@@ -1,4 +1,4 @@
--- Trees that are grown along weights. Helpers' clauses cite this, and no public one.
+-- Trees that come of drafts: grown along weights, or where a walk ends. Helpers' clauses cite this, and no public one.
 use Rattle.std.specs.Prelude.{IfOk, IfSome}
 use Rattle.st_model.specs.declared.branch.Branch.{Branch}
 use Rattle.st_model.specs.Arborescence.{IsTree}

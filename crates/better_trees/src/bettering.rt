@@ -11,7 +11,7 @@ use crate::price::Priced;
 use crate::used_up::UsedUp;
 use bidirected_form::Arcs;
 use graph_store::Whole;
-use local_search::{improve, judged};
+use local_search::{judged, wander};
 use st_model::{Listed, Sides, Tree, tree_cost};
 use std::alloc::{AllocError, Global};
 use tree_heuristic::{guided_tree, prune};
@@ -20,6 +20,9 @@ use tree_heuristic::{guided_tree, prune};
 const LEAST: u64 = 50;
 
 const MORE: u64 = 100;
+
+// How many steps a walk from a drawn tree has.
+const STEPS: u64 = 4;
 
 /// A tree of the branch that costs less than the least cost known, if `used_up_tree` is one.
 pub fn better_tree(
@@ -37,8 +40,8 @@ pub fn better_tree(
     Ok(cheaper(&whole.instance, tree, least))
 }
 
-/// A tree of the branch over arcs with nothing left, if there is one: the cheapest of some that grow,
-/// improved.
+/// A tree of the branch over arcs with nothing left, if there is one: the cheapest of some that grow, led on by a
+/// walk and improved.
 pub fn used_up_tree(
     alloc: Global,
     whole: &Whole,
@@ -55,7 +58,8 @@ pub fn used_up_tree(
         return Ok(None);
     };
     let tree = cheapest_grown(alloc, whole, branch, &arcs, tree, effort)?;
-    Ok(Some(improve(alloc, whole, branch, tree)?))
+    let tree = wander(alloc, whole, branch, tree, effort.seed, effort.steps())?;
+    Ok(Some(tree))
 }
 
 // The cheapest of a tree and of some that grow along weights that are drawn. What is left of a best packing
@@ -106,12 +110,14 @@ fn grown_along(
     Ok(Some(prune(alloc, &whole.instance, branch, tree)?))
 }
 
-/// A tree of the branch, if one is found: a first tree along weighted costs, pruned and improved.
+/// A tree of the branch, if one is found: a first tree along weighted costs, pruned, led on by a walk and
+/// improved.
 pub fn tree_along(
     alloc: Global,
     whole: &Whole,
     branch: &Sides,
     weights: &[u64],
+    seed: u64,
 ) -> Result<Option<Tree>, AllocError>
     requires branch { IsBranch whole.now.instance branch.now }
     ensures tree { IfOk result (λ tree. IfSome tree (IsTree whole.now.instance)) }
@@ -121,7 +127,8 @@ pub fn tree_along(
         return Ok(None);
     };
     let tree = prune(alloc, &whole.instance, branch, tree)?;
-    Ok(Some(improve(alloc, whole, branch, tree)?))
+    let tree = wander(alloc, whole, branch, tree, seed, STEPS)?;
+    Ok(Some(tree))
 }
 
 /// The same arcs once more.

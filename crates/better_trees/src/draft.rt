@@ -18,18 +18,20 @@ pub enum Source {
     Walk(Walk),
 }
 
-/// A source, and the tree that came of it, if one did.
+/// A source, what is drawn on the way from there, and the tree that came of it, if one did.
 #[derive(Drop)]
 pub struct Draft {
     source: Source,
+    seed: u64,
     pub tree: Result<Option<Tree>, AllocError>,
 }
 
 impl Draft {
     /// A source of which nothing came yet.
-    pub fn of(source: Source) -> Draft {
+    pub fn of(source: Source, seed: u64) -> Draft {
         Draft {
             source,
+            seed,
             tree: Ok(None),
         }
     }
@@ -40,8 +42,10 @@ impl Draft {
         ensures { IsGrown whole.now.instance branch.now self.new }
     {
         self.tree = match &self.source {
-            Source::Weights(weights) => tree_along(alloc, whole, branch, weights.as_slice()),
-            Source::Walk(walk) => walk.end(alloc, whole, branch),
+            Source::Weights(weights) => {
+                tree_along(alloc, whole, branch, weights.as_slice(), self.seed)
+            }
+            Source::Walk(walk) => walk.end(alloc, whole, branch, self.seed),
         };
     }
 }

@@ -52,6 +52,11 @@ impl Effort {
         if self.is_bare { 40 } else { 10 }
     }
 
+    /// How many steps a walk has from a tree over used-up arcs that is improved.
+    pub fn steps(self) -> u64 {
+        if self.is_bare { 4 } else { 0 }
+    }
+
     /// For how many turns a packing is refined that is made of one for a part of the branch.
     pub fn repairs(self) -> u64 {
         if self.is_bare { 120 } else { 20 }

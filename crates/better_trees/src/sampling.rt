@@ -17,7 +17,7 @@ use std::alloc::{AllocError, Global};
 use std::thread::Threads;
 
 // How many trees are drawn, at most, and how many vertices they can reach together, about.
-const TREES: u64 = 24;
+const TREES: u64 = 12;
 
 const VERTICES: u64 = 8_000;
 
@@ -99,7 +99,8 @@ fn new_drafts(
         } else {
             draws.weights(alloc, arcs.vertices(), DRAWN.0, DRAWN.1)?
         };
-        drafts.push(Draft::of(Source::Weights(weights)))?;
+        let seed = draws.below(u64::MAX);
+        drafts.push(Draft::of(Source::Weights(weights), seed))?;
     }
     Ok(drafts)
 }

@@ -16,6 +16,7 @@ use std::thread::Threads;
 use test_instances::{link, triangle_with_centre};
 
 mod elite;
+mod wandering;
 
 // All trees.
 fn all(alloc: Global) -> Result<Sides, AllocError>

@@ -17,7 +17,6 @@ const STEPS: u64 = 6;
 pub struct Walk {
     from: Tree,
     among: VertexSet,
-    seed: u64,
 }
 
 impl Walk {
@@ -27,7 +26,6 @@ impl Walk {
         instance: &Instance,
         tree: &Tree,
         near: &[u32],
-        seed: u64,
     ) -> Result<Walk, AllocError> {
         let mut among = Vec::from_slice(alloc, near)?;
         among.push(tree.start)?;
@@ -37,7 +35,6 @@ impl Walk {
         Ok(Walk {
             from: copied(alloc, tree)?,
             among: VertexSet::of(alloc, instance.vertices() as usize + 1, &among)?,
-            seed,
         })
     }
 
@@ -47,6 +44,7 @@ impl Walk {
         alloc: Global,
         whole: &Whole,
         branch: &Sides,
+        seed: u64,
     ) -> Result<Option<Tree>, AllocError>
         requires branch { IsBranch whole.now.instance branch.now }
         ensures tree { IfOk result (λ tree. IfSome tree (IsTree whole.now.instance)) }
@@ -58,7 +56,7 @@ impl Walk {
         let Some(tree) = judged(alloc, &whole.instance, &part, from)? else {
             return Ok(None);
         };
-        let walked = wander(alloc, whole, &part, tree, self.seed, STEPS)?;
+        let walked = wander(alloc, whole, &part, tree, seed, STEPS)?;
         Ok(Some(walked))
     }
 }

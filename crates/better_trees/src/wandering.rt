@@ -93,8 +93,8 @@ fn new_walks(
     for _walk in 0..count {
         let tree = elite.cheapest(price, draws).unwrap_or(known);
         let seed = draws.below(u64::MAX);
-        let walk = Walk::of(alloc, instance, tree, near.members(), seed)?;
-        drafts.push(Draft::of(Source::Walk(walk)))?;
+        let walk = Walk::of(alloc, instance, tree, near.members())?;
+        drafts.push(Draft::of(Source::Walk(walk), seed))?;
     }
     Ok(drafts)
 }

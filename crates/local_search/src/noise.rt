@@ -1,4 +1,4 @@
-// How much is added to what a link costs is below this; and by what costs are multiplied, so that ways of up to
+// How much is taken off what a link costs is below this; and by what costs are multiplied, so that ways of up to
 // sixteen links that differ in what they cost still do so in the same direction.
 const BOUND: u64 = 256;
 
@@ -11,8 +11,8 @@ const OTHER: u64 = 0xBF58_476D_1CE4_E5B9;
 
 const LOW: u64 = 0x1_0000_0000;
 
-// What is added to costs that are multiplied, so that of ways that cost the same one is cheaper: another
-// one for another seed.
+// What is taken off costs that are multiplied, so that of ways that cost the same one is cheaper, more often one of
+// more links: another one for another seed.
 #[derive(Clone, Copy)]
 pub struct Noise {
     seed: u64,
@@ -40,8 +40,8 @@ impl Noise {
 
     // What a link between two vertices costs.
     pub fn cost(self, a: u32, b: u32, cost: u64) -> u64 {
-        let more = self.mixed(a, b) % self.bound.max(1);
-        self.scaled(cost).saturating_add(more)
+        let less = self.mixed(a, b) % self.bound.max(1);
+        self.scaled(cost).saturating_sub(less)
     }
 
     // What is neither more nor less for the noise.

@@ -11,6 +11,7 @@ mod bounds;
 mod brute_force;
 mod drawn;
 mod noise;
+mod wandering;
 
 // What is left of a tree costs once it is improved, and u64::MAX where the arcs are no tree.
 fn improved_cost(

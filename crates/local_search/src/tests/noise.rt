@@ -1,7 +1,7 @@
 use crate::noise::Noise;
 use std::test::Fail;
 
-// A link of 7 costs as much in both directions, something else by another seed, and less than one of 8.
+// A link of 7 costs as much in both directions, something else by another seed, and more than one of 6.
 #[test]
 fn breaks_ties_alone(rt: HostRuntime) -> Result<(), Fail> {
     assert_eq!(rt; Noise::none().cost(3, 5, 7), 7);
@@ -9,6 +9,6 @@ fn breaks_ties_alone(rt: HostRuntime) -> Result<(), Fail> {
     let cost = one.cost(3, 5, 7);
     assert_eq!(rt; one.cost(5, 3, 7), cost);
     assert!(rt; other.cost(3, 5, 7) != cost);
-    assert!(rt; one.scaled(7) <= cost && cost < one.scaled(8));
+    assert!(rt; one.scaled(6) < cost && cost <= one.scaled(7));
     Ok(())
 }
