@@ -36,18 +36,19 @@ pub fn better_tree(
     requires branch { IsBranch whole.now.instance branch.now }
     ensures { IfOk result (λ better. IfSome better (IsBetter whole.now.instance branch.now least)) }
 {
-    let tree = used_up_tree(alloc, whole, branch, arcs, effort)?;
+    let tree = used_up_tree(alloc, whole, branch, arcs, effort, 0)?;
     Ok(cheaper(&whole.instance, tree, least))
 }
 
 /// A tree of the branch over arcs with nothing left, if there is one: the cheapest of some that grow, led on by a
-/// walk and improved.
+/// walk of so many steps and improved.
 pub fn used_up_tree(
     alloc: Global,
     whole: &Whole,
     branch: &Sides,
     arcs: &Arcs,
     effort: Effort,
+    steps: u64,
 ) -> Result<Option<Tree>, AllocError>
     requires branch { IsBranch whole.now.instance branch.now }
     ensures tree { IfOk result (λ tree. IfSome tree (IsTree whole.now.instance)) }
@@ -58,7 +59,7 @@ pub fn used_up_tree(
         return Ok(None);
     };
     let tree = cheapest_grown(alloc, whole, branch, &arcs, tree, effort)?;
-    let tree = wander(alloc, whole, branch, tree, effort.seed, effort.steps())?;
+    let tree = wander(alloc, whole, branch, tree, effort.seed, steps)?;
     Ok(Some(tree))
 }
 

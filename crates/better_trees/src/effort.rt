@@ -23,6 +23,9 @@ const FACTOR: u64 = 2_000_003;
 
 const SIDE: u64 = 1_009;
 
+// A bound lacks little of what is so many times as much.
+const LITTLE: u64 = 300;
+
 impl Effort {
     /// The work on a node of a branch. What is drawn there hangs on the branch alone, and not on who works
     /// on it.
@@ -52,9 +55,16 @@ impl Effort {
         if self.is_bare { 40 } else { 10 }
     }
 
-    /// How many steps a walk has from a tree over used-up arcs that is improved.
-    pub fn steps(self) -> u64 {
-        if self.is_bare { 4 } else { 0 }
+    /// How many steps a walk from a tree over used-up arcs has, where the bound lacks so much of the least cost
+    /// known: none at a node with cuts, unless it lacks little, since then a tree is wanting and not a bound.
+    pub fn steps(self, below: u64, least: u64) -> u64 {
+        if self.is_bare {
+            4
+        } else if below.saturating_mul(LITTLE) < least {
+            2
+        } else {
+            0
+        }
     }
 
     /// For how many turns a packing is refined that is made of one for a part of the branch.

@@ -48,7 +48,9 @@ pub fn trees_at<R: Threads + Sync>(
     requires branch { IsBranch whole.now.instance branch.now }
     ensures { IfOk result (λ trees. IfSome trees.better (IsBetter whole.now.instance branch.now least)) }
 {
-    let tree = used_up_tree(alloc, whole, branch, arcs, effort)?;
+    let below = gap(&whole.instance, branch, packing, least);
+    let steps = effort.steps(below, least);
+    let tree = used_up_tree(alloc, whole, branch, arcs, effort, steps)?;
     let mut joints = Joints::of_none(alloc, &whole.instance)?;
     joints.count(alloc, known)?;
     if let Some(tree) = &tree {

@@ -57,3 +57,14 @@ fn walks_where_no_move_gains(rt: HostRuntime) -> Result<(), Fail> {
     assert_eq!(rt; price_of_walks(&rt, rt.alloc(), &[], 7)?, None);
     Ok(())
 }
+
+// At the first node always; at others where the bound lacks little.
+#[test]
+fn walks_where_a_tree_is_wanting(rt: HostRuntime) -> Result<(), Fail> {
+    let branch = all(rt.alloc())?;
+    let first = Effort::at(branch.branch(), true, 1);
+    let other = Effort::at(branch.branch(), false, 1);
+    assert_eq!(rt; (first.steps(9, 10), other.steps(9, 10)), (4, 0));
+    assert_eq!(rt; (other.steps(1, 301), other.steps(1, 300)), (2, 0));
+    Ok(())
+}
