@@ -34,9 +34,9 @@ const NOT_USED_UP: u64 = 55;
 
 const MORE: u64 = 10;
 
-/// A tree of the branch that costs less than the least cost known, if one is found: of trees along costs
-/// that are drawn, improved, the cheapest. Costs are drawn alone and by what is left of the arcs, and then
-/// round two of the trees found before. No more are drawn where one costs what the bound is.
+/// A tree of the branch that costs less than the least cost known, if one is found: the cheapest of trees
+/// along costs that are drawn, led on by walks and improved. Costs are drawn alone and by what is left of the
+/// arcs, and then round two of the trees found before. No more are drawn where one costs what the bound is.
 #[tactic(auto, using(crate::proofs::Found::found_later))]
 pub fn drawn_tree<R: Threads + Sync>(
     rt: &R,

@@ -41,20 +41,23 @@ fn tree_over(alloc: Global, arcs: &[(u32, u32)]) -> Result<Tree, AllocError> {
     })
 }
 
-// What the best tree costs that is found beside the one over the sides, by so many threads.
+// What the best tree costs that is found beside the one of these arcs from 1, at a first node or another one, by so
+// many threads.
 fn price_beside<R: Threads + Sync>(
     rt: &R,
     alloc: Global,
     whole: &Whole,
+    known: &[(u32, u32)],
     least: u64,
+    is_bare: bool,
     threads: usize,
 ) -> Result<Option<u64>, AllocError>
     requires { IsVertex whole.now.instance.n 1 }
 {
     let branch = all(alloc)?;
     let arcs = Arcs::of(alloc, &whole.store, &branch, 1)?;
-    let known = tree_over(alloc, &[(1, 2), (2, 3)])?;
-    let effort = Effort::at(branch.branch(), true, threads);
+    let known = tree_over(alloc, known)?;
+    let effort = Effort::at(branch.branch(), is_bare, threads);
     let mut elite = Elite::new(alloc);
     let packing = bare(alloc);
     let trees = trees_at(
@@ -68,9 +71,10 @@ fn price_beside<R: Threads + Sync>(
 fn finds_the_way_over_the_centre(rt: HostRuntime) -> Result<(), Fail> {
     let instance = triangle_with_centre(rt.alloc(), 4)?;
     let whole = Whole::of(rt.alloc(), instance)?;
-    for threads in [1, 3] {
-        assert_eq!(rt; price_beside(&rt, rt.alloc(), &whole, 8, threads)?, Some(6));
-        assert_eq!(rt; price_beside(&rt, rt.alloc(), &whole, 6, threads)?, None);
+    for (least, threads, wanted) in [(8, 1, Some(6)), (8, 3, Some(6)), (6, 1, None), (6, 3, None)] {
+        let sides = [(1, 2), (2, 3)];
+        let got = price_beside(&rt, rt.alloc(), &whole, &sides, least, true, threads)?;
+        assert_eq!(rt; got, wanted, "below {least} by {threads}");
     }
     Ok(())
 }

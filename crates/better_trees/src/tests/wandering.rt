@@ -1,4 +1,6 @@
-use super::{all, tree_over};
+ghost use Rattle.std.specs.Prelude.{◌≡◌, ◌≤◌, IfOk};
+
+use super::{all, price_beside, tree_over};
 use crate::effort::Effort;
 use crate::elite::Elite;
 use crate::wandering::wandered_tree;
@@ -10,8 +12,11 @@ use std::thread::Threads;
 use test_instances::link;
 
 // Required vertices 1 and 3 with a path of cost 4 over vertex 2 and another one over vertex 4, and required
-// vertex 5, 3 from vertex 1 and 2 from vertex 4; and so many vertices without links that there is a walk.
-fn two_ways(alloc: Global) -> Result<Instance, AllocError> {
+// vertex 5, 3 from vertex 1 and 2 from vertex 4; and further vertices without links.
+fn two_ways(alloc: Global, vertices: u32) -> Result<Instance, AllocError>
+    requires { (5 ≤ vertices) × (vertices ≤ 10_000) }
+    ensures { IfOk result (λ instance. instance.n ≡ vertices) }
+{
     let links = [
         link(1, 2, 2),
         link(2, 3, 2),
@@ -25,18 +30,18 @@ fn two_ways(alloc: Global) -> Result<Instance, AllocError> {
         (3, Need::Required),
         (5, Need::Required),
     ];
-    Instance::build(alloc, 20, &links, &needs)
+    Instance::build(alloc, vertices, &links, &needs)
 }
 
 // What the tree costs that walks from the one over vertex 2 come to among its vertices and those that are near, if it
-// costs less than the least cost known.
+// costs less than the least cost known. There are enough vertices for a walk.
 fn price_of_walks<R: Threads + Sync>(
     rt: &R,
     alloc: Global,
     near: &[u32],
     least: u64,
 ) -> Result<Option<u64>, AllocError> {
-    let whole = Whole::of(alloc, two_ways(alloc)?)?;
+    let whole = Whole::of(alloc, two_ways(alloc, 20)?)?;
     let branch = all(alloc)?;
     let near = VertexSet::of(alloc, 21, near)?;
     let known = tree_over(alloc, &[(1, 2), (2, 3), (1, 5)])?;
@@ -66,5 +71,19 @@ fn walks_where_a_tree_is_wanting(rt: HostRuntime) -> Result<(), Fail> {
     let other = Effort::at(branch.branch(), false, 1);
     assert_eq!(rt; (first.steps(9, 10), other.steps(9, 10)), (4, 0));
     assert_eq!(rt; (other.steps(1, 301), other.steps(1, 300)), (2, 0));
+    Ok(())
+}
+
+// Among so many vertices no tree is drawn. At the first node walks lead from the tree known to one of cost 6; at
+// others there are none.
+#[test]
+fn walks_at_the_first_node(rt: HostRuntime) -> Result<(), Fail> {
+    let instance = two_ways(rt.alloc(), 8_200)?;
+    let whole = Whole::of(rt.alloc(), instance)?;
+    for (is_first, wanted) in [(true, Some(6)), (false, None)] {
+        let known = [(1, 2), (2, 3), (1, 5)];
+        let got = price_beside(&rt, rt.alloc(), &whole, &known, 8, is_first, 1)?;
+        assert_eq!(rt; got, wanted, "at the first node: {is_first}");
+    }
     Ok(())
 }
