@@ -164,6 +164,18 @@ impl Checker {
         ensures log { (line : ℕ) (kind : LogKind) → IsWrongText self.instance self.text line kind
             → result ≡ Err (Log (record { line = line; kind = kind })) }
     {
+        self.reasoned_answer()
+    }
+
+    // The verdict, or the first fault, and that each reason has its answer.
+    fn reasoned_answer(&self) -> Result<Verdict, CheckFault>
+        ensures concludes { IfOk result (Concludes self.now.instance) }
+        ensures exact { IsAnswerTo self.now.instance self.now.text result }
+        ensures accepted { (verdict : Conclusion) → IsAcceptedText self.now.instance self.now.text verdict
+            → result ≡ Ok verdict }
+        ensures log { (line : ℕ) (kind : LogKind) → IsWrongText self.now.instance self.now.text line kind
+            → result ≡ Err (Log (record { line = line; kind = kind })) }
+    {
         one_spelling();
         refused_exactly();
         rejected_exactly();

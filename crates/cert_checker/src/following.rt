@@ -178,7 +178,7 @@ fn after_steps(alloc: Global, stage: Stage) -> Result<Stage, AllocError>
 {
     match stage {
         Stage::AmongSteps(stepping) => {
-            let proving = begun(alloc, stepping)?;
+            let proving = begun(alloc, &stepping)?;
             Ok(Stage::BeforeHalf(proving))
         }
         other => Ok(other),

@@ -14,10 +14,10 @@ use st_model::Listed;
 use std::alloc::{AllocError, Global};
 
 // The proof of what the steps left, of which no line has come.
-pub fn begun(alloc: Global, stepping: Stepping) -> Result<Proving, AllocError>
-    ensures { IfOk result (IsBegun stepping) }
+pub fn begun(alloc: Global, stepping: &Stepping) -> Result<Proving, AllocError>
+    ensures { IfOk result (IsBegun stepping.now) }
 {
-    let reduced = stepping.reduced;
+    let reduced = &stepping.reduced;
     let least = stepping.dual.saturating_sub(reduced.offset());
     let instance = reduced.instance(alloc)?;
     let gone = reduced.gone(alloc)?;

@@ -2,7 +2,7 @@ ghost use Rattle.std.specs.Prelude.{◌≡◌, ◌≤◌, IfOk, OnOk, length};
 ghost use Rattle.lift_back.specs.State.{whole};
 ghost use Rattle.lift_back.specs.Steps.{Applies};
 ghost use Rattle.reductions.specs.Results.{HasNoDetourStep, HasNoVertexStep};
-ghost use Rattle.reductions.specs.Working.{IsSettled};
+ghost use Rattle.reductions.specs.Working.{IsSettled, IsWork};
 
 use crate::work::Work;
 use lift_back::{Reduced, Step};
@@ -28,10 +28,23 @@ pub fn reduce(alloc: Global, instance: &Instance) -> Result<(Vec<Step>, Reduced)
     ensures detours { length instance.now.links ≤ MANY_LINKS → IfOk result (λ made. HasNoDetourStep made.1.state) }
 {
     let mut work = Work::of(alloc, instance)?;
+    take_all(alloc, &mut work, instance)?;
+    Ok((work.steps, work.reduced))
+}
+
+// Takes steps of an instance of which none was taken yet.
+fn take_all(alloc: Global, work: &mut Work, instance: &Instance) -> Result<(), AllocError>
+    requires work { IsWork work.old work.old.queue.items }
+    requires first { work.old.reduced.first ≡ instance.now }
+    ensures work { OnOk result (IsSettled work.new) }
+    ensures detours { length instance.now.links ≤ MANY_LINKS
+        → OnOk result (HasNoDetourStep work.new.reduced.state) }
+    ensures first { work.new.reduced.first ≡ work.old.reduced.first }
+{
     let mut finder = Finder::new(alloc, instance.vertices())?;
     work.settle(&mut Vec::new(alloc))?;
-    take_detours(alloc, &mut work, &mut finder, instance)?;
-    Ok((work.steps, work.reduced))
+    take_detours(alloc, work, &mut finder, instance)?;
+    Ok(())
 }
 
 // Takes detours, and the steps by which a vertex goes then, of what is left of an instance.

@@ -162,8 +162,29 @@ impl Work {
     {
         let instance = self.reduced.instance(alloc)?;
         let mut store = Store::of(alloc, &instance)?;
-        let links = dearest_first(alloc, instance.links(), ends)?;
-        self.try_links(alloc, finder, &mut store, &links, Some(most))?;
+        self.try_dearest(alloc, finder, &mut store, instance.links(), ends, most)
+    }
+
+    // Looks for a detour that is soon found for each of some links, or for those with an end in a set, the
+    // dearest first, and takes those that it finds.
+    fn try_dearest(
+        &mut self,
+        alloc: Global,
+        finder: &mut Finder,
+        store: &mut Store,
+        links: &[Link],
+        ends: Option<&VertexSet>,
+        most: u32,
+    ) -> Result<(), AllocError>
+        requires work { IsWork self.old self.old.queue.items }
+        requires mirrors { Mirrors self.old.reduced.state store.old }
+        requires finder { finder.old ≡ self.old.reduced.first.n }
+        ensures work { OnOk result (IsWork self.new self.new.queue.items) }
+        ensures first { self.new.reduced.first ≡ self.old.reduced.first }
+        ensures finder { finder.new ≡ finder.old }
+    {
+        let links = dearest_first(alloc, links, ends)?;
+        self.try_links(alloc, finder, store, &links, Some(most))?;
         Ok(())
     }
 

@@ -21,13 +21,27 @@ fn allows_split(
     ensures { IfOk result (λ yes. IsTrue yes ↔ AllowsSplit instance.now branch.now packing.now value) }
 {
     let sides = Sides::of(alloc, branch.copied(alloc)?)?;
-    if !fits(alloc, instance, &sides, packing)? {
+    allows_split_of(alloc, instance, &sides, packing, value)
+}
+
+// The same, of the branch with its sides.
+fn allows_split_of(
+    alloc: Global,
+    instance: &Instance,
+    branch: &Sides,
+    packing: &Packing,
+    value: u64,
+) -> Result<bool, AllocError>
+    requires { IsBranch instance.now branch.now }
+    ensures { IfOk result (λ yes. IsTrue yes ↔ AllowsSplit instance.now branch.now packing.now value) }
+{
+    if !fits(alloc, instance, branch, packing)? {
         return Ok(false);
     }
-    if none_is_certain(instance, &sides) {
+    if none_is_certain(instance, branch) {
         return Ok(true);
     }
-    is_full_below(alloc, instance, &sides, packing, value)
+    is_full_below(alloc, instance, branch, packing, value)
 }
 
 // Whether a packing is full and weighs less than a value.
@@ -77,10 +91,24 @@ pub fn close_fault(
     ensures { IfOk result (IsCloseFault instance.now branch.now packing.now value) }
 {
     let sides = Sides::of(alloc, branch.copied(alloc)?)?;
-    if !fits(alloc, instance, &sides, packing)? {
+    close_fault_of(alloc, instance, &sides, packing, value)
+}
+
+// The same, of the branch with its sides.
+fn close_fault_of(
+    alloc: Global,
+    instance: &Instance,
+    branch: &Sides,
+    packing: &Packing,
+    value: u64,
+) -> Result<Option<EventFault>, AllocError>
+    requires { IsBranch instance.now branch.now }
+    ensures { IfOk result (IsCloseFault instance.now branch.now packing.now value) }
+{
+    if !fits(alloc, instance, branch, packing)? {
         return Ok(Some(EventFault::BadPacking));
     }
-    if weight(instance, branch, packing) < u128::from(value) {
+    if weight(instance, branch.branch(), packing) < u128::from(value) {
         return Ok(Some(EventFault::TooLight));
     }
     Ok(None)
