@@ -59,52 +59,93 @@ fn path(alloc: Global) -> Result<Store, AllocError>
     Store::of(alloc, &instance)
 }
 
-#[test]
-fn puts_links_in_order(rt: HostRuntime) -> Result<(), Fail> {
-    let mut store = path(rt.alloc())?;
+// The path with a new link, a cheaper one and a dearer one.
+fn linked_more(alloc: Global) -> Result<Store, AllocError> {
+    let mut store = path(alloc)?;
     put(&mut store, 2, 1, 6)?;
     put(&mut store, 3, 1, 1)?;
     put(&mut store, 2, 3, 9)?;
-    let instance = store.instance(rt.alloc())?;
+    Ok(store)
+}
+
+// Whether the links of a store are these, in this order.
+fn has_links(alloc: Global, store: &Store, want: &[Link]) -> Result<bool, AllocError> {
+    let instance = store.instance(alloc)?;
+    Ok(instance.links() == want)
+}
+
+#[test]
+fn puts_links_in_order(rt: HostRuntime) -> Result<(), Fail> {
+    let store = linked_more(rt.alloc())?;
     let want = [link(1, 3, 1), link(2, 3, 2), link(1, 2, 6)];
-    assert_eq!(rt; instance.links(), want.as_slice());
-    assert_eq!(rt; store.link_cost(2, 1), Some(6));
-    assert_eq!(rt; store.link_cost(1, 3), Some(1));
+    assert!(rt; has_links(rt.alloc(), &store, &want)?);
+    let costs = (store.link_cost(2, 1), store.link_cost(1, 3));
+    assert_eq!(rt; costs, (Some(6), Some(1)));
     Ok(())
+}
+
+// What an instance says of two links, and how many there are.
+fn costs_in(alloc: Global, store: &Store) -> Result<(Option<u64>, Option<u64>, usize), AllocError> {
+    let instance = store.instance(alloc)?;
+    Ok((
+        instance.link_cost(1, 3),
+        instance.link_cost(2, 3),
+        instance.links().len(),
+    ))
 }
 
 #[test]
 fn removes_links_and_vertices(rt: HostRuntime) -> Result<(), Fail> {
     let mut store = triangle(rt.alloc())?;
     store.remove_link(2, 1);
-    assert_eq!(rt; store.degree(1), 2);
-    assert_eq!(rt; store.link_cost(2, 1), None);
+    let without_link = (store.degree(1), store.link_cost(2, 1));
     store.remove_vertex(4);
-    assert_eq!(rt; store.degree(1), 1);
-    assert_eq!(rt; store.degree(4), 0);
-    assert!(rt; !store.is_present(4));
-    assert!(rt; store.is_present(1));
-    let instance = store.instance(rt.alloc())?;
-    assert_eq!(rt; instance.link_cost(1, 3), Some(4));
-    assert_eq!(rt; instance.link_cost(2, 3), Some(4));
-    assert_eq!(rt; instance.links().len(), 2);
+    let without_centre = (store.degree(1), store.degree(4));
+    let are_present = (store.is_present(1), store.is_present(4));
+    let costs = costs_in(rt.alloc(), &store)?;
+    assert_eq!(rt; without_link, (2, None));
+    assert_eq!(rt; without_centre, (1, 0));
+    assert_eq!(rt; are_present, (true, false));
+    assert_eq!(rt; costs, (Some(4), Some(4), 2));
     Ok(())
 }
 
 #[test]
 fn tells_what_it_keeps(rt: HostRuntime) -> Result<(), Fail> {
-    let mut store = triangle(rt.alloc())?;
-    assert_eq!(rt; store.vertices(), 4);
-    let centre = Half { to: 4, cost: 2 };
-    assert!(rt; store.neighbours(3).contains(&centre));
-    assert_eq!(rt; store.need(1), Need::Required);
-    assert_eq!(rt; store.prize(1), 0);
-    store.set_need(1, Need::Pays(5));
-    assert_eq!(rt; store.need(1), Need::Pays(5));
-    assert_eq!(rt; store.prize(1), 5);
+    let store = triangle(rt.alloc())?;
+    let has_spoke = store.neighbours(3).contains(&Half { to: 4, cost: 2 });
+    assert_eq!(rt; (store.vertices(), has_spoke), (4, true));
     assert_eq!(rt; store.need(4), Need::Pays(0));
-    let instance = store.instance(rt.alloc())?;
-    assert_eq!(rt; instance.need(1), Need::Pays(5));
-    assert_eq!(rt; instance.links().len(), 6);
+    Ok(())
+}
+
+// What the instance of a store says of its first vertex, and how many links it has.
+fn need_in(alloc: Global, store: &Store) -> Result<(Need, usize), AllocError>
+    requires { 1 ≤ store.now.network.n }
+{
+    let instance = store.instance(alloc)?;
+    Ok((instance.need(1), instance.links().len()))
+}
+
+// What a store keeps of a vertex before its need is set and after.
+fn needs_kept(alloc: Global) -> Result<[(Need, u64); 2], AllocError> {
+    let mut store = triangle(alloc)?;
+    let before = (store.need(1), store.prize(1));
+    store.set_need(1, Need::Pays(5));
+    Ok([before, (store.need(1), store.prize(1))])
+}
+
+// What the instance of the triangle says of that vertex then.
+fn need_set(alloc: Global) -> Result<(Need, usize), AllocError> {
+    let mut store = triangle(alloc)?;
+    store.set_need(1, Need::Pays(5));
+    need_in(alloc, &store)
+}
+
+#[test]
+fn keeps_the_need_that_is_set(rt: HostRuntime) -> Result<(), Fail> {
+    let kept = needs_kept(rt.alloc())?;
+    assert_eq!(rt; kept, [(Need::Required, 0), (Need::Pays(5), 5)]);
+    assert_eq!(rt; need_set(rt.alloc())?, (Need::Pays(5), 6));
     Ok(())
 }

@@ -1,5 +1,5 @@
 use super::*;
-use cut_packing::Packing;
+use cut_packing::{Cut, Packing};
 use lift_back::Step;
 use st_model::Listed;
 use std::alloc::Global;
@@ -71,30 +71,42 @@ fn writes_a_long_proof_in_threads(rt: HostRuntime) -> Result<(), Fail> {
     Ok(())
 }
 
-#[test]
-fn reads_what_the_star_says(rt: HostRuntime) -> Result<(), Fail> {
-    let log = read_log(rt.alloc(), STAR.as_bytes())?;
+/// Whether of three cuts the last is round 2, 3 and 4, for 2, and weighs 2.
+fn are_cuts_of_star(cuts: &[Cut]) -> bool {
+    match cuts {
+        [_, _, last] => {
+            (last.q, last.y) == (2, 2) && last.set.as_slice() == [2, 3, 4].as_slice()
+        }
+        _ => false,
+    }
+}
+
+/// Whether a log says what the star's does.
+fn is_of_star(log: &Log) -> bool {
     let Claim::Found {
-        primal,
-        dual,
+        primal: 6,
+        dual: 6,
         tree,
         steps,
         proof,
     } = &log.claim
     else {
-        return Err("a tree is claimed".into());
+        return false;
     };
-    assert_eq!(rt; (*primal, *dual, tree.start), (6, 6, 1));
-    assert_eq!(rt; tree.arcs.as_slice(), [(1, 4), (4, 2), (4, 3)].as_slice());
-    assert!(rt; steps.as_slice().is_empty());
     let [ProofLine::Close(packing)] = proof.lines() else {
-        return Err("the proof is one close".into());
+        return false;
     };
-    assert_eq!(rt; packing.root, Some(1));
-    let cuts = packing.cuts.as_slice();
-    assert_eq!(rt; cuts.len(), 3);
-    assert_eq!(rt; (cuts[2].q, cuts[2].y), (2, 2));
-    assert_eq!(rt; cuts[2].set.as_slice(), [2, 3, 4].as_slice());
+    tree.start == 1
+        && tree.arcs.as_slice() == [(1, 4), (4, 2), (4, 3)].as_slice()
+        && steps.as_slice().is_empty()
+        && packing.root == Some(1)
+        && are_cuts_of_star(packing.cuts.as_slice())
+}
+
+#[test]
+fn reads_what_the_star_says(rt: HostRuntime) -> Result<(), Fail> {
+    let log = read_log(rt.alloc(), STAR.as_bytes())?;
+    assert!(rt; is_of_star(&log));
     Ok(())
 }
 
@@ -245,24 +257,32 @@ fn refuses_each_change_of_steps(rt: HostRuntime) -> Result<(), Fail> {
     Ok(())
 }
 
-#[test]
-fn reads_what_the_steps_say(rt: HostRuntime) -> Result<(), Fail> {
-    let log = read_log(rt.alloc(), STEPS.as_bytes())?;
+/// Whether a log says what that with each kind of step does.
+fn is_of_steps(log: &Log) -> bool {
     let Claim::Found { steps, .. } = &log.claim else {
-        return Err("a tree is claimed".into());
+        return false;
     };
     let [
         Step::Pendant(1),
         Step::Through(1_000_000),
         Step::Forced(7),
-        Step::Detour { a, b, inner },
+        Step::Detour {
+            a: 1_000_000,
+            b: 1,
+            inner,
+        },
         Step::Detour { .. },
     ] = steps.as_slice()
     else {
-        return Err("the steps are others".into());
+        return false;
     };
-    assert_eq!(rt; (*a, *b), (1_000_000, 1));
-    assert_eq!(rt; inner.as_slice(), [9, 2, 9].as_slice());
+    inner.as_slice() == [9, 2, 9].as_slice()
+}
+
+#[test]
+fn reads_what_the_steps_say(rt: HostRuntime) -> Result<(), Fail> {
+    let log = read_log(rt.alloc(), STEPS.as_bytes())?;
+    assert!(rt; is_of_steps(&log));
     Ok(())
 }
 
