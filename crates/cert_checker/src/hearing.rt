@@ -3,13 +3,14 @@ ghost use Rattle.st_model.specs.Network.{IsInstance};
 ghost use Rattle.log_format.specs.Text.{AreWhole, Begins};
 ghost use Rattle.cert_checker.specs.Heard.{IsHeard};
 ghost use Rattle.cert_checker.specs.Hearing.{AreJudged};
-ghost use Rattle.cert_checker.specs.Held.{AreHeld};
+ghost use Rattle.cert_checker.specs.Following.{Follows, IsReady};
+ghost use Rattle.cert_checker.specs.Held.{AreHeld, opened};
 
 use crate::following::after_item;
 use crate::splits::Splits;
 use crate::stage::Stage;
 use crate::{CheckFault, Verdict};
-use log_format::{LineError, LogReader, line_items};
+use log_format::{Item, LineError, LogReader, line_items};
 use st_model::Instance;
 use std::alloc::{AllocError, Global};
 use std::marker::Model;
@@ -35,6 +36,23 @@ impl Model for Hearing {
     ghost view = { λ h. record { instance = h.instance; lines = h.reader } };
 
     ghost invariant = { λ h. IsHearing h.instance h.reader h.stage h.splits h.lines };
+}
+
+// The splits that aren't finished after one more item, and what is judged then.
+fn next_of(
+    alloc: Global,
+    instance: &Instance,
+    splits: Splits,
+    stage: Stage,
+    item: Item,
+) -> Result<(Splits, Stage), AllocError>
+    requires { IsReady stage }
+    ensures opened { IfOk result (λ next. next.0 ≡ opened splits item) }
+    ensures follows { IfOk result (λ next. Follows instance.now item stage next.1) }
+{
+    let splits = splits.after(&item)?;
+    let stage = after_item(alloc, instance, stage, item)?;
+    Ok((splits, stage))
 }
 
 /// What became of a line.
@@ -78,8 +96,7 @@ impl Hearing {
         let mut reader = reader;
         match reader.line(line) {
             Ok(item) => {
-                let splits = splits.after(&item)?;
-                let stage = after_item(alloc, &instance, stage, item)?;
+                let (splits, stage) = next_of(alloc, &instance, splits, stage, item)?;
                 Ok(Heard::Taken(Hearing {
                     alloc,
                     instance,

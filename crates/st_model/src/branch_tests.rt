@@ -2,22 +2,28 @@ ghost use Rattle.std.specs.Bool.{OnTrue};
 ghost use Rattle.std.specs.List.Sorted.{IsNonDecreasing};
 
 use crate::{Branch, Instance, Need, Sides};
+use std::alloc::{AllocError, Global};
 use std::test::Fail;
+
+// Whether a branch has these vertices inside and these outside, in this order.
+fn has(branch: &Branch, inside: &[u32], outside: &[u32]) -> bool {
+    branch.inside.as_slice() == inside && branch.outside.as_slice() == outside
+}
+
+// The branch with 4, 2 and 9 inside and 3 outside.
+fn halved(alloc: Global) -> Result<Branch, AllocError> {
+    let branch = Branch::all(alloc).with_inside(alloc, 4)?;
+    let branch = branch.with_inside(alloc, 2)?;
+    let branch = branch.with_outside(alloc, 3)?;
+    branch.with_inside(alloc, 9)
+}
 
 #[test]
 fn halves_keep_the_order_of_vertices(rt: HostRuntime) -> Result<(), Fail> {
-    let all = Branch::all(rt.alloc());
-    assert!(rt; all.inside.as_slice().is_empty());
-    assert!(rt; all.outside.as_slice().is_empty());
-    let branch = all.with_inside(rt.alloc(), 4)?.with_inside(rt.alloc(), 2)?;
-    let branch = branch
-        .with_outside(rt.alloc(), 3)?
-        .with_inside(rt.alloc(), 9)?;
-    assert_eq!(rt; branch.inside.as_slice(), [2, 4, 9].as_slice());
-    assert_eq!(rt; branch.outside.as_slice(), [3].as_slice());
-    let copy = branch.copied(rt.alloc())?;
-    assert_eq!(rt; copy.inside.as_slice(), [2, 4, 9].as_slice());
-    assert_eq!(rt; copy.outside.as_slice(), [3].as_slice());
+    assert!(rt; has(&Branch::all(rt.alloc()), &[], &[]));
+    let branch = halved(rt.alloc())?;
+    assert!(rt; has(&branch, &[2, 4, 9], &[3]));
+    assert!(rt; has(&branch.copied(rt.alloc())?, &[2, 4, 9], &[3]));
     Ok(())
 }
 
@@ -66,12 +72,22 @@ fn answers(
     Some((decided, left))
 }
 
+// Four vertices, of which the first is required.
+fn four(alloc: Global) -> Result<Instance, AllocError> {
+    Instance::build(alloc, 4, &[], &[(1, Need::Required)])
+}
+
+// The branch with 2 inside and 3 outside.
+fn parted(alloc: Global) -> Result<Sides, AllocError> {
+    let branch = Branch::all(alloc).with_inside(alloc, 2)?;
+    Sides::of(alloc, branch.with_outside(alloc, 3)?)
+}
+
 // Vertex 1 is required, 2 is inside and 3 outside; 4 is free.
 #[test]
 fn sides_tell_where_a_vertex_is(rt: HostRuntime) -> Result<(), Fail> {
-    let instance = Instance::build(rt.alloc(), 4, &[], &[(1, Need::Required)])?;
-    let branch = Branch::all(rt.alloc()).with_inside(rt.alloc(), 2)?;
-    let sides = Sides::of(rt.alloc(), branch.with_outside(rt.alloc(), 3)?)?;
+    let instance = four(rt.alloc())?;
+    let sides = parted(rt.alloc())?;
     for (vertex, decided, left) in [
         (1, (false, false), (true, false)),
         (2, (true, false), (true, false)),
@@ -84,8 +100,14 @@ fn sides_tell_where_a_vertex_is(rt: HostRuntime) -> Result<(), Fail> {
             "at {vertex}"
         );
     }
+    Ok(())
+}
+
+#[test]
+fn sides_are_those_of_a_branch(rt: HostRuntime) -> Result<(), Fail> {
+    let sides = parted(rt.alloc())?;
     assert!(rt; !sides.is_inside(70) && !sides.is_outside(70));
-    assert_eq!(rt; sides.branch().inside.as_slice(), [2].as_slice());
-    assert_eq!(rt; sides.into_branch().outside.as_slice(), [3].as_slice());
+    assert!(rt; has(sides.branch(), &[2], &[3]));
+    assert!(rt; has(&sides.into_branch(), &[2], &[3]));
     Ok(())
 }

@@ -57,15 +57,20 @@ fn of_the_parts(alloc: Global, instance: &Instance) -> Result<Instance, AllocErr
     Instance::from_parts(alloc, instance.vertices(), links, needs)
 }
 
+// Whether two instances have as many vertices, the same links and the same needs.
+fn are_alike(one: &Instance, other: &Instance) -> bool {
+    one.vertices() == other.vertices()
+        && one.links() == other.links()
+        && one.needs() == other.needs()
+}
+
 #[test]
 fn the_parts_make_the_same_instance(rt: HostRuntime) -> Result<(), Fail> {
     let instance = of_repeated_lines(rt.alloc())?;
     let again = of_the_parts(rt.alloc(), &instance)?;
-    assert_eq!(rt; again.vertices(), 4);
-    assert_eq!(rt; again.links(), instance.links());
-    assert_eq!(rt; again.needs(), instance.needs());
-    assert_eq!(rt; again.link_cost(3, 2), Some(7));
-    assert_eq!(rt; again.link_cost(1, 3), None);
+    assert!(rt; are_alike(&again, &instance));
+    let costs = (again.link_cost(3, 2), again.link_cost(1, 3));
+    assert_eq!(rt; (again.vertices(), costs), (4, (Some(7), None)));
     Ok(())
 }
 
@@ -87,13 +92,21 @@ fn tells_what_a_link_costs(rt: HostRuntime) -> Result<(), Fail> {
     Ok(())
 }
 
+// How many vertices and links there are where none is named, what the first needs, and what it costs.
+fn single(alloc: Global) -> Result<(u32, usize, Need, Option<u64>), AllocError> {
+    let instance = Instance::build(alloc, 1, &[], &[])?;
+    let cost = cost_of(alloc, &instance, 1, &[])?;
+    Ok((
+        instance.vertices(),
+        instance.links().len(),
+        instance.need(1),
+        cost,
+    ))
+}
+
 #[test]
 fn builds_a_single_vertex(rt: HostRuntime) -> Result<(), Fail> {
-    let instance = Instance::build(rt.alloc(), 1, &[], &[])?;
-    assert_eq!(rt; instance.vertices(), 1);
-    assert!(rt; instance.links().is_empty());
-    assert_eq!(rt; instance.need(1), Need::Pays(0));
-    assert_eq!(rt; cost_of(rt.alloc(), &instance, 1, &[])?, Some(0));
+    assert_eq!(rt; single(rt.alloc())?, (1, 0, Need::Pays(0), Some(0)));
     Ok(())
 }
 
@@ -115,9 +128,18 @@ fn cost_of(
     }
 }
 
+// What the tree costs in the triangle, if it is one.
+fn cost_in_triangle(
+    alloc: Global,
+    start: u32,
+    arcs: &[(u32, u32)],
+) -> Result<Option<u64>, AllocError> {
+    let instance = triangle(alloc)?;
+    cost_of(alloc, &instance, start, arcs)
+}
+
 #[test]
 fn finds_trees_of_the_triangle(rt: HostRuntime) -> Result<(), Fail> {
-    let instance = triangle(rt.alloc())?;
     for (start, arcs, cost, why) in [
         (1, [(1, 4), (4, 2), (4, 3)].as_slice(), 6, "over the centre"),
         (4, [(4, 2), (4, 1), (4, 3)].as_slice(), 6, "from the centre"),
@@ -130,7 +152,7 @@ fn finds_trees_of_the_triangle(rt: HostRuntime) -> Result<(), Fail> {
         ),
     ] {
         assert_eq!(rt;
-            cost_of(rt.alloc(), &instance, start, arcs)?,
+            cost_in_triangle(rt.alloc(), start, arcs)?,
             Some(cost),
             "{why}"
         );
@@ -140,7 +162,6 @@ fn finds_trees_of_the_triangle(rt: HostRuntime) -> Result<(), Fail> {
 
 #[test]
 fn finds_what_is_no_tree_of_the_triangle(rt: HostRuntime) -> Result<(), Fail> {
-    let instance = triangle(rt.alloc())?;
     for (start, arcs, why) in [
         (
             1,
@@ -168,20 +189,29 @@ fn finds_what_is_no_tree_of_the_triangle(rt: HostRuntime) -> Result<(), Fail> {
         (0, [].as_slice(), "the start is 0"),
         (5, [].as_slice(), "the start is past the last vertex"),
     ] {
-        assert_eq!(rt; cost_of(rt.alloc(), &instance, start, arcs)?, None, "{why}");
+        assert_eq!(rt; cost_in_triangle(rt.alloc(), start, arcs)?, None, "{why}");
     }
     Ok(())
 }
 
-#[test]
-fn prizes_that_are_missed_are_paid(rt: HostRuntime) -> Result<(), Fail> {
+// What the tree costs, if it is one, where 2 pays 50 and 3 pays 700.
+fn cost_with_prizes(
+    alloc: Global,
+    start: u32,
+    arcs: &[(u32, u32)],
+) -> Result<Option<u64>, AllocError> {
     let links = [link(1, 2, 2), link(2, 3, 4)];
     let needs = [
         (1, Need::Required),
         (2, Need::Pays(50)),
         (3, Need::Pays(700)),
     ];
-    let instance = Instance::build(rt.alloc(), 3, &links, &needs)?;
+    let instance = Instance::build(alloc, 3, &links, &needs)?;
+    cost_of(alloc, &instance, start, arcs)
+}
+
+#[test]
+fn prizes_that_are_missed_are_paid(rt: HostRuntime) -> Result<(), Fail> {
     for (start, arcs, cost) in [
         (1, [].as_slice(), Some(750)),
         (1, [(1, 2)].as_slice(), Some(702)),
@@ -190,7 +220,7 @@ fn prizes_that_are_missed_are_paid(rt: HostRuntime) -> Result<(), Fail> {
         (3, [(3, 2)].as_slice(), None),
     ] {
         assert_eq!(rt;
-            cost_of(rt.alloc(), &instance, start, arcs)?,
+            cost_with_prizes(rt.alloc(), start, arcs)?,
             cost,
             "from {start}"
         );

@@ -1,5 +1,6 @@
-ghost use Rattle.std.specs.Prelude.{◌≡◌, ◌↔◌, All, IfOk, IsSome, IsTrue};
+ghost use Rattle.std.specs.Prelude.{◌≡◌, ◌↔◌, ◌≤◌, All, IfOk, IsSome, IsTrue};
 ghost use Rattle.st_model.specs.Network.{link};
+ghost use Rattle.st_model.specs.Made.{AreConnectedFrom};
 
 use crate::{Instance, Link, Listed, Need, RegrowError, Tree, is_tree, regrow, thin, tree_cost};
 use std::alloc::{AllocError, Global};
@@ -49,34 +50,49 @@ pub fn triangle(alloc: Global) -> Result<Instance, AllocError>
     Instance::build(alloc, 4, &links, &needs)
 }
 
+// The tree over the centre from 1.
+fn over_the_centre(alloc: Global) -> Result<Tree, AllocError> {
+    Ok(Tree {
+        start: 1,
+        arcs: Listed::of(vec![in alloc; (1, 4), (4, 2), (4, 3)]?),
+    })
+}
+
+// Whether that tree, grown again from 3, goes over the centre to the others, and costs as much.
+fn regrows_from_three(alloc: Global, instance: &Instance) -> Result<bool, RegrowError> {
+    let tree = over_the_centre(alloc)?;
+    if !is_tree(alloc, instance, &tree)? {
+        return Ok(false);
+    }
+    let regrown = regrow(alloc, instance, &tree, 3)?;
+    Ok(
+        regrown.start == 3
+            && regrown.arcs.as_slice() == [(3, 4), (4, 1), (4, 2)].as_slice()
+            && tree_cost(instance, &regrown) == 6,
+    )
+}
+
 #[test]
 fn regrows_at_a_leaf(rt: HostRuntime) -> Result<(), Fail> {
     let instance = triangle(rt.alloc())?;
-    let arcs = vec![in rt.alloc(); (1, 4), (4, 2), (4, 3)]?;
+    assert!(rt; regrows_from_three(rt.alloc(), &instance)?);
+    Ok(())
+}
+
+// Why vertex 1 alone isn't grown again from another vertex.
+fn refusal(alloc: Global, at: u32) -> Result<Option<RegrowError>, AllocError> {
+    let instance = triangle(alloc)?;
     let tree = Tree {
         start: 1,
-        arcs: Listed::of(arcs),
+        arcs: Listed::of(Vec::new(alloc)),
     };
-    assert!(rt; is_tree(rt.alloc(), &instance, &tree)?);
-    let regrown = regrow(rt.alloc(), &instance, &tree, 3)?;
-    assert_eq!(rt; regrown.start, 3);
-    assert_eq!(rt;
-        regrown.arcs.as_slice(),
-        [(3, 4), (4, 1), (4, 2)].as_slice()
-    );
-    assert_eq!(rt; tree_cost(&instance, &regrown), 6);
-    Ok(())
+    Ok(regrow(alloc, &instance, &tree, at).err())
 }
 
 #[test]
 fn regrows_only_where_it_reaches(rt: HostRuntime) -> Result<(), Fail> {
-    let instance = triangle(rt.alloc())?;
-    let tree = Tree {
-        start: 1,
-        arcs: Listed::of(Vec::new(rt.alloc())),
-    };
     for at in [0, 2, 4, 5] {
-        let refused = regrow(rt.alloc(), &instance, &tree, at).err();
+        let refused = refusal(rt.alloc(), at)?;
         assert_eq!(rt; refused, Some(RegrowError::NotReached), "at {at}");
     }
     let message = format!(in rt.alloc(); "{}", RegrowError::NotReached)?;
@@ -92,22 +108,34 @@ fn are_links(instance: &Instance, pairs: &[(u32, u32)]) -> bool
         .all(|pair| instance.link_cost(pair.0, pair.1).is_some())
 }
 
+// Whether links of the triangle, thinned from a vertex of it, leave these arcs, which cost so much.
+fn thins_to(
+    alloc: Global,
+    links: &[(u32, u32)],
+    start: u32,
+    arcs: &[(u32, u32)],
+    cost: u64,
+) -> Result<bool, AllocError>
+    requires start { (1 ≤ start) × (start ≤ 4) }
+    requires connected { AreConnectedFrom start links.now }
+{
+    let instance = triangle(alloc)?;
+    if !are_links(&instance, links) {
+        return Ok(false);
+    }
+    let tree = thin(alloc, &instance, links, start)?;
+    Ok(tree.start == start && tree.arcs.as_slice() == arcs && tree_cost(&instance, &tree) == cost)
+}
+
 #[test]
 fn thins_the_sides(rt: HostRuntime) -> Result<(), Fail> {
-    let instance = triangle(rt.alloc())?;
     let sides = [(1, 2), (2, 3), (1, 3)];
-    assert!(rt; are_links(&instance, &sides));
-    let tree = thin(rt.alloc(), &instance, &sides, 1)?;
-    assert_eq!(rt; tree.arcs.as_slice(), [(1, 2), (1, 3)].as_slice());
-    assert_eq!(rt; tree_cost(&instance, &tree), 8);
+    assert!(rt; thins_to(rt.alloc(), &sides, 1, &[(1, 2), (1, 3)], 8)?);
     Ok(())
 }
 
 #[test]
 fn thins_no_links(rt: HostRuntime) -> Result<(), Fail> {
-    let instance = triangle(rt.alloc())?;
-    let tree = thin(rt.alloc(), &instance, &[], 2)?;
-    assert_eq!(rt; tree.start, 2);
-    assert!(rt; tree.arcs.as_slice().is_empty());
+    assert!(rt; thins_to(rt.alloc(), &[], 2, &[], 0)?);
     Ok(())
 }
