@@ -18,13 +18,19 @@ fn arc(tail: u32, remaining: u64) -> Arc {
     Arc { tail, remaining }
 }
 
-// Three terminals joined to each other at 4, and to a centre at 2, less an outside vertex.
+// Three terminals joined to each other at 4, and to a centre at 2.
+fn store_of_triangle(alloc: Global) -> Result<Store, AllocError>
+    ensures { IfOk result (λ store. store.network.n ≡ 4) }
+{
+    Store::of(alloc, &triangle_with_centre(alloc, 4)?)
+}
+
+// The triangle's arcs, less an outside vertex.
 fn triangle(alloc: Global, outside: &[u32]) -> Result<Arcs, AllocError>
     ensures count { IfOk result (λ arcs. arcs.n ≡ 4) }
     ensures root { IfOk result (λ arcs. arcs.root ≡ 1) }
 {
-    let instance = triangle_with_centre(alloc, 4)?;
-    let store = Store::of(alloc, &instance)?;
+    let store = store_of_triangle(alloc)?;
     let sides = without(alloc, outside)?;
     Arcs::of(alloc, &store, &sides, 1)
 }
@@ -38,18 +44,26 @@ fn without(alloc: Global, outside: &[u32]) -> Result<Sides, AllocError> {
     Sides::of(alloc, branch)
 }
 
+// Whether the root, the kinds and the arcs into 2 are those of the triangle.
+fn is_triangle(arcs: &Arcs) -> bool
+    requires { arcs.now.n ≡ 4 }
+{
+    arcs.root() == 1
+        && arcs.vertices() == 4
+        && arcs.kind(2) == VertexKind::Must
+        && arcs.kind(4) == VertexKind::May(0)
+        && arcs.neighbours(2) == [1, 3, 4].as_slice()
+        && arcs.arcs_into(2) == [arc(1, 4), arc(3, 4), arc(4, 2)].as_slice()
+}
+
+// What remains of an arc of the triangle.
+fn remaining_of_triangle(alloc: Global, u: u32, v: u32) -> Result<Option<u64>, AllocError> {
+    Ok(triangle(alloc, &[])?.remaining(u, v))
+}
+
 #[test]
 fn reads_the_triangle(rt: HostRuntime) -> Result<(), Fail> {
-    let arcs = triangle(rt.alloc(), &[])?;
-    assert_eq!(rt; arcs.root(), 1);
-    assert_eq!(rt; arcs.vertices(), 4);
-    assert_eq!(rt; arcs.kind(2), VertexKind::Must);
-    assert_eq!(rt; arcs.kind(4), VertexKind::May(0));
-    assert_eq!(rt; arcs.neighbours(2), [1, 3, 4].as_slice());
-    assert_eq!(rt;
-        arcs.arcs_into(2),
-        [arc(1, 4), arc(3, 4), arc(4, 2)].as_slice()
-    );
+    assert!(rt; is_triangle(&triangle(rt.alloc(), &[])?));
     for (u, v, left) in [
         (1, 2, Some(4)),
         (4, 2, Some(2)),
@@ -58,18 +72,25 @@ fn reads_the_triangle(rt: HostRuntime) -> Result<(), Fail> {
         (2, 0, None),
         (2, 5, None),
     ] {
-        assert_eq!(rt; arcs.remaining(u, v), left, "from {u} to {v}");
+        let found = remaining_of_triangle(rt.alloc(), u, v)?;
+        assert_eq!(rt; found, left, "from {u} to {v}");
     }
     Ok(())
 }
 
+// Whether 4 has no arcs.
+fn is_without_centre(arcs: &Arcs) -> bool
+    requires { arcs.now.n ≡ 4 }
+{
+    arcs.kind(4) == VertexKind::Outside
+        && arcs.neighbours(2) == [1, 3].as_slice()
+        && arcs.remaining(2, 4) == None
+        && arcs.remaining(4, 2) == None
+}
+
 #[test]
 fn leaves_an_outside_vertex_without_arcs(rt: HostRuntime) -> Result<(), Fail> {
-    let arcs = triangle(rt.alloc(), &[4])?;
-    assert_eq!(rt; arcs.kind(4), VertexKind::Outside);
-    assert_eq!(rt; arcs.neighbours(2), [1, 3].as_slice());
-    assert_eq!(rt; arcs.remaining(2, 4), None);
-    assert_eq!(rt; arcs.remaining(4, 2), None);
+    assert!(rt; is_without_centre(&triangle(rt.alloc(), &[4])?));
     Ok(())
 }
 
@@ -104,10 +125,29 @@ fn charge(
     Ok(entering)
 }
 
+// The arcs that enter vertex 2 of the triangle, as they are found where they are charged.
+fn charged_arcs(alloc: Global) -> Result<Vec<(u32, u32)>, AllocError> {
+    let mut arcs = triangle(alloc, &[])?;
+    charge(alloc, &mut arcs, &[2], 2)
+}
+
+// The triangle's arcs where 2 is charged to those that enter vertex 2.
+fn charged(alloc: Global) -> Result<Arcs, AllocError>
+    ensures { IfOk result (λ arcs. arcs.n ≡ 4) }
+{
+    let mut arcs = triangle(alloc, &[])?;
+    charge(alloc, &mut arcs, &[2], 2)?;
+    Ok(arcs)
+}
+
+// What remains of an arc there.
+fn remaining_of_charged(alloc: Global, u: u32, v: u32) -> Result<Option<u64>, AllocError> {
+    Ok(charged(alloc)?.remaining(u, v))
+}
+
 #[test]
 fn charges_what_enters(rt: HostRuntime) -> Result<(), Fail> {
-    let mut arcs = triangle(rt.alloc(), &[])?;
-    let entering = charge(rt.alloc(), &mut arcs, &[2], 2)?;
+    let entering = charged_arcs(rt.alloc())?;
     assert_eq!(rt; entering.as_slice(), [(1, 2), (3, 2), (4, 2)].as_slice());
     for (u, v, left) in [
         (4, 2, Some(0)),
@@ -116,7 +156,8 @@ fn charges_what_enters(rt: HostRuntime) -> Result<(), Fail> {
         (2, 4, Some(2)),
         (1, 3, Some(4)),
     ] {
-        assert_eq!(rt; arcs.remaining(u, v), left, "from {u} to {v}");
+        let found = remaining_of_charged(rt.alloc(), u, v)?;
+        assert_eq!(rt; found, left, "from {u} to {v}");
     }
     Ok(())
 }
@@ -146,12 +187,20 @@ fn give_back(alloc: Global, arcs: &mut Arcs, set: &[u32], y: u64) -> Result<(), 
     Ok(())
 }
 
+// What remains of an arc once 1 of what was charged is given back, and in a copy made before.
+fn remaining_and_before(
+    alloc: Global,
+    u: u32,
+    v: u32,
+) -> Result<(Option<u64>, Option<u64>), AllocError> {
+    let mut arcs = charged(alloc)?;
+    let copy = arcs.copied(alloc)?;
+    give_back(alloc, &mut arcs, &[2], 1)?;
+    Ok((arcs.remaining(u, v), copy.remaining(u, v)))
+}
+
 #[test]
 fn gives_back_to_what_enters(rt: HostRuntime) -> Result<(), Fail> {
-    let mut arcs = triangle(rt.alloc(), &[])?;
-    charge(rt.alloc(), &mut arcs, &[2], 2)?;
-    let copy = arcs.copied(rt.alloc())?;
-    give_back(rt.alloc(), &mut arcs, &[2], 1)?;
     for (u, v, left, left_before) in [
         (4, 2, Some(1), Some(0)),
         (1, 2, Some(3), Some(2)),
@@ -159,8 +208,8 @@ fn gives_back_to_what_enters(rt: HostRuntime) -> Result<(), Fail> {
         (2, 4, Some(2), Some(2)),
         (1, 3, Some(4), Some(4)),
     ] {
-        assert_eq!(rt; arcs.remaining(u, v), left, "from {u} to {v}");
-        assert_eq!(rt; copy.remaining(u, v), left_before, "before from {u} to {v}");
+        let found = remaining_and_before(rt.alloc(), u, v)?;
+        assert_eq!(rt; found, (left, left_before), "from {u} to {v}");
     }
     Ok(())
 }

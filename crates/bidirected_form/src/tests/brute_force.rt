@@ -45,6 +45,14 @@ fn remove_all(store: &mut Store, removed: &[bool])
     }
 }
 
+fn sides_of(alloc: Global, case: &Case) -> Result<Sides, AllocError> {
+    let branch = Branch {
+        inside: Listed::of(members(alloc, &case.inside)?),
+        outside: Listed::of(members(alloc, &case.outside)?),
+    };
+    Sides::of(alloc, branch)
+}
+
 fn arcs_of(alloc: Global, case: &Case, root: u32) -> Result<Arcs, AllocError>
     requires count { case.now.instance.n ≡ 6 }
     requires root { IsVertex 6 root }
@@ -52,12 +60,8 @@ fn arcs_of(alloc: Global, case: &Case, root: u32) -> Result<Arcs, AllocError>
 {
     let mut store = Store::of(alloc, &case.instance)?;
     remove_all(&mut store, &case.removed);
-    let branch = Branch {
-        inside: Listed::of(members(alloc, &case.inside)?),
-        outside: Listed::of(members(alloc, &case.outside)?),
-    };
-    let branch = Sides::of(alloc, branch)?;
-    Arcs::of(alloc, &store, &branch, root)
+    let sides = sides_of(alloc, case)?;
+    Arcs::of(alloc, &store, &sides, root)
 }
 
 fn same_kinds(case: &Case, arcs: &Arcs) -> bool
@@ -175,28 +179,63 @@ fn same_turn(
     Ok(same_remaining(arcs, table) && same_arcs_into(alloc, arcs, table)?)
 }
 
-// Whether a drawn case, six turns with it, and a copy of it are as in the plain program.
-fn agrees(alloc: Global, seed: u64) -> Result<bool, AllocError> {
-    let mut draws = Draws { state: seed };
-    let case = draw_case(alloc, &mut draws)?;
-    let root = draws.vertex();
-    let mut arcs = arcs_of(alloc, &case, root)?;
-    let mut table = plain_table(&case);
-    if !same_remaining(&arcs, &table) || !same_arcs_into(alloc, &arcs, &table)? {
+// Whether arcs are as in the plain program, also after each of six turns.
+fn same_turns(
+    alloc: Global,
+    draws: &mut Draws,
+    arcs: &mut Arcs,
+    table: &mut Table,
+) -> Result<bool, AllocError>
+    requires { arcs.old.n ≡ 6 }
+    ensures { arcs.new.n ≡ 6 }
+{
+    if !same_remaining(arcs, table) || !same_arcs_into(alloc, arcs, table)? {
         return Ok(false);
     }
     for _turn in 0..6 {
-        if !same_turn(alloc, &mut draws, &mut arcs, &mut table)? {
+        if !same_turn(alloc, draws, arcs, table)? {
             return Ok(false);
         }
     }
+    Ok(true)
+}
+
+// Whether a copy is as in the plain program.
+fn same_copy(
+    alloc: Global,
+    case: &Case,
+    arcs: &Arcs,
+    table: &Table,
+    root: u32,
+) -> Result<bool, AllocError>
+    requires { arcs.now.n ≡ 6 }
+{
     let copy = arcs.copied(alloc)?;
     Ok(
-        same_kinds(&case, &copy)
-            && same_remaining(&copy, &table)
+        same_kinds(case, &copy)
+            && same_remaining(&copy, table)
             && copy.root() == root
             && copy.vertices() == 6,
     )
+}
+
+// Whether a case, six turns with it, and a copy of it are as in the plain program.
+fn same_case(alloc: Global, draws: &mut Draws, case: &Case) -> Result<bool, AllocError>
+    requires { case.now.instance.n ≡ 6 }
+{
+    let root = draws.vertex();
+    let mut arcs = arcs_of(alloc, case, root)?;
+    let mut table = plain_table(case);
+    if !same_turns(alloc, draws, &mut arcs, &mut table)? {
+        return Ok(false);
+    }
+    same_copy(alloc, case, &arcs, &table, root)
+}
+
+fn agrees(alloc: Global, seed: u64) -> Result<bool, AllocError> {
+    let mut draws = Draws { state: seed };
+    let case = draw_case(alloc, &mut draws)?;
+    same_case(alloc, &mut draws, &case)
 }
 
 #[test]
