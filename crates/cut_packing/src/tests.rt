@@ -1,5 +1,5 @@
-ghost use Rattle.std.specs.Prelude.{◌≡◌, ◌<◌, IfOk};
-ghost use Rattle.st_model.specs.Branch.{all_trees, with_outside};
+ghost use Rattle.std.specs.Prelude.{◌≡◌, ◌<◌, [], length, IfOk, OnOk};
+ghost use Rattle.st_model.specs.Branch.{IsBranch, all_trees, with_outside};
 
 mod judge;
 
@@ -9,6 +9,7 @@ use crate::{
 use judge::{plain_fits, plain_full};
 use st_model::{Branch, Instance, Listed, Need, Sides};
 use std::alloc::{AllocError, Global};
+use std::process::Abort;
 use std::test::Fail;
 use test_instances::{Draws, links_of_triangle};
 
@@ -60,18 +61,32 @@ fn packing(alloc: Global, first: u64) -> Result<Packing, AllocError> {
     })
 }
 
-// Whether the packing with this first value fits, whether it is full, and what it weighs.
-fn judged_with(alloc: Global, first: u64) -> Result<(bool, bool, u128), AllocError> {
-    let instance = triangle(alloc, 0)?;
-    let everything = everything(alloc)?;
-    let packing = packing(alloc, first)?;
-    let fits = fits(alloc, &instance, &everything, &packing)?;
-    let is_full = is_full(alloc, &instance, &everything, &packing)?;
-    Ok((
-        fits,
-        is_full,
-        weight(&instance, everything.branch(), &packing),
-    ))
+// Whether a packing fits the branch of all trees, whether it is full, and what it weighs.
+fn judged_in(
+    alloc: Global,
+    instance: &Instance,
+    packing: &Packing,
+) -> Result<(bool, bool, u128), AllocError> {
+    let branch = everything(alloc)?;
+    let fits = fits(alloc, instance, &branch, packing)?;
+    let is_full = is_full(alloc, instance, &branch, packing)?;
+    Ok((fits, is_full, weight(instance, branch.branch(), packing)))
+}
+
+// The same over the triangle where the centre pays so much.
+fn judged_with(
+    alloc: Global,
+    centre: u64,
+    packing: &Packing,
+) -> Result<(bool, bool, u128), AllocError>
+    requires { centre < 100 }
+{
+    judged_in(alloc, &triangle(alloc, centre)?, packing)
+}
+
+// The same of the packing with this first value, where the centre pays nothing.
+fn judged_first(alloc: Global, first: u64) -> Result<(bool, bool, u128), AllocError> {
+    judged_with(alloc, 0, &packing(alloc, first)?)
 }
 
 #[test]
@@ -81,7 +96,7 @@ fn the_triangle_is_packed(rt: HostRuntime) -> Result<(), Fail> {
         (2, (true, true, 6)),
         (3, (false, false, 7)),
     ] {
-        assert_eq!(rt; judged_with(rt.alloc(), first)?, wanted, "with {first}");
+        assert_eq!(rt; judged_first(rt.alloc(), first)?, wanted, "with {first}");
     }
     Ok(())
 }
@@ -93,30 +108,40 @@ fn packings_bound_trees(_rt: HostRuntime) {
 }
 
 // A packing of one cut.
-fn alone(alloc: Global, root: Option<u32>, only: Cut) -> Result<Packing, AllocError> {
+fn alone(
+    alloc: Global,
+    root: Option<u32>,
+    set: &[u32],
+    q: u32,
+    y: u64,
+) -> Result<Packing, AllocError> {
+    let cuts = vec![in alloc; cut(alloc, set, q, y)?]?;
     Ok(Packing {
         root,
-        cuts: Listed::of(vec![in alloc; only]?),
+        cuts: Listed::of(cuts),
     })
 }
 
-// Whether one cut fits a branch of the triangle, where the centre pays 1.
-fn judged_alone(
+// Whether a packing fits a branch of the triangle, where the centre pays 1.
+fn fits_triangle(alloc: Global, branch: &Sides, packing: &Packing) -> Result<bool, AllocError> {
+    fits(alloc, &triangle(alloc, 1)?, branch, packing)
+}
+
+// The same of one cut.
+fn fits_alone(
     alloc: Global,
-    branch: &Sides,
+    branch: Sides,
     root: Option<u32>,
     set: &[u32],
     q: u32,
     y: u64,
 ) -> Result<bool, AllocError> {
-    let instance = triangle(alloc, 1)?;
-    let packing = alone(alloc, root, cut(alloc, set, q, y)?)?;
-    fits(alloc, &instance, branch, &packing)
+    let packing = alone(alloc, root, set, q, y)?;
+    fits_triangle(alloc, &branch, &packing)
 }
 
 #[test]
 fn each_condition_is_needed(rt: HostRuntime) -> Result<(), Fail> {
-    let everything = everything(rt.alloc())?;
     let table = [
         (Some(4), [2, 2], 2, 2),
         (Some(5), [2, 2], 2, 2),
@@ -130,33 +155,29 @@ fn each_condition_is_needed(rt: HostRuntime) -> Result<(), Fail> {
         (None, [2, 2], 2, 2),
     ];
     for (root, set, q, y) in table {
-        assert!(rt; !judged_alone(rt.alloc(), &everything, root, &set, q, y)?);
+        assert!(rt; !fits_alone(rt.alloc(), everything(rt.alloc())?, root, &set, q, y)?);
     }
     Ok(())
 }
 
-// What a cut weighs whose set names a vertex twice, if it fits.
-fn repeated_weight(alloc: Global) -> Result<Option<u128>, AllocError> {
-    let instance = triangle(alloc, 1)?;
-    let everything = everything(alloc)?;
-    let repeated = alone(alloc, Some(1), cut(alloc, &[2, 4, 2], 2, 2)?)?;
-    if !fits(alloc, &instance, &everything, &repeated)? {
-        return Ok(None);
-    }
-    Ok(Some(weight(&instance, everything.branch(), &repeated)))
+// How a cut is judged whose set names a vertex twice.
+fn judged_repeated(alloc: Global) -> Result<(bool, bool, u128), AllocError> {
+    judged_with(alloc, 1, &alone(alloc, Some(1), &[2, 4, 2], 2, 2)?)
 }
 
 #[test]
 fn a_repeated_vertex_counts_once(rt: HostRuntime) -> Result<(), Fail> {
-    assert_eq!(rt; repeated_weight(rt.alloc())?, Some(2));
+    assert_eq!(rt; judged_repeated(rt.alloc())?, (true, false, 2));
     Ok(())
 }
 
 #[test]
 fn outside_vertices_are_left_alone(rt: HostRuntime) -> Result<(), Fail> {
-    let no_centre = avoiding(rt.alloc(), 4)?;
-    assert!(rt; judged_alone(rt.alloc(), &no_centre, Some(1), &[2, 4], 2, 4)?);
-    assert!(rt; !judged_alone(rt.alloc(), &no_centre, Some(1), &[4, 2], 4, 0)?);
+    let alloc = rt.alloc();
+    for (set, q, y, wanted) in [([2, 4], 2, 4, true), ([4, 2], 4, 0, false)] {
+        let fits = fits_alone(alloc, avoiding(alloc, 4)?, Some(1), &set, q, y)?;
+        assert_eq!(rt; fits, wanted, "with {q}");
+    }
     Ok(())
 }
 
@@ -167,15 +188,22 @@ fn apart(alloc: Global) -> Result<Instance, AllocError>
     Instance::build(alloc, 2, &[], &[(1, Need::Required), (2, Need::Pays(7))])
 }
 
-// What no cuts weigh where the vertex that pays is outside.
-fn outside_weight(alloc: Global) -> Result<u128, AllocError> {
-    let instance = apart(alloc)?;
-    let avoided = avoiding(alloc, 2)?;
+// What no cuts weigh.
+fn no_cuts_weigh(alloc: Global, instance: &Instance, branch: &Branch) -> u128
+    requires { IsBranch instance.now branch.now }
+{
     let nothing = Packing {
         root: None,
         cuts: Listed::of(Vec::new(alloc)),
     };
-    Ok(weight(&instance, avoided.branch(), &nothing))
+    weight(instance, branch, &nothing)
+}
+
+// The same where the vertex that pays is outside.
+fn outside_weight(alloc: Global) -> Result<u128, AllocError> {
+    let instance = apart(alloc)?;
+    let avoided = avoiding(alloc, 2)?;
+    Ok(no_cuts_weigh(alloc, &instance, avoided.branch()))
 }
 
 #[test]
@@ -184,15 +212,24 @@ fn outside_vertices_pay(rt: HostRuntime) -> Result<(), Fail> {
     Ok(())
 }
 
+// The numbers of three sets, of which the last is the first again.
+fn put_three(table: &mut SetTable) -> Result<[u32; 3], AllocError>
+    requires { table.old ≡ [] }
+    ensures { OnOk result (length table.new ≡ 2) }
+{
+    Ok([table.put(&[2])?, table.put(&[3])?, table.put(&[2])?])
+}
+
+// The same, and whether the second set is the one that was put.
+fn numbered(alloc: Global) -> Result<([u32; 3], bool), AllocError> {
+    let mut table = SetTable::new(alloc);
+    let numbers = put_three(&mut table)?;
+    Ok((numbers, table.set(1) == [3].as_slice()))
+}
+
 #[test]
 fn equal_sets_have_one_number(rt: HostRuntime) -> Result<(), Fail> {
-    let alloc = rt.alloc();
-    let mut table = SetTable::new(alloc);
-    assert_eq!(rt; table.put(&[2])?, 0);
-    assert_eq!(rt; table.put(&[3])?, 1);
-    assert_eq!(rt; table.put(&[2])?, 0);
-    assert_eq!(rt; table.set(1).len(), 1);
-    assert_eq!(rt; table.set(1).first().copied(), Some(3));
+    assert_eq!(rt; numbered(rt.alloc())?, ([0, 1, 0], true));
     Ok(())
 }
 
@@ -207,19 +244,29 @@ fn some_of(alloc: Global, draws: &mut Draws, low: u32, high: u32) -> Result<Vec<
     Ok(some)
 }
 
+// Some of 2, 3 and 4, and maybe a stray vertex.
+fn random_set(alloc: Global, draws: &mut Draws) -> Result<Vec<u32>, AllocError> {
+    let stray = draws.below(12) as u32;
+    let mut set = some_of(alloc, draws, 2, 5)?;
+    if stray < 6 {
+        set.push(stray)?;
+    }
+    Ok(set)
+}
+
+fn random_cut(alloc: Global, draws: &mut Draws) -> Result<Cut, AllocError> {
+    let set = SharedSet::of(random_set(alloc, draws)?)?;
+    Ok(Cut {
+        set,
+        q: 2 + draws.below(3) as u32,
+        y: draws.below(3),
+    })
+}
+
 fn random_packing(alloc: Global, draws: &mut Draws) -> Result<Packing, AllocError> {
     let mut cuts = Vec::new(alloc);
     for _ in 0..draws.below(4) {
-        let stray = draws.below(12) as u32;
-        let mut set = some_of(alloc, draws, 2, 5)?;
-        if stray < 6 {
-            set.push(stray)?;
-        }
-        cuts.push(Cut {
-            set: SharedSet::of(set)?,
-            q: 2 + draws.below(3) as u32,
-            y: draws.below(3),
-        })?;
+        cuts.push(random_cut(alloc, draws)?)?;
     }
     let root = if draws.below(8) == 0 {
         None
@@ -232,60 +279,78 @@ fn random_packing(alloc: Global, draws: &mut Draws) -> Result<Packing, AllocErro
     })
 }
 
-fn random_branch(alloc: Global, draws: &mut Draws) -> Result<Branch, AllocError> {
-    let all = Branch::all(alloc);
+fn random_branch(alloc: Global, draws: &mut Draws) -> Result<Sides, AllocError> {
     match draws.below(4) {
-        0 => all.with_inside(alloc, 4),
-        1 => all.with_outside(alloc, 4),
-        2 => all.with_outside(alloc, 3),
-        _ => Ok(all),
+        0 => Sides::of(alloc, Branch::all(alloc).with_inside(alloc, 4)?),
+        1 => avoiding(alloc, 4),
+        2 => avoiding(alloc, 3),
+        _ => everything(alloc),
     }
 }
 
-// Whether a random packing fits and is full: by the calls, and by the plain program.
-fn judged(
+// Whether a packing fits and is full: by the calls, and by the plain program.
+fn judged_both(
+    alloc: Global,
+    instance: &Instance,
+    branch: &Sides,
+    packing: &Packing,
+) -> Result<([bool; 2], [bool; 2]), AllocError> {
+    let called = [
+        fits(alloc, instance, branch, packing)?,
+        is_full(alloc, instance, branch, packing)?,
+    ];
+    let plain = [
+        plain_fits(instance, branch.branch(), packing),
+        plain_full(instance, branch.branch(), packing),
+    ];
+    Ok((called, plain))
+}
+
+// The same of a random packing in a random branch.
+fn judged_random(
     alloc: Global,
     instance: &Instance,
     draws: &mut Draws,
 ) -> Result<([bool; 2], [bool; 2]), AllocError> {
     let packing = random_packing(alloc, draws)?;
-    let sides = Sides::of(alloc, random_branch(alloc, draws)?)?;
-    let called = [
-        fits(alloc, instance, &sides, &packing)?,
-        is_full(alloc, instance, &sides, &packing)?,
-    ];
-    let plain = [
-        plain_fits(instance, sides.branch(), &packing),
-        plain_full(instance, sides.branch(), &packing),
-    ];
-    Ok((called, plain))
+    judged_both(alloc, instance, &random_branch(alloc, draws)?, &packing)
 }
 
-#[test]
-fn random_packings_are_judged_alike(rt: HostRuntime) -> Result<(), Fail> {
-    let alloc = rt.alloc();
-    let instance = triangle(alloc, 1)?;
+// How many random packings fit, and how many are full.
+fn judged_alike(rt: &(impl Abort + AllocGlobal), instance: &Instance) -> Result<(u32, u32), Fail> {
     let mut draws = Draws { state: 2027 };
     let mut fitting = 0u32;
     let mut full = 0u32;
     for _ in 0..2000 {
-        let ([fit, filled], plain) = judged(alloc, &instance, &mut draws)?;
+        let ([fit, filled], plain) = judged_random(rt.alloc(), instance, &mut draws)?;
         assert_eq!(rt; [fit, filled], plain);
         fitting = fitting.saturating_add(u32::from(fit));
         full = full.saturating_add(u32::from(filled));
     }
+    Ok((fitting, full))
+}
+
+#[test]
+fn random_packings_are_judged_alike(rt: HostRuntime) -> Result<(), Fail> {
+    let (fitting, full) = judged_alike(&rt, &triangle(rt.alloc(), 1)?)?;
     assert!(rt; 100 < fitting && fitting < 1900);
     assert!(rt; 2 < full && full < 1900);
     Ok(())
 }
 
+// Whether the last set of some cuts is the triangle's without 1.
+fn ends_alike(cuts: &[Cut]) -> bool {
+    match cuts.last() {
+        Some(cut) => cut.set.as_slice() == [2, 3, 4].as_slice(),
+        None => false,
+    }
+}
+
 // Whether a shared packing fits as well, and has the same last set.
 fn shares(alloc: Global) -> Result<bool, AllocError> {
     let shared = packing(alloc, 2)?.shared(alloc)?;
-    let instance = triangle(alloc, 1)?;
-    let last = shared.cuts.as_slice().last();
-    let is_same = last.map(|cut| cut.set.as_slice() == [2, 3, 4].as_slice()) == Some(true);
-    Ok(is_same && fits(alloc, &instance, &everything(alloc)?, &shared)?)
+    let (fits, _, _) = judged_with(alloc, 1, &shared)?;
+    Ok(fits && ends_alike(shared.cuts.as_slice()))
 }
 
 #[test]
