@@ -108,21 +108,28 @@ fn weight(instance: &Instance, outside: &[u32], cuts: &[Cut]) -> u64 {
     sum
 }
 
-fn closing_of(
+// How a tree beside cuts of this weight closes a branch.
+fn tree_closing(
     alloc: Global,
     instance: &Instance,
-    inside: &[u32],
     outside: &[u32],
-    target: u64,
+    tree: &Tree,
+    weight: u64,
 ) -> Result<Closing, AllocError> {
-    let branch = Branch {
-        inside: Listed::of(Vec::from_slice(alloc, inside)?),
-        outside: Listed::of(Vec::from_slice(alloc, outside)?),
-    };
-    let sides = Sides::of(alloc, branch)?;
-    let Some(leaf) = closed(alloc, instance, &sides, target)? else {
-        return Ok(Closing::Undecided);
-    };
+    if !is_tree(alloc, instance, tree)? || !spans(instance, tree, outside) {
+        return Ok(Closing::NoSpanningTree);
+    }
+    let cost = tree_cost(instance, tree);
+    Ok(Closing::Tree { cost, weight })
+}
+
+// The same of a leaf.
+fn leaf_closing(
+    alloc: Global,
+    instance: &Instance,
+    outside: &[u32],
+    leaf: &Leaf,
+) -> Result<Closing, AllocError> {
     let (tree, packing) = match leaf {
         Leaf::Tree(tree, packing) => (Some(tree), packing),
         Leaf::Wall(packing) => (None, packing),
@@ -132,35 +139,73 @@ fn closing_of(
         return Ok(Closing::Overloaded);
     }
     let weight = weight(instance, outside, cuts);
-    let Some(tree) = tree else {
-        return Ok(Closing::Wall { weight });
-    };
-    if !is_tree(alloc, instance, &tree)? || !spans(instance, &tree, outside) {
-        return Ok(Closing::NoSpanningTree);
+    match tree {
+        Some(tree) => tree_closing(alloc, instance, outside, tree, weight),
+        None => Ok(Closing::Wall { weight }),
     }
-    let cost = tree_cost(instance, &tree);
-    Ok(Closing::Tree { cost, weight })
+}
+
+fn sides_of(alloc: Global, inside: &[u32], outside: &[u32]) -> Result<Sides, AllocError> {
+    let branch = Branch {
+        inside: Listed::of(Vec::from_slice(alloc, inside)?),
+        outside: Listed::of(Vec::from_slice(alloc, outside)?),
+    };
+    Sides::of(alloc, branch)
+}
+
+// The same of a branch with this target.
+fn branch_closing(
+    alloc: Global,
+    instance: &Instance,
+    branch: &Sides,
+    target: u64,
+) -> Result<Closing, AllocError> {
+    match closed(alloc, instance, branch, target)? {
+        Some(leaf) => leaf_closing(alloc, instance, branch.branch().outside.as_slice(), &leaf),
+        None => Ok(Closing::Undecided),
+    }
+}
+
+// The same of the branch with these vertices inside and outside.
+fn closing_of(
+    alloc: Global,
+    instance: &Instance,
+    inside: &[u32],
+    outside: &[u32],
+    target: u64,
+) -> Result<Closing, AllocError> {
+    branch_closing(alloc, instance, &sides_of(alloc, inside, outside)?, target)
+}
+
+// The same over the triangle with a centre.
+fn triangle_closing(alloc: Global, inside: &[u32], outside: &[u32]) -> Result<Closing, AllocError> {
+    let triangle = triangle_with_centre(alloc, 4)?;
+    closing_of(alloc, &triangle, inside, outside, 9)
 }
 
 #[test]
 fn closes_the_triangle(rt: HostRuntime) -> Result<(), Fail> {
-    let instance = triangle_with_centre(rt.alloc(), 4)?;
-    let with_centre = closing_of(rt.alloc(), &instance, &[4], &[], 9)?;
+    let with_centre = triangle_closing(rt.alloc(), &[4], &[])?;
     assert_eq!(rt; with_centre, Closing::Tree { cost: 6, weight: 6 });
-    let without_centre = closing_of(rt.alloc(), &instance, &[], &[4], 9)?;
+    let without_centre = triangle_closing(rt.alloc(), &[], &[4])?;
     assert_eq!(rt; without_centre, Closing::Tree { cost: 8, weight: 8 });
-    let undecided = closing_of(rt.alloc(), &instance, &[], &[], 9)?;
+    let undecided = triangle_closing(rt.alloc(), &[], &[])?;
     assert_eq!(rt; undecided, Closing::Undecided);
     Ok(())
 }
 
+// The same over two pairs that are not joined.
+fn pairs_closing(alloc: Global, inside: &[u32], outside: &[u32]) -> Result<Closing, AllocError> {
+    let links = [link(1, 2, 3), link(3, 4, 5)];
+    let pairs = Instance::build(alloc, 4, &links, &[(4, Need::Pays(7))])?;
+    closing_of(alloc, &pairs, inside, outside, 9)
+}
+
 #[test]
 fn closes_parts_that_are_not_joined(rt: HostRuntime) -> Result<(), Fail> {
-    let links = [link(1, 2, 3), link(3, 4, 5)];
-    let instance = Instance::build(rt.alloc(), 4, &links, &[(4, Need::Pays(7))])?;
-    let both = closing_of(rt.alloc(), &instance, &[1, 2, 3, 4], &[], 9)?;
+    let both = pairs_closing(rt.alloc(), &[1, 2, 3, 4], &[])?;
     assert!(rt; matches!(both, Closing::Wall { weight: 9.. }), "{both:?}");
-    let first = closing_of(rt.alloc(), &instance, &[1, 2], &[3, 4], 9)?;
+    let first = pairs_closing(rt.alloc(), &[1, 2], &[3, 4])?;
     assert_eq!(rt;
         first,
         Closing::Tree {
@@ -168,27 +213,47 @@ fn closes_parts_that_are_not_joined(rt: HostRuntime) -> Result<(), Fail> {
             weight: 10
         }
     );
-    let one = closing_of(rt.alloc(), &instance, &[3], &[1, 2, 4], 9)?;
+    let one = pairs_closing(rt.alloc(), &[3], &[1, 2, 4])?;
     assert_eq!(rt; one, Closing::Tree { cost: 7, weight: 7 });
     Ok(())
 }
 
+// The same of all trees over a ring.
+fn ring_closing(alloc: Global) -> Result<Closing, AllocError> {
+    let rising = [link(1, 4, 7), link(2, 3, 2), link(3, 4, 4), link(1, 2, 1)];
+    let ring = Instance::build(alloc, 4, &rising, &[])?;
+    closing_of(alloc, &ring, &[1, 2, 3, 4], &[], 0)
+}
+
+// The same where all links of a ring cost the same.
+fn even_closing(alloc: Global) -> Result<Closing, AllocError> {
+    let equal = [link(1, 2, 5), link(2, 3, 5), link(3, 1, 5)];
+    let even = Instance::build(alloc, 3, &equal, &[])?;
+    closing_of(alloc, &even, &[1, 2, 3], &[], 0)
+}
+
+// The same where links cost nothing.
+fn gift_closing(alloc: Global) -> Result<Closing, AllocError> {
+    let free = [link(1, 2, 0), link(2, 3, 0)];
+    let gift = Instance::build(alloc, 3, &free, &[])?;
+    closing_of(alloc, &gift, &[1, 2, 3], &[], 0)
+}
+
+// The same over one vertex.
+fn lone_closing(alloc: Global) -> Result<Closing, AllocError> {
+    let lone = Instance::build(alloc, 1, &[], &[])?;
+    closing_of(alloc, &lone, &[1], &[], 0)
+}
+
 #[test]
 fn closes_along_the_cheapest_links(rt: HostRuntime) -> Result<(), Fail> {
-    let rising = [link(1, 4, 7), link(2, 3, 2), link(3, 4, 4), link(1, 2, 1)];
-    let ring = Instance::build(rt.alloc(), 4, &rising, &[])?;
-    let equal = [link(1, 2, 5), link(2, 3, 5), link(3, 1, 5)];
-    let even = Instance::build(rt.alloc(), 3, &equal, &[])?;
-    let free = [link(1, 2, 0), link(2, 3, 0)];
-    let gift = Instance::build(rt.alloc(), 3, &free, &[])?;
-    let lone = Instance::build(rt.alloc(), 1, &[], &[])?;
-    for (instance, inside, cost) in [
-        (&ring, [1, 2, 3, 4].as_slice(), 7),
-        (&even, [1, 2, 3].as_slice(), 10),
-        (&gift, [1, 2, 3].as_slice(), 0),
-        (&lone, [1].as_slice(), 0),
+    let alloc = rt.alloc();
+    for (closing, cost) in [
+        (ring_closing(alloc)?, 7),
+        (even_closing(alloc)?, 10),
+        (gift_closing(alloc)?, 0),
+        (lone_closing(alloc)?, 0),
     ] {
-        let closing = closing_of(rt.alloc(), instance, inside, &[], 0)?;
         assert_eq!(rt; closing, Closing::Tree { cost, weight: cost });
     }
     Ok(())
