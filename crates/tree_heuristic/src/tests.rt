@@ -1,4 +1,6 @@
 ghost use Rattle.std.specs.Prelude.{◌≡◌, IfOk};
+ghost use Rattle.st_model.specs.Arborescence.{IsTree};
+ghost use Rattle.st_model.specs.Branch.{all_trees};
 
 use crate::{first_tree, guided_tree, prune, wall};
 use graph_store::Store;
@@ -25,26 +27,35 @@ fn path(alloc: Global) -> Result<Instance, AllocError>
     Instance::build(alloc, 4, &links, &needs)
 }
 
-// What the first tree costs, if there is one, and u64::MAX where it is none.
-fn first_cost(alloc: Global, instance: &Instance) -> Result<Option<u64>, AllocError> {
-    let store = Store::of(alloc, instance)?;
-    let Some(tree) = first_tree(alloc, &store, &Sides::of(alloc, Branch::all(alloc))?)? else {
-        return Ok(None);
-    };
-    if !is_tree(alloc, instance, &tree)? {
-        return Ok(Some(u64::MAX));
-    }
-    Ok(Some(tree_cost(instance, &tree)))
+// The branch of all trees.
+fn all(alloc: Global) -> Result<Sides, AllocError>
+    ensures { IfOk result (λ sides. sides ≡ all_trees) }
+{
+    Sides::of(alloc, Branch::all(alloc))
 }
 
-// What the tree costs to which weights by vertex lead, and u64::MAX where there is none.
-fn guided_cost(alloc: Global, instance: &Instance, weights: &[u64]) -> Result<u64, AllocError> {
-    let store = Store::of(alloc, instance)?;
-    let branch = Sides::of(alloc, Branch::all(alloc))?;
-    match guided_tree(alloc, &store, &branch, weights)? {
-        Some(tree) if is_tree(alloc, instance, &tree)? => Ok(tree_cost(instance, &tree)),
-        _ => Ok(u64::MAX),
+// What a tree costs that was found, if one was, and u64::MAX where it is none.
+fn found_cost(
+    alloc: Global,
+    instance: &Instance,
+    found: &Option<Tree>,
+) -> Result<Option<u64>, AllocError> {
+    match found {
+        Some(tree) if is_tree(alloc, instance, tree)? => Ok(Some(tree_cost(instance, tree))),
+        Some(_) => Ok(Some(u64::MAX)),
+        None => Ok(None),
     }
+}
+
+// What the first tree of a store costs, if there is one.
+fn first_in(alloc: Global, instance: &Instance, store: &Store) -> Result<Option<u64>, AllocError> {
+    let found = first_tree(alloc, store, &all(alloc)?)?;
+    found_cost(alloc, instance, &found)
+}
+
+// What the first tree costs, if there is one.
+fn first_cost(alloc: Global, instance: &Instance) -> Result<Option<u64>, AllocError> {
+    first_in(alloc, instance, &Store::of(alloc, instance)?)
 }
 
 // Two ways between the required vertices 1 and 4: over 2 for 3 and 3, and over 3 for 4 and 4.
@@ -54,27 +65,57 @@ fn two_ways(alloc: Global) -> Result<Instance, AllocError> {
     Instance::build(alloc, 4, &links, &needs)
 }
 
-// What is left of a tree costs, and u64::MAX where the arcs are no tree.
+// What the tree of a store costs to which weights by vertex lead, if there is one.
+fn guided_in(
+    alloc: Global,
+    instance: &Instance,
+    store: &Store,
+    weights: &[u64],
+) -> Result<Option<u64>, AllocError> {
+    let found = guided_tree(alloc, store, &all(alloc)?, weights)?;
+    found_cost(alloc, instance, &found)
+}
+
+// What that one of the two ways costs to which weights by vertex lead.
+fn guided_cost(alloc: Global, weights: &[u64]) -> Result<Option<u64>, AllocError> {
+    let instance = two_ways(alloc)?;
+    let store = Store::of(alloc, &instance)?;
+    guided_in(alloc, &instance, &store, weights)
+}
+
+// What is left of a tree costs.
+fn left_cost(alloc: Global, instance: &Instance, tree: Tree) -> Result<u64, AllocError>
+    requires { IsTree instance.now tree }
+{
+    let left = prune(alloc, instance, &all(alloc)?, tree)?;
+    Ok(tree_cost(instance, &left))
+}
+
+// What is left of a tree of these arcs costs, and u64::MAX where they are no tree.
 fn pruned_cost(
     alloc: Global,
     instance: &Instance,
     start: u32,
     arcs: &[(u32, u32)],
 ) -> Result<u64, AllocError> {
-    let tree = Tree {
-        start,
-        arcs: Listed::of(Vec::from_slice(alloc, arcs)?),
-    };
+    let arcs = Listed::of(Vec::from_slice(alloc, arcs)?);
+    let tree = Tree { start, arcs };
     if !is_tree(alloc, instance, &tree)? {
         return Ok(u64::MAX);
     }
-    let left = prune(
-        alloc,
-        instance,
-        &Sides::of(alloc, Branch::all(alloc))?,
-        tree,
-    )?;
-    Ok(tree_cost(instance, &left))
+    left_cost(alloc, instance, tree)
+}
+
+// Whether a wall is found round one of the two parts of what is apart.
+fn finds_a_part(alloc: Global) -> Result<bool, AllocError> {
+    let found = wall(alloc, &apart(alloc)?)?;
+    match &found {
+        Some(part) => {
+            let part = part.as_slice();
+            Ok(part == [1, 2].as_slice() || part == [3].as_slice())
+        }
+        None => Ok(false),
+    }
 }
 
 #[test]
@@ -102,28 +143,26 @@ fn takes_what_is_worth_it(rt: HostRuntime) -> Result<(), Fail> {
 // Where 2 weighs so much that the way over it looks dearer; a vertex past the list's end weighs 50.
 #[test]
 fn keeps_to_weights(rt: HostRuntime) -> Result<(), Fail> {
-    let instance = two_ways(rt.alloc())?;
-    assert!(rt; guided_cost(rt.alloc(), &instance, &[])? == 6);
-    assert!(rt; guided_cost(rt.alloc(), &instance, &[50, 50, 120, 50, 50])? == 8);
-    assert!(rt; guided_cost(rt.alloc(), &instance, &[50, 50, 80, 50, 50])? == 6);
-    assert!(rt; guided_cost(rt.alloc(), &instance, &[90, 90])? == 6);
+    let alloc = rt.alloc();
+    assert!(rt; guided_cost(alloc, &[])? == Some(6));
+    assert!(rt; guided_cost(alloc, &[50, 50, 120, 50, 50])? == Some(8));
+    assert!(rt; guided_cost(alloc, &[50, 50, 80, 50, 50])? == Some(6));
+    assert!(rt; guided_cost(alloc, &[90, 90])? == Some(6));
     Ok(())
 }
 
 #[test]
 fn finds_walls(rt: HostRuntime) -> Result<(), Fail> {
     assert!(rt; wall(rt.alloc(), &triangle_with_centre(rt.alloc(), 4)?)?.is_none());
-    let found = wall(rt.alloc(), &apart(rt.alloc())?)?.unwrap_or(Vec::new(rt.alloc()));
-    let found = found.as_slice();
-    assert!(rt; found == [1, 2].as_slice() || found == [3].as_slice());
+    assert!(rt; finds_a_part(rt.alloc())?);
     Ok(())
 }
 
 // The way round over the sides, with the centre as a spare leaf.
 #[test]
 fn prunes_the_centre(rt: HostRuntime) -> Result<(), Fail> {
-    let instance = triangle_with_centre(rt.alloc(), 4)?;
-    let cost = pruned_cost(rt.alloc(), &instance, 1, &[(1, 2), (2, 3), (1, 4)])?;
+    let arcs = [(1, 2), (2, 3), (1, 4)];
+    let cost = pruned_cost(rt.alloc(), &triangle_with_centre(rt.alloc(), 4)?, 1, &arcs)?;
     assert!(rt; cost == 8);
     Ok(())
 }
@@ -131,8 +170,7 @@ fn prunes_the_centre(rt: HostRuntime) -> Result<(), Fail> {
 // From either end of the path: vertex 4 stays, since it pays more than its link costs.
 #[test]
 fn prunes_a_path(rt: HostRuntime) -> Result<(), Fail> {
-    let instance = path(rt.alloc())?;
-    let cost = pruned_cost(rt.alloc(), &instance, 3, &[(3, 2), (2, 1)])?;
+    let cost = pruned_cost(rt.alloc(), &path(rt.alloc())?, 3, &[(3, 2), (2, 1)])?;
     assert!(rt; cost == 10);
     Ok(())
 }
