@@ -1,7 +1,9 @@
-ghost use Rattle.std.specs.Prelude.{◌≡◌, IfOk, None};
+ghost use Rattle.std.specs.Prelude.{◌≡◌, All, IfOk, None};
+ghost use Rattle.st_model.specs.Branch.{IsBranch, IsVertexSet, LeavesRequired};
 ghost use Rattle.st_model.specs.Network.{IsInstance};
 ghost use Rattle.dual_ascent.specs.Extension.{IsRootFor, IsStart};
 ghost use Rattle.worker_loop.specs.Finding.{IsFinding, together};
+ghost use Rattle.worker_loop.specs.Raising.{IsExtendable};
 
 use crate::deleting::needed;
 use crate::node::no_cuts;
@@ -55,22 +57,34 @@ pub fn guess<R: Threads + Sync>(
     if weight(&whole.instance, part.branch(), &bare) >= u128::from(least) {
         return Ok(nothing());
     }
+    guess_within(rt, alloc, whole, branch, &part, bare, root, least, guide)
+}
+
+// What is found by cuts that are raised for the root of a part of the branch.
+fn guess_within<R: Threads + Sync>(
+    rt: &R,
+    alloc: Global,
+    whole: &Whole,
+    branch: &Sides,
+    part: &Sides,
+    bare: Packing,
+    root: u32,
+    least: u64,
+    guide: &mut Guide<'_>,
+) -> Result<Finding, AllocError>
+    requires instance { IsInstance whole.now.instance }
+    requires branch { IsBranch whole.now.instance branch.now }
+    requires required { LeavesRequired whole.now.instance branch.now }
+    requires able { IsExtendable whole.now.instance part.now bare root least }
+    ensures { IfOk result (IsFinding whole.now.instance branch.now least) }
+{
     let Extension { ascent, left } = raise_refined(
-        rt, alloc, whole, &part, bare, root, least, TURNS, guide,
+        rt, alloc, whole, part, bare, root, least, TURNS, guide,
     )?;
     match ascent {
-        Ascent::Reached(found) => {
-            let vertices = needed(alloc, whole, branch, &part, &found)?;
-            if are_few(&vertices) {
-                return Ok(planned(Plan::of(&whole.instance, vertices, found)));
-            }
-            let closing = repaired(rt, alloc, whole, branch, found, root, least, guide)?;
-            Ok(Finding {
-                better: None,
-                closing,
-                plan: None,
-            })
-        }
+        Ascent::Reached(packing) => carried_over(
+            rt, alloc, whole, branch, part, packing, root, least, guide,
+        ),
         Ascent::Full(_) => {
             let better = better_tree(alloc, whole, branch, &left.arcs, least, guide.effort)?;
             Ok(Finding {
@@ -80,6 +94,37 @@ pub fn guess<R: Threads + Sync>(
             })
         }
     }
+}
+
+// What is made for the branch of a packing that closes a part of it: a plan, where few vertices are to be
+// deleted, and else a packing that closes the branch, if one comes of it.
+fn carried_over<R: Threads + Sync>(
+    rt: &R,
+    alloc: Global,
+    whole: &Whole,
+    branch: &Sides,
+    part: &Sides,
+    packing: Packing,
+    root: u32,
+    least: u64,
+    guide: &mut Guide<'_>,
+) -> Result<Finding, AllocError>
+    requires instance { IsInstance whole.now.instance }
+    requires branch { IsBranch whole.now.instance branch.now }
+    requires required { LeavesRequired whole.now.instance branch.now }
+    requires sets { All (λ c. IsVertexSet whole.now.instance.n c.set) packing.cuts }
+    ensures { IfOk result (IsFinding whole.now.instance branch.now least) }
+{
+    let vertices = needed(alloc, whole, branch, part, &packing)?;
+    if are_few(&vertices) {
+        return Ok(planned(Plan::of(&whole.instance, vertices, packing)));
+    }
+    let closing = repaired(rt, alloc, whole, branch, packing, root, least, guide)?;
+    Ok(Finding {
+        better: None,
+        closing,
+        plan: None,
+    })
 }
 
 // Whether some vertices are near, and enough of the free ones aren't.

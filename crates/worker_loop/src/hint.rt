@@ -1,6 +1,6 @@
 use crate::plan::Plan;
 use crate::processors::Processors;
-use better_trees::Priced;
+use better_trees::{Priced, least_after, tree_of};
 use branching::Node;
 use st_model::{Listed, Tree};
 use std::alloc::{AllocError, Global};
@@ -58,26 +58,28 @@ impl Hint {
     }
 }
 
-/// What a worker knows beside its node: the best tree, its own or another's, and a plan.
+/// What a worker knows beside its node: the best tree, its own or another's, and a plan. Nothing is copied
+/// before a tree is found, so that a worker that waits for its first node takes no memory.
 #[derive(Drop)]
 pub struct Known<'a> {
     hint: &'a Hint,
-    best: Priced,
+    // The first tree of the search.
+    start: &'a Tree,
+    // A better one, if one was found.
+    better: Option<Priced>,
     // The plan for the node in hand, if there is one.
     pub plan: Option<Plan>,
 }
 
 impl<'a> Known<'a> {
-    /// Of a worker that has found none: the first tree of the search. All that others show are cheaper,
-    /// so its price isn't asked for.
-    pub fn first(alloc: Global, hint: &'a Hint, start: &Tree) -> Result<Known<'a>, AllocError> {
-        let tree = copy_of(alloc, start)?;
-        let price = u64::MAX;
-        Ok(Known {
+    /// Of a worker that has found none, in a search from a first tree.
+    pub fn first(hint: &'a Hint, start: &'a Tree) -> Known<'a> {
+        Known {
             hint,
-            best: Priced { tree, price },
+            start,
+            better: None,
             plan: None,
-        })
+        }
     }
 
     /// Takes all processors for a node without cuts, unless another worker has them.
@@ -96,21 +98,23 @@ impl<'a> Known<'a> {
 
     /// The tree.
     pub fn tree(&self) -> &Tree {
-        &self.best.tree
+        tree_of(self.start, &self.better)
     }
 
-    /// Looks for a tree of others, where some tree is known to cost less.
+    /// Looks for a tree of others, where some tree is known to cost less. All that others show cost less
+    /// than the first tree, whose price isn't asked for.
     pub fn catch_up<R: Wait>(
         &mut self,
         rt: &R,
         alloc: Global,
         least: u64,
     ) -> Result<(), AllocError> {
-        if least >= self.best.price {
+        let price = least_after(u64::MAX, &self.better);
+        if least >= price {
             return Ok(());
         }
-        if let Some(found) = self.hint.below(rt, alloc, self.best.price)? {
-            self.best = found;
+        if let Some(found) = self.hint.below(rt, alloc, price)? {
+            self.better = Some(found);
         }
         Ok(())
     }
@@ -120,10 +124,10 @@ impl<'a> Known<'a> {
         &mut self,
         rt: &R,
         alloc: Global,
-        better: &Option<Priced>,
+        found: &Option<Priced>,
     ) -> Result<(), AllocError> {
-        if let Some(found) = better {
-            self.best = copied(alloc, found)?;
+        if let Some(found) = found {
+            self.better = Some(copied(alloc, found)?);
             self.hint.keep(rt, alloc, found)?;
         }
         Ok(())
@@ -131,16 +135,13 @@ impl<'a> Known<'a> {
 }
 
 fn copied(alloc: Global, found: &Priced) -> Result<Priced, AllocError> {
-    Ok(Priced {
-        tree: copy_of(alloc, &found.tree)?,
-        price: found.price,
-    })
-}
-
-fn copy_of(alloc: Global, tree: &Tree) -> Result<Tree, AllocError> {
+    let tree = &found.tree;
     let arcs = Vec::from_slice(alloc, tree.arcs.as_slice())?;
-    Ok(Tree {
-        start: tree.start,
-        arcs: Listed::of(arcs),
+    Ok(Priced {
+        tree: Tree {
+            start: tree.start,
+            arcs: Listed::of(arcs),
+        },
+        price: found.price,
     })
 }

@@ -65,7 +65,7 @@ impl<Q: Aim> Worker<Q> {
         ensures run { IfOk result (λ s. (tasks : List Task) × HasRun Q.instance Q.gone Q.start self.old.seat
             self.old.workers self.old.pass self.new.pass self.new.ledger self.new.best tasks s) }
     {
-        let mut known = Known::first(alloc, hint, start)?;
+        let mut known = Known::first(hint, start);
         let mut work = Work::begin(alloc, self.best.see());
         let mut hand = None;
         for _ in rt.forever() {

@@ -1,4 +1,4 @@
-ghost use Rattle.std.specs.Prelude.{◌≡◌, ◌<◌, All, IfOk, IsOk, Some, length, map};
+ghost use Rattle.std.specs.Prelude.{◌≡◌, ◌++◌, ◌∷◌, [], ◌<◌, All, IfOk, IsOk, OnOk, Some, length, map};
 ghost use Rattle.worker_loop.specs.Progress.{IsAim, IsUnused};
 ghost use Rattle.worker_loop.specs.Slots.{AreSeated, HasRunIn, HaveRunIn, account_of, pass_of, segment_of, sight_of};
 
@@ -119,6 +119,41 @@ pub fn run_team<Q: Aim + Send, R: Threads + Wait + Sync, G: Gate>(
     );
 }
 
+impl<Q: Aim> Returned<Q> {
+    // What no worker brought yet.
+    fn none(alloc: Global) -> Returned<Q>
+        ensures passes { result.passes.items ≡ [] }
+        ensures accounts { result.accounts.items ≡ [] }
+        ensures sights { result.sights.items ≡ [] }
+        ensures segments { result.segments.items ≡ [] }
+    {
+        Returned {
+            passes: Vec::new(alloc),
+            accounts: Vec::new(alloc),
+            sights: Vec::new(alloc),
+            segments: Vec::new(alloc),
+        }
+    }
+
+    // What is in a slot too. Err: its worker was refused memory.
+    fn take_in(&mut self, slot: Slot<Q>) -> Result<(), AllocError>
+        ensures passes { OnOk result (self.new.passes.items ≡ self.old.passes.items ++ (pass_of slot ∷ [])) }
+        ensures accounts { OnOk result
+            (self.new.accounts.items ≡ self.old.accounts.items ++ (account_of slot ∷ [])) }
+        ensures sights { OnOk result (self.new.sights.items ≡ self.old.sights.items ++ (sight_of slot ∷ [])) }
+        ensures segments { OnOk result (map Some self.new.segments.items
+            ≡ map Some self.old.segments.items ++ (segment_of slot ∷ [])) }
+    {
+        let Slot { worker, segment } = slot;
+        self.segments.push(segment.ok_or(AllocError)?)?;
+        let (pass, account, sight) = worker.back();
+        self.passes.push(pass)?;
+        self.accounts.push(account)?;
+        self.sights.push(sight)?;
+        Ok(())
+    }
+}
+
 /// What a team hands back that has run. Err: a worker was refused memory.
 pub fn handed_back<Q: Aim>(alloc: Global, team: Vec<Slot<Q>>) -> Result<Returned<Q>, AllocError>
     ensures passes { IfOk result (λ r. r.passes.items ≡ map pass_of team.items) }
@@ -126,25 +161,9 @@ pub fn handed_back<Q: Aim>(alloc: Global, team: Vec<Slot<Q>>) -> Result<Returned
     ensures sights { IfOk result (λ r. r.sights.items ≡ map sight_of team.items) }
     ensures segments { IfOk result (λ r. map Some r.segments.items ≡ map segment_of team.items) }
 {
-    let mut passes = Vec::new(alloc);
-    let mut accounts = Vec::new(alloc);
-    let mut sights = Vec::new(alloc);
-    let mut segments = Vec::new(alloc);
+    let mut returned = Returned::none(alloc);
     for slot in team {
-        let Slot { worker, segment } = slot;
-        let Some(segment) = segment else {
-            return Err(AllocError);
-        };
-        let (pass, account, sight) = worker.back();
-        passes.push(pass)?;
-        accounts.push(account)?;
-        sights.push(sight)?;
-        segments.push(segment)?;
+        returned.take_in(slot)?;
     }
-    Ok(Returned {
-        passes,
-        accounts,
-        sights,
-        segments,
-    })
+    Ok(returned)
 }
