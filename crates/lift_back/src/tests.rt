@@ -19,18 +19,6 @@ fn tree_at(alloc: Global, start: u32, arcs: &[(u32, u32)]) -> Result<Tree, Alloc
     })
 }
 
-// A triangle without its sides, of which all corners went with their links to the centre.
-fn used_up(alloc: Global, first: &Instance) -> Result<Reduced, ApplyError> {
-    let mut reduced = Reduced::of(alloc, first)?;
-    for (a, b) in [(1, 2), (1, 3), (2, 3)] {
-        detour(alloc, &mut reduced, a, b, &[4])?;
-    }
-    for vertex in [1, 2, 3] {
-        reduced.apply(&Step::Forced(vertex))?;
-    }
-    Ok(reduced)
-}
-
 // Takes a link for which a walk over these vertices stands in.
 fn detour(
     alloc: Global,
@@ -44,32 +32,62 @@ fn detour(
     reduced.apply(&step)
 }
 
+// Takes the sides of a triangle, and all corners with their links to the centre.
+fn use_up(alloc: Global, reduced: &mut Reduced) -> Result<(), ApplyError> {
+    for (a, b) in [(1, 2), (1, 3), (2, 3)] {
+        detour(alloc, reduced, a, b, &[4])?;
+    }
+    for vertex in [1, 2, 3] {
+        reduced.apply(&Step::Forced(vertex))?;
+    }
+    Ok(())
+}
+
+// A triangle without its sides, of which all corners went with their links to the centre.
+fn used_up(alloc: Global, first: &Instance) -> Result<Reduced, ApplyError> {
+    let mut reduced = Reduced::of(alloc, first)?;
+    use_up(alloc, &mut reduced)?;
+    Ok(reduced)
+}
+
+// What is paid of the used up triangle, and whether just the corners are gone.
+fn left_of_triangle(alloc: Global) -> Result<(u64, bool), ApplyError> {
+    let reduced = used_up(alloc, &triangle_with_centre(alloc, 4)?)?;
+    let gone = reduced.gone(alloc)?;
+    Ok((reduced.offset(), gone.as_slice() == [1, 2, 3].as_slice()))
+}
+
 #[test]
 fn uses_up_a_triangle(rt: HostRuntime) -> Result<(), Fail> {
-    let first = triangle_with_centre(rt.alloc(), 4)?;
-    let reduced = used_up(rt.alloc(), &first)?;
-    assert_eq!(rt; reduced.offset(), 6);
-    assert_eq!(rt; reduced.gone(rt.alloc())?.as_slice(), [1, 2, 3].as_slice());
+    assert_eq!(rt; left_of_triangle(rt.alloc())?, (6, true));
     Ok(())
+}
+
+// What the centre of the used up triangle costs once it is led back.
+fn centre_cost(alloc: Global, first: &Instance) -> Result<Option<u64>, Fail> {
+    let centre = tree_at(alloc, 4, &[])?;
+    lifted_cost(alloc, &used_up(alloc, first)?, first, &centre)
 }
 
 #[test]
 fn leads_the_centre_back(rt: HostRuntime) -> Result<(), Fail> {
-    let first = triangle_with_centre(rt.alloc(), 4)?;
-    let reduced = used_up(rt.alloc(), &first)?;
-    let centre = tree_at(rt.alloc(), 4, &[])?;
-    let cost = lifted_cost(rt.alloc(), &reduced, &first, &centre)?;
+    let cost = centre_cost(rt.alloc(), &triangle_with_centre(rt.alloc(), 4)?)?;
     assert_eq!(rt; cost, Some(6));
     Ok(())
 }
 
+// What the used up triangle answers where its centre is to go as well, and what is paid then.
+fn forced_last(alloc: Global) -> Result<(Result<(), ApplyError>, u64), ApplyError> {
+    let mut reduced = used_up(alloc, &triangle_with_centre(alloc, 4)?)?;
+    let answer = reduced.apply(&Step::Forced(4));
+    Ok((answer, reduced.offset()))
+}
+
 #[test]
 fn keeps_the_last_required_vertex(rt: HostRuntime) -> Result<(), Fail> {
-    let first = triangle_with_centre(rt.alloc(), 4)?;
-    let mut reduced = used_up(rt.alloc(), &first)?;
-    let answer = reduced.apply(&Step::Forced(4));
+    let (answer, offset) = forced_last(rt.alloc())?;
     assert_eq!(rt; answer, Err(ApplyError::StepFault));
-    assert_eq!(rt; reduced.offset(), 6);
+    assert_eq!(rt; offset, 6);
     Ok(())
 }
 
@@ -77,8 +95,7 @@ fn keeps_the_last_required_vertex(rt: HostRuntime) -> Result<(), Fail> {
 fn detour_answer(alloc: Global, side: u64, a: u32, b: u32, inner: &[u32]) -> Result<(), ApplyError>
     requires { side ≤ 100 }
 {
-    let first = triangle_with_centre(alloc, side)?;
-    let mut reduced = Reduced::of(alloc, &first)?;
+    let mut reduced = Reduced::of(alloc, &triangle_with_centre(alloc, side)?)?;
     detour(alloc, &mut reduced, a, b, inner)
 }
 
@@ -112,8 +129,7 @@ fn path(alloc: Global) -> Result<Instance, AllocError>
 
 // What a step answers on the path.
 fn path_answer(alloc: Global, step: &Step) -> Result<(), ApplyError> {
-    let first = path(alloc)?;
-    let mut reduced = Reduced::of(alloc, &first)?;
+    let mut reduced = Reduced::of(alloc, &path(alloc)?)?;
     reduced.apply(step)
 }
 
@@ -136,38 +152,55 @@ fn judges_vertices(rt: HostRuntime) {
     }
 }
 
+// Where the links of 3 and of 4 lead.
+fn path_ends(alloc: Global) -> Result<(Ends, Ends), AllocError> {
+    let mut reduced = Reduced::of(alloc, &path(alloc)?)?;
+    Ok((reduced.ends(3), reduced.ends(4)))
+}
+
 #[test]
 fn tells_where_links_lead(rt: HostRuntime) -> Result<(), Fail> {
-    let mut reduced = Reduced::of(rt.alloc(), &path(rt.alloc())?)?;
-    assert!(rt; matches!(reduced.ends(3), Ends::One(4)));
-    assert!(rt; matches!(reduced.ends(4), Ends::More));
+    let (third, fourth) = path_ends(rt.alloc())?;
+    assert!(rt; matches!(third, Ends::One(4)));
+    assert!(rt; matches!(fourth, Ends::More));
     Ok(())
 }
 
-// The path without what hangs at it and the vertex in its middle.
+// Takes what hangs at the path and the vertex in its middle.
+fn shorten(reduced: &mut Reduced) -> Result<(), ApplyError> {
+    reduced.apply(&Step::Pendant(3))?;
+    reduced.apply(&Step::Through(2))
+}
+
+// The path without them.
 fn shortened(alloc: Global, first: &Instance) -> Result<Reduced, ApplyError> {
     let mut reduced = Reduced::of(alloc, first)?;
-    reduced.apply(&Step::Pendant(3))?;
-    reduced.apply(&Step::Through(2))?;
+    shorten(&mut reduced)?;
     Ok(reduced)
+}
+
+// The cost of the link that is left of the path, and how many links are left.
+fn left_of_path(alloc: Global) -> Result<(Option<u64>, usize), ApplyError> {
+    let reduced = shortened(alloc, &path(alloc)?)?;
+    let left = reduced.instance(alloc)?;
+    Ok((left.link_cost(1, 4), left.links().len()))
 }
 
 #[test]
 fn shortens_a_path(rt: HostRuntime) -> Result<(), Fail> {
-    let first = path(rt.alloc())?;
-    let reduced = shortened(rt.alloc(), &first)?;
-    let left = reduced.instance(rt.alloc())?;
-    assert_eq!(rt; left.link_cost(1, 4), Some(8));
-    assert_eq!(rt; left.links().len(), 1);
+    assert_eq!(rt; left_of_path(rt.alloc())?, (Some(8), 1));
     Ok(())
+}
+
+// What that link costs once it is led back.
+fn path_cost(alloc: Global, first: &Instance) -> Result<Option<u64>, Fail> {
+    let tree = tree_at(alloc, 4, &[(4, 1)])?;
+    lifted_cost(alloc, &shortened(alloc, first)?, first, &tree)
 }
 
 #[test]
 fn leads_a_path_back(rt: HostRuntime) -> Result<(), Fail> {
-    let first = path(rt.alloc())?;
-    let reduced = shortened(rt.alloc(), &first)?;
-    let tree = tree_at(rt.alloc(), 4, &[(4, 1)])?;
-    let cost = lifted_cost(rt.alloc(), &reduced, &first, &tree)?;
+    let cost = path_cost(rt.alloc(), &path(rt.alloc())?)?;
     assert_eq!(rt; cost, Some(8));
     Ok(())
 }

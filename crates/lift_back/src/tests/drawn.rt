@@ -169,7 +169,24 @@ fn least_of(one: Option<u64>, other: Option<u64>) -> Option<u64> {
     }
 }
 
-// The least that a tree costs to which one of what is left from a start leads back.
+// The least that a tree costs to which one of these links from a start leads back.
+fn least_over(
+    alloc: Global,
+    reduced: &Reduced,
+    first: &Instance,
+    links: &[Link],
+    start: u32,
+) -> Result<Option<u64>, Fail> {
+    let mut least = None;
+    for set in 0..1024 {
+        if let Some(tree) = tree_of(alloc, links, set, start)? {
+            least = least_of(least, lifted_cost(alloc, reduced, first, &tree)?);
+        }
+    }
+    Ok(least)
+}
+
+// The same of all links that are left.
 fn least_from(
     alloc: Global,
     reduced: &Reduced,
@@ -177,13 +194,7 @@ fn least_from(
     start: u32,
 ) -> Result<Option<u64>, Fail> {
     let left = reduced.instance(alloc)?;
-    let mut least = None;
-    for set in 0..1024 {
-        if let Some(tree) = tree_of(alloc, left.links(), set, start)? {
-            least = least_of(least, lifted_cost(alloc, reduced, first, &tree)?);
-        }
-    }
-    Ok(least)
+    least_over(alloc, reduced, first, left.links(), start)
 }
 
 // The same from any start.
@@ -195,6 +206,13 @@ fn least_cost(alloc: Global, reduced: &Reduced, first: &Instance) -> Result<Opti
     Ok(least)
 }
 
+// Whether a step may be taken, by the plain program.
+fn is_wanted(alloc: Global, reduced: &Reduced, step: &Step) -> Result<bool, AllocError> {
+    let left = reduced.instance(alloc)?;
+    let gone = reduced.gone(alloc)?;
+    Ok(may_take(&left, &gone, step))
+}
+
 // Takes a step where it may be taken, and answers whether it was. Err comes where a plain program
 // says otherwise, or where the least cost is another then.
 fn is_taken(
@@ -204,9 +222,7 @@ fn is_taken(
     step: &Step,
     least: Option<u64>,
 ) -> Result<bool, Fail> {
-    let left = reduced.instance(alloc)?;
-    let gone = reduced.gone(alloc)?;
-    let wanted = may_take(&left, &gone, step);
+    let wanted = is_wanted(alloc, reduced, step)?;
     let taken = reduced.apply(step).is_ok();
     if taken != wanted {
         return Err(Fail::new("another answer than the plain program's"));
@@ -217,19 +233,29 @@ fn is_taken(
     Ok(taken)
 }
 
-// How many drawn steps are taken of a drawn instance.
+// How many drawn steps are taken of an instance of which nothing is gone.
+fn steps_from(
+    alloc: Global,
+    reduced: &mut Reduced,
+    first: &Instance,
+    draws: &mut Draws,
+) -> Result<u32, Fail> {
+    let least = least_cost(alloc, reduced, first)?;
+    let mut taken: u32 = 0;
+    for _turn in 0..400 {
+        let step = drawn_step(alloc, draws)?;
+        let more = is_taken(alloc, reduced, first, &step, least)?;
+        taken = taken.saturating_add(u32::from(more));
+    }
+    Ok(taken)
+}
+
+// The same of a drawn instance.
 fn steps_taken(alloc: Global, seed: u64) -> Result<u32, Fail> {
     let mut draws = Draws { state: seed };
     let first = drawn_instance(alloc, &mut draws)?;
     let mut reduced = Reduced::of(alloc, &first)?;
-    let least = least_cost(alloc, &reduced, &first)?;
-    let mut taken: u32 = 0;
-    for _turn in 0..400 {
-        let step = drawn_step(alloc, &mut draws)?;
-        let more = is_taken(alloc, &mut reduced, &first, &step, least)?;
-        taken = taken.saturating_add(u32::from(more));
-    }
-    Ok(taken)
+    steps_from(alloc, &mut reduced, &first, &mut draws)
 }
 
 #[test]

@@ -1,12 +1,13 @@
-ghost use Rattle.std.specs.Prelude.{◌≡◌, ◌==◌, ℕ, IsTrue, IsFalse};
+ghost use Rattle.std.specs.Prelude.{◌≡◌, ◌==◌, ℕ, IsTrue, IsFalse, IfOk, IfSome};
 ghost use Rattle.std.specs.Bool.{OnTrue};
 ghost use Rattle.std.specs.List.{list_any};
 ghost use Rattle.st_model.specs.Arborescence.{reached};
 ghost use Rattle.st_model.specs.Lists.{has};
+ghost use Rattle.lift_back.specs.State.{IsTreeOf};
 
 use crate::Reduced;
 use st_model::{Instance, Tree, is_tree, tree_cost};
-use std::alloc::Global;
+use std::alloc::{AllocError, Global};
 use std::test::Fail;
 
 fn is_head(arcs: &[(u32, u32)], vertex: u32) -> bool
@@ -41,6 +42,18 @@ fn cost_of(alloc: Global, first: &Instance, tree: &Tree) -> Result<u64, Fail> {
     Ok(tree_cost(first, tree))
 }
 
+// What a tree of what is left costs there and what is paid besides, if it is one.
+fn cost_left(alloc: Global, reduced: &Reduced, tree: &Tree) -> Result<Option<u64>, AllocError>
+    ensures { IfOk result (λ cost. IfSome cost (λ _. IsTreeOf reduced.now.state tree.now)) }
+{
+    let left = reduced.instance(alloc)?;
+    let gone = reduced.gone(alloc)?;
+    if !is_tree(alloc, &left, tree)? || !misses(tree, &gone) {
+        return Ok(None);
+    }
+    Ok(Some(tree_cost(&left, tree).saturating_add(reduced.offset())))
+}
+
 // What the tree costs in the first instance that a tree of what is left leads back to, if this is
 // one. Err comes where that is not what it costs here, and what is paid besides.
 pub fn lifted_cost(
@@ -49,14 +62,12 @@ pub fn lifted_cost(
     first: &Instance,
     tree: &Tree,
 ) -> Result<Option<u64>, Fail> {
-    let left = reduced.instance(alloc)?;
-    let gone = reduced.gone(alloc)?;
-    if !is_tree(alloc, &left, tree)? || !misses(tree, &gone) {
+    let Some(wanted) = cost_left(alloc, reduced, tree)? else {
         return Ok(None);
-    }
+    };
     let back = reduced.lift(alloc, tree)?;
     let cost = cost_of(alloc, first, &back)?;
-    if cost != tree_cost(&left, tree).saturating_add(reduced.offset()) {
+    if cost != wanted {
         return Err(Fail::new("another cost than before"));
     }
     Ok(Some(cost))
