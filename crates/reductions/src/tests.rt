@@ -5,31 +5,34 @@ use std::alloc::{AllocError, Global};
 use std::test::Fail;
 use test_instances::{Draws, triangle_with_centre};
 
+// What was paid, how many vertices are gone, and how many links are left.
+fn sums(alloc: Global, reduced: &Reduced) -> Result<(u64, usize, usize), AllocError> {
+    let gone = reduced.gone(alloc)?.len();
+    let links = reduced.instance(alloc)?.links().len();
+    Ok((reduced.offset(), gone, links))
+}
+
+// How many steps the triangle takes, and the sums then.
+fn used_up(alloc: Global) -> Result<(usize, (u64, usize, usize)), AllocError> {
+    let (steps, reduced) = reduce(alloc, &triangle_with_centre(alloc, 4)?)?;
+    Ok((steps.len(), sums(alloc, &reduced)?))
+}
+
 // The sides go for the ways over the centre, and then each corner with its link but the last.
 #[test]
 fn uses_up_a_triangle(rt: HostRuntime) -> Result<(), Fail> {
-    let first = triangle_with_centre(rt.alloc(), 4)?;
-    let (steps, reduced) = reduce(rt.alloc(), &first)?;
-    assert_eq!(rt; steps.len(), 6);
-    assert_eq!(rt; reduced.offset(), 6);
-    assert_eq!(rt; reduced.gone(rt.alloc())?.len(), 3);
-    assert!(rt; reduced.instance(rt.alloc())?.links().is_empty());
+    assert_eq!(rt; used_up(rt.alloc())?, (6, (6, 3, 0)));
     Ok(())
 }
 
-// What the same steps leave of an instance, taken in this order; None where one may not be taken.
-fn replayed(
-    alloc: Global,
-    first: &Instance,
-    steps: &[Step],
-) -> Result<Option<Reduced>, AllocError> {
-    let mut reduced = Reduced::of(alloc, first)?;
+// Whether these steps may be taken in this order.
+fn replays(reduced: &mut Reduced, steps: &[Step]) -> bool {
     for step in steps {
         if reduced.apply(step).is_err() {
-            return Ok(None);
+            return false;
         }
     }
-    Ok(Some(reduced))
+    true
 }
 
 // Whether a vertex may still go by a step.
@@ -54,18 +57,23 @@ fn is_detour(
     Ok(reduced.apply(&step).is_ok())
 }
 
-// Whether some link has a detour over one of the vertices 1 to 6 or over two of them.
-fn has_short_detour(alloc: Global, reduced: &mut Reduced) -> Result<bool, AllocError> {
-    let left = reduced.instance(alloc)?;
-    for link in left.links() {
-        for u in 1..7 {
-            for w in 1..7 {
-                if is_detour(alloc, reduced, link, &[u])?
-                    || is_detour(alloc, reduced, link, &[u, w])?
-                {
-                    return Ok(true);
-                }
+// Whether a link has a detour over one of the vertices 1 to 6 or over two of them.
+fn has_detour(alloc: Global, reduced: &mut Reduced, link: &Link) -> Result<bool, AllocError> {
+    for u in 1..7 {
+        for w in 1..7 {
+            if is_detour(alloc, reduced, link, &[u])? || is_detour(alloc, reduced, link, &[u, w])? {
+                return Ok(true);
             }
+        }
+    }
+    Ok(false)
+}
+
+// Whether some of these links has one.
+fn has_detours(alloc: Global, reduced: &mut Reduced, links: &[Link]) -> Result<bool, AllocError> {
+    for link in links {
+        if has_detour(alloc, reduced, link)? {
+            return Ok(true);
         }
     }
     Ok(false)
@@ -78,28 +86,47 @@ fn has_step(alloc: Global, reduced: &mut Reduced) -> Result<bool, AllocError> {
             return Ok(true);
         }
     }
-    has_short_detour(alloc, reduced)
+    let left = reduced.instance(alloc)?;
+    has_detours(alloc, reduced, left.links())
 }
 
-// How many steps of a drawn instance are taken; None where they don't lead to what is left, or
-// where another one may be taken there.
-fn steps_of(alloc: Global, seed: u64) -> Result<Option<usize>, AllocError> {
-    let first = Draws { state: seed }.instance(alloc)?;
-    let (steps, reduced) = reduce(alloc, &first)?;
-    let Some(mut again) = replayed(alloc, &first, &steps)? else {
-        return Ok(None);
-    };
-    if again.offset() != reduced.offset() || has_step(alloc, &mut again)? {
-        return Ok(None);
+// Whether these steps may be taken and no other one after them, and this much is paid then.
+fn is_end(
+    alloc: Global,
+    reduced: &mut Reduced,
+    steps: &[Step],
+    offset: u64,
+) -> Result<bool, AllocError> {
+    if !replays(reduced, steps) || reduced.offset() != offset {
+        return Ok(false);
     }
-    Ok(Some(steps.len()))
+    Ok(!has_step(alloc, reduced)?)
+}
+
+// How many steps these are; None where they don't lead to what is left of an instance, or where
+// another one may be taken there.
+fn counted(
+    alloc: Global,
+    first: &Instance,
+    steps: &[Step],
+    left: &Reduced,
+) -> Result<Option<usize>, AllocError> {
+    let mut again = Reduced::of(alloc, first)?;
+    let is_end = is_end(alloc, &mut again, steps, left.offset())?;
+    Ok(is_end.then_some(steps.len()))
+}
+
+// How many steps of an instance are taken, if they are right and all.
+fn steps_of(alloc: Global, first: &Instance) -> Result<Option<usize>, AllocError> {
+    let (steps, reduced) = reduce(alloc, first)?;
+    counted(alloc, first, &steps, &reduced)
 }
 
 #[test]
 fn leaves_no_step_of_drawn_instances(rt: HostRuntime) -> Result<(), Fail> {
     let mut count = 0usize;
     for seed in 0..40u64 {
-        let steps = steps_of(rt.alloc(), seed)?;
+        let steps = steps_of(rt.alloc(), &Draws { state: seed }.instance(rt.alloc())?)?;
         let steps = steps.ok_or("a step is wrong, or one is left")?;
         count = count.saturating_add(steps);
     }
