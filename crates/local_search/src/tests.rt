@@ -1,4 +1,6 @@
-ghost use Rattle.std.specs.Prelude.{◌≡◌};
+ghost use Rattle.std.specs.Prelude.{◌≡◌, IfOk};
+ghost use Rattle.st_model.specs.Arborescence.{IsTree};
+ghost use Rattle.st_model.specs.Branch.{all_trees};
 
 use crate::{improve, judged};
 use graph_store::Whole;
@@ -13,24 +15,43 @@ mod drawn;
 mod noise;
 mod wandering;
 
-// What is left of a tree costs once it is improved, and u64::MAX where the arcs are no tree.
-fn improved_cost(
-    alloc: Global,
-    instance: Instance,
-    start: u32,
-    arcs: &[(u32, u32)],
-) -> Result<u64, AllocError> {
-    let whole = Whole::of(alloc, instance)?;
-    let tree = Tree {
-        start,
-        arcs: Listed::of(Vec::from_slice(alloc, arcs)?),
-    };
+// The branch of all trees.
+fn all(alloc: Global) -> Result<Sides, AllocError>
+    ensures { IfOk result (λ sides. sides ≡ all_trees) }
+{
+    Sides::of(alloc, Branch::all(alloc))
+}
+
+// A tree of these arcs from 1.
+fn tree_over(alloc: Global, arcs: &[(u32, u32)]) -> Result<Tree, AllocError> {
+    let arcs = Listed::of(Vec::from_slice(alloc, arcs)?);
+    Ok(Tree { start: 1, arcs })
+}
+
+// What a tree costs once it is improved.
+fn cost_of_better(alloc: Global, whole: &Whole, tree: Tree) -> Result<u64, AllocError>
+    requires { IsTree whole.now.instance tree }
+{
+    let better = improve(alloc, whole, &all(alloc)?, tree)?;
+    Ok(tree_cost(&whole.instance, &better))
+}
+
+// What the tree of these arcs costs once it is improved, and u64::MAX where they are no tree.
+fn better_in(alloc: Global, whole: &Whole, arcs: &[(u32, u32)]) -> Result<u64, AllocError> {
+    let tree = tree_over(alloc, arcs)?;
     if !is_tree(alloc, &whole.instance, &tree)? {
         return Ok(u64::MAX);
     }
-    let branch = Sides::of(alloc, Branch::all(alloc))?;
-    let better = improve(alloc, &whole, &branch, tree)?;
-    Ok(tree_cost(&whole.instance, &better))
+    cost_of_better(alloc, whole, tree)
+}
+
+// The same in an instance.
+fn improved_cost(
+    alloc: Global,
+    instance: Instance,
+    arcs: &[(u32, u32)],
+) -> Result<u64, AllocError> {
+    better_in(alloc, &Whole::of(alloc, instance)?, arcs)
 }
 
 // Required vertices 1, 2 and 3, each with a link of 3 to vertex 4, and over a vertex of its own with
@@ -91,7 +112,7 @@ fn uneven_triangle(alloc: Global) -> Result<Instance, AllocError> {
 #[test]
 fn spans_what_is_reached(rt: HostRuntime) -> Result<(), Fail> {
     let instance = uneven_triangle(rt.alloc())?;
-    let cost = improved_cost(rt.alloc(), instance, 1, &[(1, 2), (2, 3)])?;
+    let cost = improved_cost(rt.alloc(), instance, &[(1, 2), (2, 3)])?;
     assert_eq!(rt; cost, 8);
     Ok(())
 }
@@ -99,7 +120,7 @@ fn spans_what_is_reached(rt: HostRuntime) -> Result<(), Fail> {
 #[test]
 fn puts_the_centre_in(rt: HostRuntime) -> Result<(), Fail> {
     let instance = triangle_with_centre(rt.alloc(), 4)?;
-    let cost = improved_cost(rt.alloc(), instance, 1, &[(1, 2), (2, 3)])?;
+    let cost = improved_cost(rt.alloc(), instance, &[(1, 2), (2, 3)])?;
     assert_eq!(rt; cost, 6);
     Ok(())
 }
@@ -107,7 +128,7 @@ fn puts_the_centre_in(rt: HostRuntime) -> Result<(), Fail> {
 #[test]
 fn exchanges_a_key_path(rt: HostRuntime) -> Result<(), Fail> {
     let instance = two_paths(rt.alloc())?;
-    let cost = improved_cost(rt.alloc(), instance, 1, &[(1, 3), (3, 2)])?;
+    let cost = improved_cost(rt.alloc(), instance, &[(1, 3), (3, 2)])?;
     assert_eq!(rt; cost, 6);
     Ok(())
 }
@@ -115,7 +136,7 @@ fn exchanges_a_key_path(rt: HostRuntime) -> Result<(), Fail> {
 #[test]
 fn takes_a_key_vertex_out(rt: HostRuntime) -> Result<(), Fail> {
     let instance = two_stars(rt.alloc())?;
-    let cost = improved_cost(rt.alloc(), instance, 1, &[(1, 4), (4, 2), (4, 3)])?;
+    let cost = improved_cost(rt.alloc(), instance, &[(1, 4), (4, 2), (4, 3)])?;
     assert_eq!(rt; cost, 6);
     Ok(())
 }
@@ -124,21 +145,25 @@ fn takes_a_key_vertex_out(rt: HostRuntime) -> Result<(), Fail> {
 #[test]
 fn weighs_prizes(rt: HostRuntime) -> Result<(), Fail> {
     let instance = two_prizes(rt.alloc())?;
-    let cost = improved_cost(rt.alloc(), instance, 1, &[(1, 2), (2, 3)])?;
+    let cost = improved_cost(rt.alloc(), instance, &[(1, 2), (2, 3)])?;
     assert_eq!(rt; cost, 11);
     Ok(())
 }
 
-// Whether arcs from 1 are judged to be a tree.
-fn is_judged_so(alloc: Global, arcs: &[(u32, u32)]) -> Result<bool, AllocError> {
-    let instance = two_paths(alloc)?;
-    let branch = Sides::of(alloc, Branch::all(alloc))?;
-    let tree = Tree {
-        start: 1,
-        arcs: Listed::of(Vec::from_slice(alloc, arcs)?),
-    };
-    let found = judged(alloc, &instance, &branch, tree)?;
+// Whether arcs from 1 are judged to be a tree of an instance.
+fn is_judged_in(
+    alloc: Global,
+    instance: &Instance,
+    arcs: &[(u32, u32)],
+) -> Result<bool, AllocError> {
+    let tree = tree_over(alloc, arcs)?;
+    let found = judged(alloc, instance, &all(alloc)?, tree)?;
     Ok(found.is_some())
+}
+
+// Whether they are of the two paths.
+fn is_judged_so(alloc: Global, arcs: &[(u32, u32)]) -> Result<bool, AllocError> {
+    is_judged_in(alloc, &two_paths(alloc)?, arcs)
 }
 
 #[test]

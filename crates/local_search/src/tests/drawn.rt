@@ -36,7 +36,23 @@ struct Costs {
     holds: bool,
 }
 
-// Improves the first tree of the branch that reaches vertex 2 and not vertex 5, and walks on from there.
+// What a walk from a tree comes to, and whether that is a tree that reaches vertex 2 and not vertex 5.
+fn walked(
+    alloc: Global,
+    whole: &Whole,
+    branch: &Sides,
+    tree: Tree,
+) -> Result<(u64, bool), AllocError>
+    requires branch { IsBranch whole.now.instance branch.now }
+    requires tree { IsTree whole.now.instance tree }
+    requires belongs { Belongs branch.now tree }
+{
+    let tree = wander(alloc, whole, branch, tree, 7, 4)?;
+    let holds = is_tree(alloc, &whole.instance, &tree)? && reaches(&tree, 2) && !reaches(&tree, 5);
+    Ok((tree_cost(&whole.instance, &tree), holds))
+}
+
+// Improves a tree of the branch, and walks on from there.
 fn improved(
     alloc: Global,
     whole: &Whole,
@@ -51,15 +67,13 @@ fn improved(
     let first = tree_cost(&whole.instance, &tree);
     let tree = improve(alloc, whole, branch, tree)?;
     let better = tree_cost(&whole.instance, &tree);
-    let tree = wander(alloc, whole, branch, tree, 7, 4)?;
-    let walked = tree_cost(&whole.instance, &tree);
-    let grows = is_tree(alloc, &whole.instance, &tree)?;
+    let (walked, holds) = walked(alloc, whole, branch, tree)?;
     Ok(Costs {
         first,
         better,
         walked,
         least,
-        holds: grows && reaches(&tree, 2) && !reaches(&tree, 5),
+        holds,
     })
 }
 
@@ -71,17 +85,34 @@ fn reaches(tree: &Tree, vertex: u32) -> bool {
     found
 }
 
+// The costs in a branch, if it has a tree.
+fn costs_of(
+    alloc: Global,
+    whole: &Whole,
+    branch: &Sides,
+    least: u64,
+) -> Result<Option<Costs>, AllocError>
+    requires { IsBranch whole.now.instance branch.now }
+{
+    match first_tree(alloc, &whole.store, branch)? {
+        Some(tree) => Ok(Some(improved(alloc, whole, branch, tree, least)?)),
+        None => Ok(None),
+    }
+}
+
+// The same in the branch that reaches vertex 2 and not vertex 5.
+fn costs_in(alloc: Global, whole: &Whole) -> Result<Option<Costs>, AllocError>
+    requires { whole.now.instance.n ≡ 6 }
+{
+    let least = least_over_sets(&whole.instance, 2, 5);
+    let branch = sides(alloc, &whole.instance, 2, 5)?;
+    costs_of(alloc, whole, &branch, least)
+}
+
 // The costs in a drawn instance, if the branch has a tree there.
 fn drawn_costs(alloc: Global, seed: u64) -> Result<Option<Costs>, AllocError> {
     let instance = Draws { state: seed }.instance(alloc)?;
-    let branch = sides(alloc, &instance, 2, 5)?;
-    let least = least_over_sets(&instance, 2, 5);
-    let whole = Whole::of(alloc, instance)?;
-    let Some(tree) = first_tree(alloc, &whole.store, &branch)? else {
-        return Ok(None);
-    };
-    let costs = improved(alloc, &whole, &branch, tree, least)?;
-    Ok(Some(costs))
+    costs_in(alloc, &Whole::of(alloc, instance)?)
 }
 
 // Of drawn branches, how many have a tree, in how many of these what is improved costs no more than the

@@ -1,6 +1,9 @@
+ghost use Rattle.st_model.specs.Arborescence.{IsTree};
+
+use super::{all, tree_over};
 use crate::wander;
 use graph_store::Whole;
-use st_model::{Branch, Instance, Listed, Need, Sides, Tree, is_tree, tree_cost};
+use st_model::{Instance, Need, Tree, is_tree, tree_cost};
 use std::alloc::{AllocError, Global};
 use std::test::Fail;
 use test_instances::link;
@@ -24,19 +27,26 @@ fn two_ways(alloc: Global) -> Result<Instance, AllocError> {
     Instance::build(alloc, 5, &links, &needs)
 }
 
-// What a walk of so many steps from the tree over vertex 3 comes to, and u64::MAX where that is no tree.
-fn cost_after(alloc: Global, instance: Instance, steps: u64) -> Result<u64, AllocError> {
-    let whole = Whole::of(alloc, instance)?;
-    let tree = Tree {
-        start: 1,
-        arcs: Listed::of(Vec::from_slice(alloc, &[(1, 3), (3, 2), (1, 5)])?),
-    };
+// What a walk of so many steps from a tree comes to.
+fn cost_from(alloc: Global, whole: &Whole, tree: Tree, steps: u64) -> Result<u64, AllocError>
+    requires { IsTree whole.now.instance tree }
+{
+    let tree = wander(alloc, whole, &all(alloc)?, tree, 1, steps)?;
+    Ok(tree_cost(&whole.instance, &tree))
+}
+
+// The same from the tree over vertex 3, and u64::MAX where that is no tree.
+fn cost_in(alloc: Global, whole: &Whole, steps: u64) -> Result<u64, AllocError> {
+    let tree = tree_over(alloc, &[(1, 3), (3, 2), (1, 5)])?;
     if !is_tree(alloc, &whole.instance, &tree)? {
         return Ok(u64::MAX);
     }
-    let branch = Sides::of(alloc, Branch::all(alloc))?;
-    let tree = wander(alloc, &whole, &branch, tree, 1, steps)?;
-    Ok(tree_cost(&whole.instance, &tree))
+    cost_from(alloc, whole, tree, steps)
+}
+
+// The same among the two ways.
+fn cost_after(alloc: Global, steps: u64) -> Result<u64, AllocError> {
+    cost_in(alloc, &Whole::of(alloc, two_ways(alloc)?)?, steps)
 }
 
 // No move gains at the tree over vertex 3, which costs 7. The one over vertex 4 costs as much, and there vertex
@@ -44,8 +54,7 @@ fn cost_after(alloc: Global, instance: Instance, steps: u64) -> Result<u64, Allo
 #[test]
 fn walks_to_a_cheaper_tree(rt: HostRuntime) -> Result<(), Fail> {
     for (steps, cost) in [(0, 7), (6, 6)] {
-        let instance = two_ways(rt.alloc())?;
-        assert_eq!(rt; cost_after(rt.alloc(), instance, steps)?, cost);
+        assert_eq!(rt; cost_after(rt.alloc(), steps)?, cost);
     }
     Ok(())
 }
