@@ -4,6 +4,7 @@ use super::book::Book;
 use super::draft::Draft;
 use super::ground::Ground;
 use crate::Search;
+use st_model::Instance;
 use std::alloc::{AllocError, Global};
 use std::test::Fail;
 use test_instances::Draws;
@@ -13,19 +14,6 @@ const START: u64 = 20;
 
 /// How many events are drawn.
 const EVENTS: u64 = 200;
-
-// A search and the book of it.
-fn begun(
-    alloc: Global,
-    workers: u32,
-    budget: u64,
-    draws: &mut Draws,
-) -> Result<(Search, Book), AllocError> {
-    let (ground, instance) = Ground::drawn(alloc, draws)?;
-    let search = Search::begin(alloc, &instance, &[], workers, budget, START)?;
-    let book = Book::begin(alloc, ground, workers, budget, START)?;
-    Ok((search, book))
-}
 
 // Whether an event is answered as the book says.
 fn answers_as(
@@ -66,12 +54,36 @@ fn all_agree(
 }
 
 // Whether they all do, and many of them happen, but not all.
-fn is_followed(alloc: Global, workers: u32, budget: u64, state: u64) -> Result<bool, AllocError> {
-    let mut draws = Draws { state };
-    let (mut search, mut book) = begun(alloc, workers, budget, &mut draws)?;
-    let agree = all_agree(alloc, &mut search, &mut book, &mut draws)?;
+fn follows(
+    alloc: Global,
+    search: &mut Search,
+    book: &mut Book,
+    draws: &mut Draws,
+) -> Result<bool, AllocError> {
+    let agree = all_agree(alloc, search, book, draws)?;
     let is_busy = book.entries.len() > 8 && book.happened > EVENTS / 2;
     Ok(agree && is_busy && book.happened < EVENTS)
+}
+
+// The same of a search that begins on a ground, and a book of it.
+fn is_followed_on(
+    alloc: Global,
+    ground: Ground,
+    instance: &Instance,
+    workers: u32,
+    budget: u64,
+    draws: &mut Draws,
+) -> Result<bool, AllocError> {
+    let mut book = Book::begin(alloc, ground, workers, budget, START)?;
+    let mut search = Search::begin(alloc, instance, &[], workers, budget, START)?;
+    follows(alloc, &mut search, &mut book, draws)
+}
+
+// The same on a drawn ground.
+fn is_followed(alloc: Global, workers: u32, budget: u64, state: u64) -> Result<bool, AllocError> {
+    let mut draws = Draws { state };
+    let (ground, instance) = Ground::drawn(alloc, &mut draws)?;
+    is_followed_on(alloc, ground, &instance, workers, budget, &mut draws)
 }
 
 /// The workers, the budget, and what is drawn from.

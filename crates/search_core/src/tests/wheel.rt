@@ -1,6 +1,6 @@
 //! A whole search of an odd wheel by two workers.
 use super::notes::{Note, cuts_weigh, note_of, packing_of};
-use super::{cut, refuses, takes};
+use super::{answer, cut, has};
 use crate::{Done, End, Event, EventFault, Gathered, Search, Segment};
 use cut_packing::Packing;
 use st_model::{Instance, Listed, Need};
@@ -116,7 +116,7 @@ fn event(alloc: Global, turn: u32) -> Result<Event, AllocError> {
 // Whether all events happen, and the least value and the open nodes are right halfway.
 fn all_happen(alloc: Global, search: &mut Search) -> Result<bool, AllocError> {
     for turn in 0..EVENTS {
-        if !takes(search, event(alloc, turn)?)? {
+        if answer(search, event(alloc, turn)?)?.is_some() {
             return Ok(false);
         }
         if turn == 5 && !has(search, 10, 2) {
@@ -129,13 +129,13 @@ fn all_happen(alloc: Global, search: &mut Search) -> Result<bool, AllocError> {
 // Whether a worker has an empty hand, no close of it waits for its down, and no half is fresh.
 fn is_idle(search: &mut Search, w: u32) -> Result<bool, AllocError> {
     for id in 0..3 {
-        if !refuses(search, Event::Pick { w, id }, EventFault::NotThere)? {
+        if answer(search, Event::Pick { w, id })? != Some(EventFault::NotThere) {
             return Ok(false);
         }
     }
     Ok(
-        refuses(search, Event::Up { w }, EventFault::HandEmpty)?
-            && refuses(search, Event::Down { w }, EventFault::OutOfTurn)?,
+        answer(search, Event::Up { w })? == Some(EventFault::HandEmpty)
+            && answer(search, Event::Down { w })? == Some(EventFault::OutOfTurn),
     )
 }
 
@@ -200,25 +200,26 @@ fn is_settled(search: &mut Search) -> Result<bool, AllocError> {
     Ok(is_idle(search, 0)? && is_idle(search, 1)?)
 }
 
-// Whether the least value and the number of open nodes are these.
-fn has(search: &Search, least: u64, opened: u64) -> bool {
-    search.least() == least && search.open_count() == opened
-}
-
 // Whether what is gathered is complete.
 fn gathers_all(search: &Search) -> Result<bool, AllocError> {
-    Ok(is_complete(&search.segments()?))
+    let all = search.segments()?;
+    Ok(is_complete(&all))
 }
 
-// Whether the search ends settled, with the least cost, and with a record for each of its nodes.
+// Whether a search ends settled, with the least cost, and with a record for each of its nodes.
+fn ends_settled(alloc: Global, search: &mut Search) -> Result<bool, AllocError> {
+    Ok(
+        all_happen(alloc, search)?
+            && is_settled(search)?
+            && has(search, 10, 0)
+            && gathers_all(search)?,
+    )
+}
+
+// Whether that of the wheel does.
 fn ends_with_ten(alloc: Global) -> Result<bool, AllocError> {
     let mut search = begun(alloc)?;
-    Ok(
-        all_happen(alloc, &mut search)?
-            && is_settled(&mut search)?
-            && has(&search, 10, 0)
-            && gathers_all(&search)?,
-    )
+    ends_settled(alloc, &mut search)
 }
 
 #[test]
