@@ -18,23 +18,30 @@ pub fn whole(alloc: Global, instance: &Instance) -> Result<(Arcs, Twins), AllocE
 {
     let store = Store::of(alloc, instance)?;
     let branch = Sides::of(alloc, Branch::all(alloc))?;
-    let arcs = Arcs::of(alloc, &store, &branch, 1)?;
+    whole_of(alloc, &store, &branch)
+}
+
+// The arcs of a branch from vertex 1 on, and the ends, all whole.
+fn whole_of(alloc: Global, store: &Store, branch: &Sides) -> Result<(Arcs, Twins), AllocError>
+    requires { 1 ≤ store.now.network.n }
+    ensures { IfOk result (λ made. AreEndsOf made.0 made.1) }
+{
+    let arcs = Arcs::of(alloc, store, branch, 1)?;
     let twins = Twins::of(alloc, &arcs)?;
     Ok((arcs, twins))
 }
 
-// What an ascent over these makes, and what it leaves of them.
+// What an ascent over these makes.
 fn ascend_whole(
     alloc: Global,
     instance: &Instance,
     order: &[u32],
     target: u64,
-) -> Result<(Ascent, Arcs, Twins), AllocError>
+) -> Result<Ascent, AllocError>
     requires { 1 ≤ instance.now.n }
 {
     let (mut arcs, mut twins) = whole(alloc, instance)?;
-    let ascent = ascend(alloc, &mut arcs, &mut twins, order, target)?;
-    Ok((ascent, arcs, twins))
+    ascend(alloc, &mut arcs, &mut twins, order, target)
 }
 
 // Whether the target was reached, what the cuts weigh, and how many they are.
@@ -53,9 +60,29 @@ pub fn weight(packing: &Packing) -> u64 {
     sum
 }
 
+// How an ascent over whole arcs and ends comes out.
+fn outcome_whole(
+    alloc: Global,
+    instance: &Instance,
+    order: &[u32],
+    target: u64,
+) -> Result<(bool, u64, usize), AllocError>
+    requires { 1 ≤ instance.now.n }
+{
+    Ok(outcome(&ascend_whole(alloc, instance, order, target)?))
+}
+
+fn outcome_of_triangle(
+    alloc: Global,
+    order: &[u32],
+    target: u64,
+) -> Result<(bool, u64, usize), AllocError> {
+    let instance = triangle_with_centre(alloc, 4)?;
+    outcome_whole(alloc, &instance, order, target)
+}
+
 #[test]
 fn raises_the_triangle_to_its_optimum(rt: HostRuntime) -> Result<(), Fail> {
-    let instance = triangle_with_centre(rt.alloc(), 4)?;
     // Two cuts of 2 round the terminal that is first, and one of 2 round the other one.
     let orders: [&[u32]; 4] = [&[], &[3, 2], &[9, 3, 0, 3, 1, 4_000_000_000], &[4, 2]];
     for order in orders {
@@ -66,8 +93,8 @@ fn raises_the_triangle_to_its_optimum(rt: HostRuntime) -> Result<(), Fail> {
             (1, (true, 1, 1)),
             (0, (true, 0, 0)),
         ] {
-            let (ascent, _, _) = ascend_whole(rt.alloc(), &instance, order, target)?;
-            assert_eq!(rt; outcome(&ascent), want, "up to {target} by {order:?}");
+            let found = outcome_of_triangle(rt.alloc(), order, target)?;
+            assert_eq!(rt; found, want, "up to {target} by {order:?}");
         }
     }
     Ok(())
@@ -82,14 +109,43 @@ fn is_first(ascent: &Ascent, q: u32) -> bool {
     }
 }
 
+// Whether the first cut of an ascent over the triangle in this order is.
+fn raises_first(alloc: Global, order: &[u32], q: u32) -> Result<bool, AllocError> {
+    let instance = triangle_with_centre(alloc, 4)?;
+    let ascent = ascend_whole(alloc, &instance, order, 1)?;
+    Ok(is_first(&ascent, q))
+}
+
 #[test]
 fn raises_first_what_is_named_first(rt: HostRuntime) -> Result<(), Fail> {
-    let instance = triangle_with_centre(rt.alloc(), 4)?;
     for (order, q) in [([2, 3], 2), ([3, 2], 3)] {
-        let (ascent, _, _) = ascend_whole(rt.alloc(), &instance, &order, 1)?;
-        assert!(rt; is_first(&ascent, q), "{q}");
+        assert!(rt; raises_first(rt.alloc(), &order, q)?, "{q}");
     }
     Ok(())
+}
+
+// How an ascent comes out, and what remains of the first arc of a pair and of the second one's prize.
+fn outcome_and_left(
+    alloc: Global,
+    arcs: &mut Arcs,
+    twins: &mut Twins,
+) -> Result<((bool, u64, usize), Option<u64>, u64), AllocError>
+    requires { AreEndsOf arcs.old twins.old }
+{
+    let ascent = ascend(alloc, arcs, twins, &[], 100)?;
+    Ok((outcome(&ascent), arcs.remaining(1, 2), twins.left(2)))
+}
+
+// The same for a pair whose second vertex pays a prize.
+fn outcome_of_pair(
+    alloc: Global,
+    prize: u64,
+) -> Result<((bool, u64, usize), Option<u64>, u64), AllocError>
+    requires { prize ≤ 100 }
+{
+    let instance = pair(alloc, Need::Required, Need::Pays(prize))?;
+    let (mut arcs, mut twins) = whole(alloc, &instance)?;
+    outcome_and_left(alloc, &mut arcs, &mut twins)
 }
 
 #[test]
@@ -101,11 +157,8 @@ fn takes_no_more_than_the_prize(rt: HostRuntime) -> Result<(), Fail> {
         (5, (false, 5, 1), 0, 0),
         (7, (false, 5, 1), 0, 2),
     ] {
-        let instance = pair(rt.alloc(), Need::Required, Need::Pays(prize))?;
-        let (ascent, arcs, twins) = ascend_whole(rt.alloc(), &instance, &[], 100)?;
-        assert_eq!(rt; outcome(&ascent), want, "for {prize}");
-        assert_eq!(rt; arcs.remaining(1, 2), Some(arc), "for {prize}");
-        assert_eq!(rt; twins.left(2), left, "for {prize}");
+        let found = outcome_of_pair(rt.alloc(), prize)?;
+        assert_eq!(rt; found, (want, Some(arc), left), "for {prize}");
     }
     Ok(())
 }
@@ -114,7 +167,7 @@ fn takes_no_more_than_the_prize(rt: HostRuntime) -> Result<(), Fail> {
 fn reaches_any_target_where_a_terminal_is_apart(rt: HostRuntime) -> Result<(), Fail> {
     let needs = [(1, Need::Required), (2, Need::Required)];
     let instance = Instance::build(rt.alloc(), 2, &[], &needs)?;
-    let (ascent, _, _) = ascend_whole(rt.alloc(), &instance, &[], u64::MAX)?;
-    assert_eq!(rt; outcome(&ascent), (true, u64::MAX, 1));
+    let found = outcome_whole(rt.alloc(), &instance, &[], u64::MAX)?;
+    assert_eq!(rt; found, (true, u64::MAX, 1));
     Ok(())
 }

@@ -1,15 +1,16 @@
 ghost use Rattle.std.specs.Prelude.{◌≡◌, ◌↔◌, [], ◌+◌, ◌<◌, IsTrue, IfOk, All};
 ghost use Rattle.std.specs.Bool.{OnTrue};
 ghost use Rattle.std.specs.List.Sorted.{IsStrictlyIncreasing};
+ghost use Rattle.st_model.specs.Branch.{all_trees};
 ghost use Rattle.st_model.specs.Network.{IsVertex, is_required};
 ghost use Rattle.cut_packing.specs.Packing.{Fits};
 ghost use Rattle.dual_ascent.specs.Extension.{IsStart, IsRootFor};
 
-use crate::{charge_cuts, extend, joined_fits, joined_inside_fits, joined_is_full};
-use bidirected_form::Arcs;
+use crate::{
+    Extension, Remainder, extend, joined_fits, joined_inside_fits, joined_is_full, left_by,
+};
 use cut_packing::{Cut, Packing, SharedSet, fits, weight};
 use graph_store::Store;
-use prize_transform::Twins;
 use st_model::{Branch, Instance, Listed, Need, Sides};
 use std::alloc::{AllocError, Global};
 use std::test::Fail;
@@ -80,8 +81,8 @@ fn has_root(packing: &Packing, root: u32) -> bool
     }
 }
 
-// Whether an ascent can go on from a packing, from this root.
-pub fn can_extend(
+// Whether an ascent can go on from a packing in a branch of all trees, from this root.
+fn can_extend_in(
     alloc: Global,
     instance: &Instance,
     branch: &Sides,
@@ -103,32 +104,65 @@ pub fn can_extend(
     Ok(fit)
 }
 
-// A branch's arcs and ends where a packing is charged, if an ascent can go on from it.
+// The same where the branch isn't made yet.
+pub fn can_extend(
+    alloc: Global,
+    instance: &Instance,
+    packing: &Packing,
+    root: u32,
+) -> Result<bool, AllocError>
+    ensures start { IfOk result (λ yes. OnTrue yes (IsStart instance.now all_trees packing.now)) }
+    ensures root { IfOk result (λ yes. OnTrue yes (IsRootFor instance.now all_trees packing.now root)) }
+{
+    let branch = Sides::of(alloc, Branch::all(alloc))?;
+    can_extend_in(alloc, instance, &branch, packing, root)
+}
+
+// What a packing leaves of all trees, where an ascent can go on from it.
+fn left_of_all(
+    alloc: Global,
+    instance: &Instance,
+    packing: &Packing,
+    root: u32,
+) -> Result<Remainder, AllocError>
+    requires start { IsStart instance.now all_trees packing.now }
+    requires root { IsRootFor instance.now all_trees packing.now root }
+{
+    let store = Store::of(alloc, instance)?;
+    let branch = Sides::of(alloc, Branch::all(alloc))?;
+    left_by(alloc, &store, &branch, packing, root)
+}
+
+// What it leaves of them, if an ascent can go on from it.
 fn charged(
     alloc: Global,
     instance: &Instance,
     packing: &Packing,
     root: u32,
-) -> Result<Option<(Arcs, Twins)>, AllocError> {
-    let branch = Sides::of(alloc, Branch::all(alloc))?;
-    if !can_extend(alloc, instance, &branch, packing, root)? {
+) -> Result<Option<Remainder>, AllocError> {
+    if !can_extend(alloc, instance, packing, root)? {
         return Ok(None);
     }
-    let store = Store::of(alloc, instance)?;
-    prove!(root <= store.vertices());
-    let mut arcs = Arcs::of(alloc, &store, &branch, root)?;
-    let mut twins = Twins::of(alloc, &arcs)?;
-    charge_cuts(&mut arcs, &mut twins, packing.cuts.as_slice());
-    Ok(Some((arcs, twins)))
+    Ok(Some(left_of_all(alloc, instance, packing, root)?))
+}
+
+// Two cuts of the triangle.
+fn packing_of_triangle(alloc: Global) -> Result<Packing, AllocError> {
+    let cuts = vec![in alloc; cut(alloc, &[2], 2, 1)?, cut(alloc, &[2, 4], 2, 1)?]?;
+    Ok(packing(1, cuts))
+}
+
+// What they leave of an arc, if they fit.
+fn left_of_triangle(alloc: Global, u: u32, v: u32) -> Result<Option<u64>, AllocError> {
+    let packing = packing_of_triangle(alloc)?;
+    match charged(alloc, &triangle_with_centre(alloc, 4)?, &packing, 1)? {
+        Some(left) => Ok(left.arcs.remaining(u, v)),
+        None => Ok(None),
+    }
 }
 
 #[test]
 fn charges_the_triangle(rt: HostRuntime) -> Result<(), Fail> {
-    let alloc = rt.alloc();
-    let cuts = vec![in alloc; cut(alloc, &[2], 2, 1)?, cut(alloc, &[2, 4], 2, 1)?]?;
-    let instance = triangle_with_centre(alloc, 4)?;
-    let found = charged(alloc, &instance, &packing(1, cuts), 1)?;
-    let (arcs, _) = found.ok_or("the packing doesn't fit")?;
     for (u, v, left) in [
         (1, 2, 2),
         (3, 2, 2),
@@ -139,27 +173,67 @@ fn charges_the_triangle(rt: HostRuntime) -> Result<(), Fail> {
         (2, 1, 4),
         (1, 3, 4),
     ] {
-        assert_eq!(rt; arcs.remaining(u, v), Some(left), "from {u} to {v}");
+        let found = left_of_triangle(rt.alloc(), u, v)?;
+        assert_eq!(rt; found, Some(left), "from {u} to {v}");
     }
     Ok(())
 }
 
-#[test]
-fn charges_a_prize(rt: HostRuntime) -> Result<(), Fail> {
-    let alloc = rt.alloc();
+// Three cuts of the path.
+pub fn packing_of_path(alloc: Global) -> Result<Packing, AllocError> {
     let cuts = vec![in alloc;
         cut(alloc, &[2], 2, 2)?,
         cut(alloc, &[2, 3], 3, 1)?,
         cut(alloc, &[3], 3, 1)?,
     ]?;
-    let found = charged(alloc, &path(alloc)?, &packing(1, cuts), 1)?;
-    let (arcs, twins) = found.ok_or("the packing doesn't fit")?;
-    for (u, v, left) in [(1, 2, 2), (2, 1, 5), (2, 3, 3), (3, 2, 2)] {
-        assert_eq!(rt; arcs.remaining(u, v), Some(left), "from {u} to {v}");
+    Ok(packing(1, cuts))
+}
+
+// What is left of the path's arcs from 1 to 2 and back and from 2 to 3 and back, and of the prizes
+// of 2 and 3.
+pub type OnPath = ([u64; 4], [u64; 2]);
+
+pub fn left_on_path(left: &Remainder) -> OnPath {
+    let there = left.arcs.remaining(1, 2).unwrap_or(u64::MAX);
+    let back = left.arcs.remaining(2, 1).unwrap_or(u64::MAX);
+    let on = left.arcs.remaining(2, 3).unwrap_or(u64::MAX);
+    let back_on = left.arcs.remaining(3, 2).unwrap_or(u64::MAX);
+    (
+        [there, back, on, back_on],
+        [left.twins.left(2), left.twins.left(3)],
+    )
+}
+
+// What three cuts leave there, if they fit.
+fn charged_path(alloc: Global) -> Result<Option<OnPath>, AllocError> {
+    let packing = packing_of_path(alloc)?;
+    match charged(alloc, &path(alloc)?, &packing, 1)? {
+        Some(left) => Ok(Some(left_on_path(&left))),
+        None => Ok(None),
     }
-    assert_eq!(rt; twins.left(2), 1);
-    assert_eq!(rt; twins.left(3), 0);
+}
+
+#[test]
+fn charges_a_prize(rt: HostRuntime) -> Result<(), Fail> {
+    let found = charged_path(rt.alloc())?;
+    assert_eq!(rt; found, Some(([2, 5, 3, 2], [1, 0])));
     Ok(())
+}
+
+// What an ascent from a packing makes over all trees, where it can go on from it.
+fn raised(
+    alloc: Global,
+    instance: &Instance,
+    packing: Packing,
+    root: u32,
+    target: u64,
+) -> Result<Extension, AllocError>
+    requires start { IsStart instance.now all_trees packing }
+    requires root { IsRootFor instance.now all_trees packing root }
+{
+    let store = Store::of(alloc, instance)?;
+    let branch = Sides::of(alloc, Branch::all(alloc))?;
+    extend(alloc, &store, &branch, packing, root, &[], target)
 }
 
 // Whether an ascent from a packing ends full, and what all cuts weigh, if it can go on from it.
@@ -170,15 +244,23 @@ fn extended(
     root: u32,
     target: u64,
 ) -> Result<Option<(bool, u128)>, AllocError> {
-    let branch = Sides::of(alloc, Branch::all(alloc))?;
-    if !can_extend(alloc, instance, &branch, &packing, root)? {
+    if !can_extend(alloc, instance, &packing, root)? {
         return Ok(None);
     }
-    let store = Store::of(alloc, instance)?;
-    let extension = extend(alloc, &store, &branch, packing, root, &[], target)?;
-    let ascent = &extension.ascent;
-    let weighs = weight(instance, branch.branch(), ascent.packing());
+    let ascent = raised(alloc, instance, packing, root, target)?.ascent;
+    let weighs = weight(instance, &Branch::all(alloc), ascent.packing());
     Ok(Some((!ascent.is_reached(), weighs)))
+}
+
+// A cut of 1 round vertex 2 of the triangle.
+fn start(alloc: Global) -> Result<Packing, AllocError> {
+    Ok(packing(1, vec![in alloc; cut(alloc, &[2], 2, 1)?]?))
+}
+
+// The same over the triangle from this cut.
+fn extended_triangle(alloc: Global, target: u64) -> Result<Option<(bool, u128)>, AllocError> {
+    let instance = triangle_with_centre(alloc, 4)?;
+    extended(alloc, &instance, start(alloc)?, 1, target)
 }
 
 #[test]
@@ -186,11 +268,8 @@ fn extends_the_triangle(rt: HostRuntime) -> Result<(), Fail> {
     joined_fits();
     joined_inside_fits();
     joined_is_full();
-    let alloc = rt.alloc();
-    let instance = triangle_with_centre(alloc, 4)?;
     for (target, full, weighs) in [(100, true, 6), (5, false, 6), (2, false, 3), (0, false, 1)] {
-        let start = packing(1, vec![in alloc; cut(alloc, &[2], 2, 1)?]?);
-        let found = extended(alloc, &instance, start, 1, target)?;
+        let found = extended_triangle(rt.alloc(), target)?;
         assert_eq!(rt; found, Some((full, weighs)), "up to {target}");
     }
     Ok(())

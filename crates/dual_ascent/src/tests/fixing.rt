@@ -1,3 +1,4 @@
+ghost use Rattle.std.specs.Prelude.{◌≡◌, ◌≤◌, IfOk};
 ghost use Rattle.std.specs.Bool.{OnTrue};
 ghost use Rattle.st_model.specs.Network.{IsVertex};
 ghost use Rattle.dual_ascent.specs.Left.{IsThere};
@@ -48,17 +49,33 @@ fn worth(alloc: Global, arcs: &Arcs, vertex: u32, target: u64) -> Result<Option<
     }
 }
 
+// What they weigh over the whole arcs of an instance.
+fn worth_whole(
+    alloc: Global,
+    instance: &Instance,
+    vertex: u32,
+    target: u64,
+) -> Result<Option<u64>, AllocError>
+    requires { 1 ≤ instance.now.n }
+{
+    let (arcs, _) = whole(alloc, instance)?;
+    worth(alloc, &arcs, vertex, target)
+}
+
+fn worth_in_triangle(alloc: Global, vertex: u32, target: u64) -> Result<Option<u64>, AllocError> {
+    let instance = triangle_with_centre(alloc, 4)?;
+    worth_whole(alloc, &instance, vertex, target)
+}
+
 #[test]
 fn fixes_the_centre_of_the_triangle(rt: HostRuntime) -> Result<(), Fail> {
-    let instance = triangle_with_centre(rt.alloc(), 4)?;
-    let (arcs, _) = whole(rt.alloc(), &instance)?;
     for (vertex, target, want) in [
         (4, 10, Some(2)),
         (4, 1, Some(1)),
         (2, 10, Some(4)),
         (5, 10, None),
     ] {
-        let found = worth(rt.alloc(), &arcs, vertex, target)?;
+        let found = worth_in_triangle(rt.alloc(), vertex, target)?;
         assert_eq!(rt; found, want, "for {vertex} up to {target}");
     }
     Ok(())
@@ -68,8 +85,7 @@ fn fixes_the_centre_of_the_triangle(rt: HostRuntime) -> Result<(), Fail> {
 fn reaches_any_target_where_no_walk_leads(rt: HostRuntime) -> Result<(), Fail> {
     let needs = [(1, Need::Required), (2, Need::Pays(1))];
     let instance = Instance::build(rt.alloc(), 2, &[], &needs)?;
-    let (arcs, _) = whole(rt.alloc(), &instance)?;
-    let found = worth(rt.alloc(), &arcs, 2, u64::MAX)?;
+    let found = worth_whole(rt.alloc(), &instance, 2, u64::MAX)?;
     assert_eq!(rt; found, Some(u64::MAX));
     Ok(())
 }
@@ -87,14 +103,22 @@ fn are_levels(packing: &Packing) -> bool {
     }
 }
 
+// Whether these are the cuts for vertex 3 up to 8 over the whole arcs of an instance.
+fn cuts_levels(alloc: Global, instance: &Instance) -> Result<bool, AllocError>
+    requires { 1 ≤ instance.now.n }
+{
+    let (arcs, _) = whole(alloc, instance)?;
+    match cuts_for(alloc, &arcs, 3, 8)? {
+        Some(packing) => Ok(are_levels(&packing)),
+        None => Ok(false),
+    }
+}
+
 #[test]
 fn cuts_at_each_distance(rt: HostRuntime) -> Result<(), Fail> {
     let links = [link(1, 2, 5), link(2, 3, 4), link(3, 4, 9)];
     let instance = Instance::build(rt.alloc(), 4, &links, &[(1, Need::Required)])?;
-    let (arcs, _) = whole(rt.alloc(), &instance)?;
-    let found = cuts_for(rt.alloc(), &arcs, 3, 8)?;
-    let packing = found.ok_or("the vertex is there")?;
-    assert!(rt; are_levels(&packing));
+    assert!(rt; cuts_levels(rt.alloc(), &instance)?);
     Ok(())
 }
 
@@ -114,10 +138,17 @@ fn ascend_to(alloc: Global, arcs: &mut Arcs, target: u64) -> Result<(), AllocErr
     Ok(())
 }
 
+// An instance that is drawn.
+fn drawn_store(alloc: Global, draws: &mut Draws) -> Result<Store, AllocError>
+    ensures { IfOk result (λ store. store.network.n ≡ 6) }
+{
+    let instance = draws.instance(alloc)?;
+    Store::of(alloc, &instance)
+}
+
 // The arcs of what is drawn, from a vertex that is drawn, with one drawn outside.
 fn drawn(alloc: Global, draws: &mut Draws) -> Result<Arcs, AllocError> {
-    let instance = draws.instance(alloc)?;
-    let store = Store::of(alloc, &instance)?;
+    let store = drawn_store(alloc, draws)?;
     let branch = without(alloc, draws.vertex())?;
     Arcs::of(alloc, &store, &branch, draws.vertex())
 }
@@ -157,18 +188,21 @@ fn is_exact(alloc: Global, arcs: &Arcs, vertex: u32, target: u64) -> Result<bool
     }
 }
 
+// Whether they do so over drawn arcs after an ascent, for a vertex and a target, which it answers.
+fn is_exact_over_drawn(alloc: Global, draws: &mut Draws) -> Result<(bool, u32, u64), AllocError> {
+    let mut arcs = drawn(alloc, draws)?;
+    ascend_to(alloc, &mut arcs, draws.below_ten())?;
+    let vertex = draws.vertex();
+    let target = draws.below(20);
+    Ok((is_exact(alloc, &arcs, vertex, target)?, vertex, target))
+}
+
 #[test]
 fn weighs_the_distance_of_what_is_drawn(rt: HostRuntime) -> Result<(), Fail> {
     let mut draws = Draws { state: 5 };
     for _ in 0..200 {
-        let mut arcs = drawn(rt.alloc(), &mut draws)?;
-        ascend_to(rt.alloc(), &mut arcs, draws.below_ten())?;
-        let vertex = draws.vertex();
-        let target = draws.below(20);
-        assert!(rt;
-            is_exact(rt.alloc(), &arcs, vertex, target)?,
-            "for {vertex} up to {target}"
-        );
+        let (is_exact, vertex, target) = is_exact_over_drawn(rt.alloc(), &mut draws)?;
+        assert!(rt; is_exact, "for {vertex} up to {target}");
     }
     Ok(())
 }

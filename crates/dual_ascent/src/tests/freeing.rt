@@ -1,11 +1,12 @@
 ghost use Rattle.std.specs.Prelude.{All};
-ghost use Rattle.st_model.specs.Branch.{IsVertexSet};
-ghost use Rattle.dual_ascent.specs.Extension.{packing_of};
+ghost use Rattle.st_model.specs.Branch.{IsVertexSet, all_trees};
+ghost use Rattle.graph_store.specs.Whole.{IsWhole};
+ghost use Rattle.dual_ascent.specs.Extension.{IsStart, IsRootFor};
 ghost use Rattle.dual_ascent.specs.Laws.{IsCharged};
 ghost use Rattle.dual_ascent.specs.Left.{AreEndsOf};
 
-use crate::tests::extending::{can_extend, cut, packing, path};
-use crate::{Extension, Remainder, extend, free, left_by};
+use crate::tests::extending::{OnPath, can_extend, left_on_path, packing, packing_of_path, path};
+use crate::{Remainder, extend, free, left_by};
 use cut_packing::Packing;
 use graph_store::Store;
 use st_model::{Branch, Instance, Sides};
@@ -13,69 +14,70 @@ use std::alloc::{AllocError, Global};
 use std::test::Fail;
 use test_instances::Draws;
 
-// What is left of all trees where marked cuts of a packing are freed, and the packing of the others,
-// if the packing fits.
+// How many cuts of a packing are kept where marked ones are freed, and what is left on the path.
 fn freed(
+    alloc: Global,
+    store: &Store,
+    branch: &Sides,
+    packing: &Packing,
+    marks: &[bool],
+) -> Result<(usize, OnPath), AllocError>
+    requires whole { IsWhole store.now }
+    requires start { IsStart store.now.network branch.now packing.now }
+    requires root { IsRootFor store.now.network branch.now packing.now 1 }
+{
+    let mut left = left_by(alloc, store, branch, packing, 1)?;
+    let kept = free(alloc, store, branch, packing, &mut left, marks)?;
+    Ok((kept.cuts.as_slice().len(), left_on_path(&left)))
+}
+
+// The same over all trees.
+fn freed_of_all(
     alloc: Global,
     instance: &Instance,
     packing: &Packing,
-    root: u32,
     marks: &[bool],
-) -> Result<Option<(Remainder, Packing)>, AllocError> {
+) -> Result<(usize, OnPath), AllocError>
+    requires start { IsStart instance.now all_trees packing.now }
+    requires root { IsRootFor instance.now all_trees packing.now 1 }
+{
+    let store = Store::of(alloc, instance)?;
     let branch = Sides::of(alloc, Branch::all(alloc))?;
-    if !can_extend(alloc, instance, &branch, packing, root)? {
+    freed(alloc, &store, &branch, packing, marks)
+}
+
+// The same, if the packing fits.
+fn freed_if_fit(
+    alloc: Global,
+    instance: &Instance,
+    packing: &Packing,
+    marks: &[bool],
+) -> Result<Option<(usize, OnPath)>, AllocError> {
+    if !can_extend(alloc, instance, packing, 1)? {
         return Ok(None);
     }
-    let store = Store::of(alloc, instance)?;
-    let mut left = left_by(alloc, &store, &branch, packing, root)?;
-    let kept = free(alloc, &store, &branch, packing, &mut left, marks)?;
-    Ok(Some((left, kept)))
+    Ok(Some(freed_of_all(alloc, instance, packing, marks)?))
 }
 
-// Whether so much is left of the four arcs of the path, and so much of the prize of its middle.
-fn leaves(left: &Remainder, arcs: [u64; 4], prize: u64) -> bool {
-    let [there, back, on, back_on] = arcs;
-    left.arcs.remaining(1, 2) == Some(there)
-        && left.arcs.remaining(2, 1) == Some(back)
-        && left.arcs.remaining(2, 3) == Some(on)
-        && left.arcs.remaining(3, 2) == Some(back_on)
-        && left.twins.left(2) == prize
-}
-
-// Whether so many cuts of the path are kept, and so much is left.
-fn keeps(
-    alloc: Global,
-    marks: &[bool],
-    count: usize,
-    arcs: [u64; 4],
-    prize: u64,
-) -> Result<bool, AllocError> {
-    let cuts = vec![in alloc;
-        cut(alloc, &[2], 2, 2)?,
-        cut(alloc, &[2, 3], 3, 1)?,
-        cut(alloc, &[3], 3, 1)?,
-    ]?;
-    match freed(alloc, &path(alloc)?, &packing(1, cuts), 1, marks)? {
-        Some((left, kept)) => {
-            Ok(kept.cuts.as_slice().len() == count && leaves(&left, arcs, prize))
-        }
-        None => Ok(false),
-    }
-}
-
-// Whether so much is kept and left where no cut is freed, the first, the second, or all.
-fn all_keep(alloc: Global) -> Result<bool, AllocError> {
-    Ok(
-        keeps(alloc, &[], 3, [2, 5, 3, 2], 1)?
-            && keeps(alloc, &[true], 2, [4, 5, 3, 4], 3)?
-            && keeps(alloc, &[false, true, false], 2, [3, 5, 3, 2], 1)?
-            && keeps(alloc, &[true, true, true, true], 0, [5, 5, 4, 4], 3)?,
-    )
+// The same for three cuts of the path.
+fn freed_on_path(alloc: Global, marks: &[bool]) -> Result<Option<(usize, OnPath)>, AllocError> {
+    let instance = path(alloc)?;
+    let packing = packing_of_path(alloc)?;
+    freed_if_fit(alloc, &instance, &packing, marks)
 }
 
 #[test]
 fn frees_cuts_of_the_path(rt: HostRuntime) -> Result<(), Fail> {
-    assert!(rt; all_keep(rt.alloc())?);
+    // The marks, how many cuts are kept, and what is left of the arcs and of the prize of 2.
+    for (marks, count, arcs, prize) in [
+        ([].as_slice(), 3, [2, 5, 3, 2], 1),
+        ([true].as_slice(), 2, [4, 5, 3, 4], 3),
+        ([false, true, false].as_slice(), 2, [3, 5, 3, 2], 1),
+        ([true, true, true, true].as_slice(), 0, [5, 5, 4, 4], 3),
+    ] {
+        let found = freed_on_path(rt.alloc(), marks)?;
+        assert_eq!(rt; found, Some((count, (arcs, [prize, 0]))), "with {marks:?}");
+    }
     Ok(())
 }
 
@@ -101,48 +103,79 @@ fn same_left(one: &Remainder, other: &Remainder) -> bool {
     true
 }
 
-// Whether marked cuts of an extension, once they are freed, leave what the others leave that are
-// charged anew.
+// Whether marked cuts of a packing, once they are freed, leave what the others leave that are charged
+// anew.
 fn leaves_as_anew(
     alloc: Global,
     store: &Store,
     branch: &Sides,
-    raised: &Extension,
+    packing: &Packing,
+    left: &mut Remainder,
     marks: &[bool],
 ) -> Result<bool, AllocError>
-    requires charged { IsCharged store.now branch.now (packing_of raised.now.ascent)
-        raised.now.left.arcs raised.now.left.twins }
-    requires ends { AreEndsOf raised.now.left.arcs raised.now.left.twins }
-    requires sets { All (λ c. IsVertexSet store.now.network.n c.set) (packing_of raised.now.ascent).cuts }
+    requires charged { IsCharged store.now branch.now packing.now left.old.arcs left.old.twins }
+    requires ends { AreEndsOf left.old.arcs left.old.twins }
+    requires sets { All (λ c. IsVertexSet store.now.network.n c.set) packing.now.cuts }
 {
+    let kept = free(alloc, store, branch, packing, left, marks)?;
+    let anew = left_by(alloc, store, branch, &kept, left.arcs.root())?;
+    Ok(same_left(left, &anew))
+}
+
+// Whether drawn cuts of an ascent from a packing do so.
+fn frees_raised(
+    alloc: Global,
+    draws: &mut Draws,
+    store: &Store,
+    branch: &Sides,
+    packing: Packing,
+    root: u32,
+) -> Result<bool, AllocError>
+    requires whole { IsWhole store.now }
+    requires start { IsStart store.now.network branch.now packing }
+    requires root { IsRootFor store.now.network branch.now packing root }
+{
+    let raised = extend(alloc, store, branch, packing, root, &[], draws.below(20))?;
     let mut left = raised.left.copied(alloc)?;
-    let kept = free(
+    let marks = drawn_marks(draws);
+    leaves_as_anew(
         alloc,
         store,
         branch,
         raised.ascent.packing(),
         &mut left,
-        marks,
-    )?;
-    let anew = left_by(alloc, store, branch, &kept, left.arcs.root())?;
-    Ok(same_left(&left, &anew))
+        &marks,
+    )
 }
 
-// Whether drawn cuts of an ascent over an instance do so, if one can be made from a root.
+// Whether they do so over all trees.
+fn frees_of_all(
+    alloc: Global,
+    draws: &mut Draws,
+    instance: &Instance,
+    packing: Packing,
+    root: u32,
+) -> Result<bool, AllocError>
+    requires start { IsStart instance.now all_trees packing }
+    requires root { IsRootFor instance.now all_trees packing root }
+{
+    let store = Store::of(alloc, instance)?;
+    let branch = Sides::of(alloc, Branch::all(alloc))?;
+    frees_raised(alloc, draws, &store, &branch, packing, root)
+}
+
+// Whether they do so, if an ascent can be made from a root.
 fn frees_drawn(
     alloc: Global,
     draws: &mut Draws,
     instance: &Instance,
     root: u32,
 ) -> Result<bool, AllocError> {
-    let branch = Sides::of(alloc, Branch::all(alloc))?;
     let bare = packing(root, Vec::new(alloc));
-    if !can_extend(alloc, instance, &branch, &bare, root)? {
+    if !can_extend(alloc, instance, &bare, root)? {
         return Ok(true);
     }
-    let store = Store::of(alloc, instance)?;
-    let raised = extend(alloc, &store, &branch, bare, root, &[], draws.below(20))?;
-    leaves_as_anew(alloc, &store, &branch, &raised, &drawn_marks(draws))
+    frees_of_all(alloc, draws, instance, bare, root)
 }
 
 // Whether they do so over a drawn instance.

@@ -1,9 +1,6 @@
 use Rattle.dual_ascent.proofs.Extended.{charged_root, charged_start}
 use Rattle.dual_ascent.proofs.tests.freeing.leaves_as_anew.Goals as goal
 
-pub free-requires-clause-sets : goal.free-requires-clause-sets
-free-requires-clause-sets c = rw c.packing.ensures c.requires.sets
-
 pub left_by-requires-clause-start : goal.left_by-requires-clause-start
 left_by-requires-clause-start c = charged_start _ _ _ _ _ c.in_ok-kept.ensures.charged c.in_ok-kept.ensures.sets
 
