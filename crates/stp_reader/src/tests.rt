@@ -1,5 +1,5 @@
 use super::*;
-use st_model::Need;
+use st_model::{Instance, Need};
 use std::process::Abort;
 use std::test::Fail;
 
@@ -11,23 +11,29 @@ const STAR: &str = "33D32945 STP File, STP Format Version 1.0\nSECTION Graph\nNo
     SECTION Terminals\nTerminals 3\nT 1\nT 2\nT 3\nEND\nEOF\n";
 
 /// What stands after the first words of a file, and the instance that is meant by it.
-#[derive(Drop)]
+#[derive(Clone, Copy)]
 struct Case {
     text: &'static str,
     links: &'static [(u32, u32, u64)],
     needs: &'static [Need],
 }
 
-fn is_read(rt: &(impl Abort + AllocGlobal), start: &str, case: &Case) -> Result<(), Fail> {
-    let rest = case.text;
-    let text = format!(in rt.alloc(); "{start}{rest}")?;
-    let instance = read_stp(rt.alloc(), text.as_bytes())?;
+fn has_links(
+    rt: &(impl Abort + AllocGlobal),
+    instance: &Instance,
+    case: &Case,
+    text: &str,
+) -> Result<(), Fail> {
     let links: Vec<(u32, u32, u64)> = instance
         .links()
         .iter()
         .map(|l| (l.a, l.b, l.cost))
         .collect(rt.alloc())?;
     assert_eq!(rt; links.as_slice(), case.links, "in {text}");
+    Ok(())
+}
+
+fn has_needs(rt: &impl Abort, instance: &Instance, case: &Case, text: &str) {
     assert_eq!(rt; instance.vertices() as usize, case.needs.len(), "in {text}");
     for before in 0..instance.vertices() {
         let need = instance.need(before + 1);
@@ -37,7 +43,14 @@ fn is_read(rt: &(impl Abort + AllocGlobal), start: &str, case: &Case) -> Result<
             "in {text}"
         );
     }
-    Ok(())
+}
+
+fn is_read(rt: &(impl Abort + AllocGlobal), start: &str, case: &Case) -> Result<(), Fail> {
+    let rest = case.text;
+    let text = format!(in rt.alloc(); "{start}{rest}")?;
+    let instance = read_stp(rt.alloc(), text.as_bytes())?;
+    has_needs(rt, &instance, case, &text);
+    has_links(rt, &instance, case, &text)
 }
 
 /// The links of the star.
@@ -106,10 +119,14 @@ fn reads_links_and_terminals(rt: HostRuntime) -> Result<(), Fail> {
         },
     ];
     for case in &cases {
-        is_read(&rt, HEADER, case)?;
-        is_read(&rt, "\n#\n\t \nMagic 33d32945", case)?;
-        is_read(&rt, "SECTION 33D32945", case)?;
-        is_read(&rt, "# no header", case)?;
+        for start in [
+            HEADER,
+            "\n#\n\t \nMagic 33d32945",
+            "SECTION 33D32945",
+            "# no header",
+        ] {
+            is_read(&rt, start, case)?;
+        }
     }
     Ok(())
 }
@@ -166,14 +183,19 @@ fn reads_small_letters_and_carriage_returns(rt: HostRuntime) -> Result<(), Fail>
     is_read(&rt, "33d32945 stp file, stp format version 1.0", &case)
 }
 
+/// How many vertices and links are read of a text.
+fn sizes_of(rt: &impl AllocGlobal, text: &[u8]) -> Result<(u32, usize), Fail> {
+    let instance = read_stp(rt.alloc(), text)?;
+    Ok((instance.vertices(), instance.links().len()))
+}
+
 #[test]
 fn reads_as_many_vertices_as_there_may_be(rt: HostRuntime) -> Result<(), Fail> {
     let text = format!(in rt.alloc();
         "{HEADER}\nSECTION Graph\nNodes 1000000\nEdges 0\nEND\n\
         SECTION Terminals\nTerminals 1\nT 1000000\nEND\nEOF\n"
     )?;
-    let instance = read_stp(rt.alloc(), text.as_bytes())?;
-    assert_eq!(rt; instance.vertices(), 1_000_000);
+    assert_eq!(rt; sizes_of(&rt, text.as_bytes())?, (1_000_000, 0));
     Ok(())
 }
 
@@ -187,7 +209,7 @@ fn fault_of(rt: &impl AllocGlobal, text: &[u8]) -> Result<(u64, Reason), Fail> {
 }
 
 /// Whole texts, each with its fault.
-const TEXTS: [(&str, u64, Reason); 13] = [
+const TEXTS: &[(&str, u64, Reason)] = &[
     ("", 1, Reason::NoHeader),
     ("hello", 1, Reason::NoHeader),
     ("#\n#\n#\n", 4, Reason::NoHeader),
@@ -217,14 +239,15 @@ const TEXTS: [(&str, u64, Reason); 13] = [
 
 #[test]
 fn refuses_texts(rt: HostRuntime) -> Result<(), Fail> {
-    for (text, line, reason) in TEXTS {
+    for row in TEXTS {
+        let (text, line, reason) = *row;
         assert_eq!(rt; fault_of(&rt, text.as_bytes())?, (line, reason), "{text}");
     }
     Ok(())
 }
 
 /// What stands in the star's file, what is written in its place, and the fault.
-const CHANGES: [(&str, &[u8], u64, Reason); 76] = [
+const CHANGES: &[(&str, &[u8], u64, Reason)] = &[
     ("T 3\nEND\nEOF\n", b"T 3\n", 17, Reason::Unclosed),
     ("T 3\nEND\nEOF\n", b"T 3\nEN", 17, Reason::BadLine),
     ("T 3\nEND\nEOF\n", b"T 3\nEND\nEO", 18, Reason::BadLine),
@@ -413,13 +436,27 @@ fn changed(rt: &impl AllocGlobal, from: &str, to: &[u8]) -> Result<Vec<u8>, Fail
     Ok(text)
 }
 
+/// The fault of the star's file once that is changed.
+fn changed_fault(rt: &impl AllocGlobal, from: &str, to: &[u8]) -> Result<(u64, Reason), Fail> {
+    fault_of(rt, &changed(rt, from, to)?)
+}
+
 #[test]
 fn refuses_one_change(rt: HostRuntime) -> Result<(), Fail> {
-    for (from, to, line, reason) in CHANGES {
-        let text = changed(&rt, from, to)?;
-        assert_eq!(rt; fault_of(&rt, &text)?, (line, reason), "{to:?} for {from}");
+    for row in CHANGES {
+        let (from, to, line, reason) = *row;
+        assert_eq!(rt;
+            changed_fault(&rt, from, to)?,
+            (line, reason),
+            "{to:?} for {from}"
+        );
     }
     Ok(())
+}
+
+/// How many vertices and links are read of the star's file with another end.
+fn ended_sizes(rt: &impl AllocGlobal, to: &[u8]) -> Result<(u32, usize), Fail> {
+    sizes_of(rt, &changed(rt, "T 3\nEND\nEOF\n", to)?)
 }
 
 #[test]
@@ -429,9 +466,7 @@ fn reads_a_file_cut_after_its_end(rt: HostRuntime) -> Result<(), Fail> {
         b"T 3\nEND\nEOF\nE 1\n\xff",
         b"T 3\r\nEND\r",
     ] {
-        let text = changed(&rt, "T 3\nEND\nEOF\n", to)?;
-        let instance = read_stp(rt.alloc(), &text)?;
-        assert_eq!(rt; instance.links().len(), 6);
+        assert_eq!(rt; ended_sizes(&rt, to)?, (4, 6));
     }
     Ok(())
 }
