@@ -44,12 +44,24 @@ fn all_at(distances: &Distances) -> [u64; 7]
 }
 
 // The distances from some sources within a limit.
+fn distances_in(
+    alloc: Global,
+    store: &Store,
+    sources: &[u32],
+    limit: u64,
+) -> Result<[u64; 7], AllocError>
+    requires count { store.now.network.n ≡ 7 }
+    requires sources { All (IsVertex 7) sources.now }
+{
+    let distances = from_many(alloc, store, sources, limit)?;
+    Ok(all_at(&distances))
+}
+
+// The same in the triangle.
 fn distances_from(alloc: Global, sources: &[u32], limit: u64) -> Result<[u64; 7], AllocError>
     requires { All (IsVertex 7) sources.now }
 {
-    let store = triangle(alloc)?;
-    let distances = from_many(alloc, &store, sources, limit)?;
-    Ok(all_at(&distances))
+    distances_in(alloc, &triangle(alloc)?, sources, limit)
 }
 
 #[test]
@@ -69,26 +81,45 @@ fn finds_distances_within_the_limit(rt: HostRuntime) -> Result<(), Fail> {
     Ok(())
 }
 
-// The path from vertex 1 to another within a limit.
-fn path_from_1(alloc: Global, to: u32, limit: u64) -> Result<Option<Vec<u32>>, AllocError>
-    requires { IsVertex 7 to }
+// Whether this is the path from some sources to a vertex within a limit, if there is one.
+fn is_path_in(
+    alloc: Global,
+    store: &Store,
+    sources: &[u32],
+    to: u32,
+    limit: u64,
+    path: Option<&[u32]>,
+) -> Result<bool, AllocError>
+    requires count { store.now.network.n ≡ 7 }
+    requires sources { All (IsVertex 7) sources.now }
+    requires to { IsVertex 7 to }
 {
-    let store = triangle(alloc)?;
-    let distances = from_many(alloc, &store, &[1], limit)?;
-    distances.path_to(alloc, to)
+    let distances = from_many(alloc, store, sources, limit)?;
+    let found = distances.path_to(alloc, to)?;
+    Ok(found.as_deref() == path)
+}
+
+// The same in the triangle.
+fn is_path(
+    alloc: Global,
+    sources: &[u32],
+    to: u32,
+    limit: u64,
+    path: Option<&[u32]>,
+) -> Result<bool, AllocError>
+    requires sources { All (IsVertex 7) sources.now }
+    requires to { IsVertex 7 to }
+{
+    is_path_in(alloc, &triangle(alloc)?, sources, to, limit, path)
 }
 
 #[test]
 fn finds_paths(rt: HostRuntime) -> Result<(), Fail> {
     let alloc = rt.alloc();
-    let centre = path_from_1(alloc, 4, 10)?;
-    assert_eq!(rt; centre.as_deref(), Some([1, 4].as_slice()));
-    let itself = path_from_1(alloc, 1, 0)?;
-    assert_eq!(rt; itself.as_deref(), Some([1].as_slice()));
-    assert!(rt; path_from_1(alloc, 2, 3)?.is_none());
-    assert!(rt; path_from_1(alloc, 5, 100)?.is_none());
-    let store = triangle(alloc)?;
-    let free = from_many(alloc, &store, &[5, 6], 0)?.path_to(alloc, 6)?;
-    assert_eq!(rt; free.as_deref(), Some([6].as_slice()));
+    assert!(rt; is_path(alloc, &[1], 4, 10, Some([1, 4].as_slice()))?);
+    assert!(rt; is_path(alloc, &[1], 1, 0, Some([1].as_slice()))?);
+    assert!(rt; is_path(alloc, &[1], 2, 3, None)?);
+    assert!(rt; is_path(alloc, &[1], 5, 100, None)?);
+    assert!(rt; is_path(alloc, &[5, 6], 6, 0, Some([6].as_slice()))?);
     Ok(())
 }

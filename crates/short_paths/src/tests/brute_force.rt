@@ -1,8 +1,8 @@
-ghost use Rattle.std.specs.Prelude.{◌≡◌};
+ghost use Rattle.std.specs.Prelude.{◌≡◌, length};
 
-use crate::from_many;
+use crate::{Distances, from_many};
 use graph_store::Store;
-use st_model::{Instance, Link};
+use st_model::Link;
 use std::alloc::{AllocError, Global};
 use std::test::Fail;
 use test_instances::Draws;
@@ -35,13 +35,10 @@ fn plain_distances(links: &[Link]) -> [u64; 7] {
     least
 }
 
-// Whether the distances from vertices 1 and 2 are those of the plain program.
-fn agrees(alloc: Global, instance: &Instance, limit: u64) -> Result<bool, AllocError>
-    requires { instance.now.n ≡ 6 }
+// Whether distances within a limit are those of the plain program.
+fn are_those(distances: &Distances, plain: &[u64], limit: u64) -> bool
+    requires { length distances.now ≡ 6 }
 {
-    let plain = plain_distances(instance.links());
-    let store = Store::of(alloc, instance)?;
-    let distances = from_many(alloc, &store, &[2, 1], limit)?;
     for before in 0..6u32 {
         let cost = plain
             .get(before as usize + 1)
@@ -49,22 +46,36 @@ fn agrees(alloc: Global, instance: &Instance, limit: u64) -> Result<bool, AllocE
             .filter(|cost| *cost <= limit);
         let at = distances.at(before + 1).filter(|cost| *cost < u64::MAX);
         if at != cost.filter(|cost| *cost < u64::MAX) {
-            return Ok(false);
+            return false;
         }
     }
-    Ok(true)
+    true
+}
+
+// Whether those from vertices 1 and 2 in a store are.
+fn agrees_in(alloc: Global, store: &Store, plain: &[u64], limit: u64) -> Result<bool, AllocError>
+    requires { store.now.network.n ≡ 6 }
+{
+    let distances = from_many(alloc, store, &[2, 1], limit)?;
+    Ok(are_those(&distances, plain, limit))
+}
+
+// Whether those in a drawn instance are.
+fn agrees(alloc: Global, seed: u64, limit: u64) -> Result<bool, AllocError> {
+    let instance = Draws { state: seed }.instance(alloc)?;
+    let plain = plain_distances(instance.links());
+    agrees_in(alloc, &Store::of(alloc, &instance)?, &plain, limit)
 }
 
 #[test]
 fn agrees_with_a_plain_program(rt: HostRuntime) -> Result<(), Fail> {
-    let alloc = rt.alloc();
     for seed in 0..20u64 {
-        let instance = Draws { state: seed }.instance(alloc)?;
-        assert!(rt; agrees(alloc, &instance, 9)?, "seed {seed}, limit 9");
-        assert!(rt;
-            agrees(alloc, &instance, u64::MAX)?,
-            "seed {seed}, no limit"
-        );
+        for limit in [9, u64::MAX] {
+            assert!(rt;
+                agrees(rt.alloc(), seed, limit)?,
+                "seed {seed}, limit {limit}"
+            );
+        }
     }
     Ok(())
 }
