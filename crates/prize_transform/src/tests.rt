@@ -1,4 +1,4 @@
-ghost use Rattle.std.specs.Prelude.{◌≡◌, IfSome, OnSome, IsTrue};
+ghost use Rattle.std.specs.Prelude.{◌≡◌, IfOk, IfSome, OnSome, IsTrue};
 ghost use Rattle.st_model.specs.Lists.{has};
 ghost use Rattle.prize_transform.specs.Twins.{has_end, is_end, vertex_of};
 
@@ -7,21 +7,27 @@ mod brute_force;
 use crate::Twins;
 use bidirected_form::Arcs;
 use graph_store::Store;
-use st_model::{Branch, Listed, Need, Sides};
+use st_model::{Branch, Need, Sides};
 use std::alloc::{AllocError, Global};
 use std::test::Fail;
 use test_instances::pair;
 
-// The twins of two linked vertices with prizes 3 and 4; the second one is the root.
+// Two linked vertices with prizes 3 and 4.
+fn store_of_pair(alloc: Global) -> Result<Store, AllocError>
+    ensures { IfOk result (λ store. store.network.n ≡ 2) }
+{
+    Store::of(alloc, &pair(alloc, Need::Pays(3), Need::Pays(4))?)
+}
+
+// Their arcs, where the second one is inside and is the root.
+fn arcs_of_pair(alloc: Global) -> Result<Arcs, AllocError> {
+    let store = store_of_pair(alloc)?;
+    let sides = Sides::of(alloc, Branch::all(alloc).with_inside(alloc, 2)?)?;
+    Arcs::of(alloc, &store, &sides, 2)
+}
+
 fn twins_of_pair(alloc: Global) -> Result<Twins, AllocError> {
-    let instance = pair(alloc, Need::Pays(3), Need::Pays(4))?;
-    let store = Store::of(alloc, &instance)?;
-    let branch = Branch {
-        inside: Listed::of(vec![in alloc; 2]?),
-        outside: Listed::of(Vec::new(alloc)),
-    };
-    let arcs = Arcs::of(alloc, &store, &Sides::of(alloc, branch)?, 2)?;
-    Twins::of(alloc, &arcs)
+    Twins::of(alloc, &arcs_of_pair(alloc)?)
 }
 
 // Whether a vertex has an end.
@@ -38,16 +44,22 @@ fn charge(twins: &mut Twins, q: u32, y: u64) {
     }
 }
 
+// Whether so much is left for the first vertex of a pair.
+fn has_left(twins: &Twins, left: u64) -> bool {
+    twins.left(1) == left && twins.left(2) == 0
+}
+
+// Whether the first vertex of a pair has the one end.
+fn has_one_end(twins: &Twins) -> bool {
+    twins.ends() == [(3, 1)].as_slice() && ends_at(twins, 1) && !ends_at(twins, 2)
+}
+
 #[test]
 fn charges_the_one_end(rt: HostRuntime) -> Result<(), Fail> {
     let mut twins = twins_of_pair(rt.alloc())?;
-    assert_eq!(rt; twins.ends(), [(3, 1)].as_slice());
-    assert_eq!(rt; twins.left(1), 3);
-    assert_eq!(rt; twins.left(2), 0);
-    assert!(rt; ends_at(&twins, 1) && !ends_at(&twins, 2));
+    assert!(rt; has_one_end(&twins) && has_left(&twins, 3));
     charge(&mut twins, 1, 2);
-    assert_eq!(rt; twins.left(1), 1);
-    assert_eq!(rt; twins.left(2), 0);
+    assert!(rt; has_left(&twins, 1));
     Ok(())
 }
 
@@ -87,16 +99,18 @@ fn go_back(
     }
 }
 
+// Whether the list of vertex 1 and its end goes back to 1.
+fn goes_back(alloc: Global, twins: &Twins) -> Result<bool, AllocError> {
+    match go_back(alloc, twins, &[1, 3], 3)? {
+        Some((set, vertex)) => Ok(set.as_slice() == [1].as_slice() && vertex == 1),
+        None => Ok(false),
+    }
+}
+
 #[test]
 fn goes_back_to_the_vertex(rt: HostRuntime) -> Result<(), Fail> {
     let twins = twins_of_pair(rt.alloc())?;
-    match go_back(rt.alloc(), &twins, &[1, 3], 3)? {
-        Some((set, vertex)) => {
-            assert_eq!(rt; set.as_slice(), [1].as_slice());
-            assert_eq!(rt; vertex, 1);
-        }
-        None => assert!(rt; false, "3 is an end"),
-    }
+    assert!(rt; goes_back(rt.alloc(), &twins)?);
     Ok(())
 }
 
@@ -105,11 +119,6 @@ fn give_back(twins: &mut Twins, q: u32, y: u64) {
     if ends_at(twins, q) && twins.left(q) <= u64::MAX - y {
         twins.give_back(q, y);
     }
-}
-
-// Whether so much is left for the first vertex of a pair.
-fn has_left(twins: &Twins, left: u64) -> bool {
-    twins.left(1) == left && twins.left(2) == 0
 }
 
 #[test]

@@ -1,3 +1,4 @@
+ghost use Rattle.std.specs.Prelude.{◌≤◌};
 ghost use Rattle.st_model.specs.Network.{IsVertex};
 
 use super::{charge, give_back, go_back};
@@ -28,19 +29,21 @@ fn list_with(alloc: Global, draws: &mut Draws, end: u32, q: u32) -> Result<Vec<u
     Ok(list)
 }
 
-// The twins of an instance where one drawn number is inside and one is outside, and the prize of
-// each vertex that may be left out for more than 0.
-fn drawn(alloc: Global, draws: &mut Draws) -> Result<(Twins, Vec<(u32, u64)>), AllocError> {
-    let instance = draws.instance(alloc)?;
+// A branch where one drawn number is inside and one is outside.
+fn drawn_sides(alloc: Global, draws: &mut Draws) -> Result<Sides, AllocError> {
     let branch = Branch {
         inside: Listed::of(numbers(alloc, draws, 1)?),
         outside: Listed::of(numbers(alloc, draws, 1)?),
     };
-    let store = Store::of(alloc, &instance)?;
-    let sides = Sides::of(alloc, branch)?;
-    let arcs = Arcs::of(alloc, &store, &sides, 1)?;
-    let twins = Twins::of(alloc, &arcs)?;
-    Ok((twins, plain_prizes(alloc, &instance, sides.branch())?))
+    Sides::of(alloc, branch)
+}
+
+fn twins_in(alloc: Global, instance: &Instance, sides: &Sides) -> Result<Twins, AllocError>
+    requires { 1 ≤ instance.now.n }
+{
+    let store = Store::of(alloc, instance)?;
+    let arcs = Arcs::of(alloc, &store, sides, 1)?;
+    Twins::of(alloc, &arcs)
 }
 
 fn plain_prize(instance: &Instance, branch: &Branch, v: u32) -> u64
@@ -54,6 +57,7 @@ fn plain_prize(instance: &Instance, branch: &Branch, v: u32) -> u64
     }
 }
 
+// The prize of each vertex that may be left out for more than 0.
 fn plain_prizes(
     alloc: Global,
     instance: &Instance,
@@ -166,16 +170,40 @@ fn same_charges(draws: &mut Draws, twins: &mut Twins, prizes: &mut [(u32, u64)])
     true
 }
 
-fn agrees(alloc: Global, seed: u64) -> Result<bool, AllocError> {
-    let mut draws = Draws { state: seed };
-    let (mut twins, mut prizes) = drawn(alloc, &mut draws)?;
-    let ends = plain_ends(alloc, &prizes)?;
+// Whether twins with these prizes are as in the plain program, also while they are charged.
+fn same_twins(
+    alloc: Global,
+    draws: &mut Draws,
+    twins: &mut Twins,
+    prizes: &mut [(u32, u64)],
+) -> Result<bool, AllocError> {
+    let ends = plain_ends(alloc, prizes)?;
     Ok(
         twins.ends() == ends.as_slice()
-            && same_left(&twins, &prizes)
-            && same_charges(&mut draws, &mut twins, &mut prizes)
-            && same_back(alloc, &mut draws, &twins, &ends)?,
+            && same_left(twins, prizes)
+            && same_charges(draws, twins, prizes)
+            && same_back(alloc, draws, twins, &ends)?,
     )
+}
+
+fn agrees_in(
+    alloc: Global,
+    draws: &mut Draws,
+    instance: &Instance,
+    sides: &Sides,
+) -> Result<bool, AllocError>
+    requires { 1 ≤ instance.now.n }
+{
+    let mut twins = twins_in(alloc, instance, sides)?;
+    let mut prizes = plain_prizes(alloc, instance, sides.branch())?;
+    same_twins(alloc, draws, &mut twins, &mut prizes)
+}
+
+fn agrees(alloc: Global, seed: u64) -> Result<bool, AllocError> {
+    let mut draws = Draws { state: seed };
+    let instance = draws.instance(alloc)?;
+    let sides = drawn_sides(alloc, &mut draws)?;
+    agrees_in(alloc, &mut draws, &instance, &sides)
 }
 
 #[test]
