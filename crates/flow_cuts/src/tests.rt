@@ -69,26 +69,60 @@ fn entering(alloc: Global, arcs: &mut Arcs, set: &[u32]) -> Result<usize, AllocE
     Ok(arcs.entering(alloc, set)?.len())
 }
 
+// The set for a vertex over the arcs of an instance, and how many arcs enter it.
+fn cut_whole(
+    alloc: Global,
+    instance: &Instance,
+    q: u32,
+) -> Result<Option<(Vec<u32>, usize)>, AllocError>
+    requires above { 2 ≤ q }
+    requires vertex { q ≤ instance.now.n }
+{
+    let mut arcs = whole(alloc, instance)?;
+    let Some(set) = fewest(alloc, &arcs, q)? else {
+        return Ok(None);
+    };
+    let count = entering(alloc, &mut arcs, &set)?;
+    Ok(Some((set, count)))
+}
+
 #[test]
 fn cuts_the_fresh_triangle(rt: HostRuntime) -> Result<(), Fail> {
-    let mut arcs = whole(rt.alloc(), &triangle_with_centre(rt.alloc(), 4)?)?;
-    let set = fewest(rt.alloc(), &arcs, 2)?.ok_or("no set")?;
+    let found = cut_whole(rt.alloc(), &triangle_with_centre(rt.alloc(), 4)?, 2)?;
+    let (set, count) = found.ok_or("no set")?;
     assert!(rt;
         set.as_slice() == [2].as_slice() || set.as_slice() == [2, 3, 4].as_slice(),
         "{set:?}"
     );
-    assert_eq!(rt; entering(rt.alloc(), &mut arcs, &set)?, 3);
+    assert_eq!(rt; count, 3);
     Ok(())
+}
+
+// The set for vertex 2 where 2 is charged round it, and then 2 round 2 and 4 as well.
+fn cuts_of_charged(
+    alloc: Global,
+    arcs: &mut Arcs,
+) -> Result<(Option<Vec<u32>>, Option<Vec<u32>>), AllocError>
+    requires count { arcs.old.n ≡ 4 }
+    requires root { arcs.old.root ≡ 1 }
+{
+    charge(alloc, arcs, &[2], 2)?;
+    let before = fewest(alloc, arcs, 2)?;
+    charge_two_and_four(alloc, arcs)?;
+    Ok((before, fewest(alloc, arcs, 2)?))
+}
+
+// The same over the triangle.
+fn cuts_of_triangle(alloc: Global) -> Result<(Option<Vec<u32>>, Option<Vec<u32>>), AllocError> {
+    let mut arcs = whole(alloc, &triangle_with_centre(alloc, 4)?)?;
+    cuts_of_charged(alloc, &mut arcs)
 }
 
 #[test]
 fn finds_no_set_once_used_up_arcs_lead_there(rt: HostRuntime) -> Result<(), Fail> {
-    let mut arcs = whole(rt.alloc(), &triangle_with_centre(rt.alloc(), 4)?)?;
-    charge(rt.alloc(), &mut arcs, &[2], 2)?;
-    let set = fewest(rt.alloc(), &arcs, 2)?.ok_or("no set")?;
-    assert_eq!(rt; set.as_slice(), [2, 3, 4].as_slice());
-    charge_two_and_four(rt.alloc(), &mut arcs)?;
-    assert_eq!(rt; fewest(rt.alloc(), &arcs, 2)?, None);
+    let (before, after) = cuts_of_triangle(rt.alloc())?;
+    assert_eq!(rt; before.as_deref(), Some([2, 3, 4].as_slice()));
+    assert_eq!(rt; after, None);
     Ok(())
 }
 
@@ -97,9 +131,9 @@ fn cuts_a_path_and_a_star_once(rt: HostRuntime) -> Result<(), Fail> {
     let path = [link(1, 2, 1), link(2, 3, 1), link(3, 4, 1)];
     let star = [link(1, 5, 1), link(2, 5, 1), link(3, 5, 1), link(4, 5, 1)];
     for (links, count) in [(path.as_slice(), 1), (star.as_slice(), 1)] {
-        let mut arcs = whole(rt.alloc(), &Instance::build(rt.alloc(), 5, links, &[])?)?;
-        let set = fewest(rt.alloc(), &arcs, 4)?.ok_or("no set")?;
-        assert_eq!(rt; entering(rt.alloc(), &mut arcs, &set)?, count);
+        let instance = Instance::build(rt.alloc(), 5, links, &[])?;
+        let (_, found) = cut_whole(rt.alloc(), &instance, 4)?.ok_or("no set")?;
+        assert_eq!(rt; found, count);
     }
     Ok(())
 }
@@ -120,9 +154,8 @@ fn all_links(alloc: Global) -> Result<Vec<Link>, AllocError>
 fn cuts_the_root_or_the_vertex_off_a_complete_graph(rt: HostRuntime) -> Result<(), Fail> {
     let links = all_links(rt.alloc())?;
     let instance = Instance::build(rt.alloc(), 40, &links, &[])?;
-    let mut arcs = whole(rt.alloc(), &instance)?;
-    let set = fewest(rt.alloc(), &arcs, 40)?.ok_or("no set")?;
+    let (set, count) = cut_whole(rt.alloc(), &instance, 40)?.ok_or("no set")?;
     assert!(rt; set.len() == 1 || set.len() == 39, "{set:?}");
-    assert_eq!(rt; entering(rt.alloc(), &mut arcs, &set)?, 39);
+    assert_eq!(rt; count, 39);
     Ok(())
 }

@@ -135,18 +135,26 @@ fn charge_some(alloc: Global, draws: &mut Draws, arcs: &mut Arcs) -> Result<(), 
     charge(alloc, arcs, &[v], draws.below(3))
 }
 
-// Whether the sets in a drawn graph are least, and after each of four charges.
+// Whether the sets are least, and after each of four charges.
+fn stay_least(alloc: Global, draws: &mut Draws, arcs: &mut Arcs) -> Result<bool, AllocError>
+    requires count { arcs.old.n ≡ 8 }
+    requires root { arcs.old.root ≡ 1 }
+{
+    for _turn in 0..4 {
+        if !all_are_least(alloc, arcs)? {
+            return Ok(false);
+        }
+        charge_some(alloc, draws, arcs)?;
+    }
+    Ok(true)
+}
+
+// Whether they are and stay so in a drawn graph.
 fn agrees(alloc: Global, seed: u64) -> Result<bool, AllocError> {
     let mut draws = Draws { state: seed };
     let instance = draw_instance(alloc, &mut draws)?;
     let mut arcs = whole(alloc, &instance)?;
-    for _turn in 0..4 {
-        if !all_are_least(alloc, &arcs)? {
-            return Ok(false);
-        }
-        charge_some(alloc, &mut draws, &mut arcs)?;
-    }
-    Ok(true)
+    stay_least(alloc, &mut draws, &mut arcs)
 }
 
 #[test]

@@ -1,5 +1,5 @@
 use Rattle.std.proofs.Common.{◌≡◌}
-use Rattle.flow_cuts.proofs.tests.brute_force.agrees.Given as goal
+use Rattle.flow_cuts.proofs.tests.brute_force.stay_least.Given as goal
 
 abbrev pub invariant-loop-turn : goal.invariant-loop-turn
 invariant-loop-turn l = record {
