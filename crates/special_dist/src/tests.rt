@@ -24,11 +24,18 @@ fn detour_for(
     detour(alloc, &store, a, b)
 }
 
+// Whether a link of the triangle with sides of so much has a detour.
+fn has_detour(alloc: Global, side: u64, a: u32, b: u32) -> Result<bool, AllocError>
+    requires { side ≤ 100 }
+{
+    let instance = triangle_with_centre(alloc, side)?;
+    Ok(detour_for(alloc, &instance, a, b)?.is_some())
+}
+
 // A side of 4 is as dear as the way over the centre, and a link to the centre is dearer than a side
 // of 1 to a required corner.
 #[test]
 fn finds_detours_of_a_triangle(rt: HostRuntime) -> Result<(), Fail> {
-    let alloc = rt.alloc();
     for (side, a, b, want) in [
         (4, 1, 2, true),
         (4, 2, 1, true),
@@ -37,9 +44,8 @@ fn finds_detours_of_a_triangle(rt: HostRuntime) -> Result<(), Fail> {
         (3, 1, 2, true),
         (1, 1, 4, true),
     ] {
-        let instance = triangle_with_centre(alloc, side)?;
-        let found = detour_for(alloc, &instance, a, b)?;
-        assert_eq!(rt; found.is_some(), want, "between {a} and {b} at {side}");
+        let found = has_detour(rt.alloc(), side, a, b)?;
+        assert_eq!(rt; found, want, "between {a} and {b} at {side}");
     }
     Ok(())
 }
@@ -52,16 +58,27 @@ fn square(alloc: Global, stop: Need) -> Result<Instance, AllocError>
     Instance::build(alloc, 4, &links, &[(3, stop)])
 }
 
+// The inner vertices of a detour for a link of the square.
+fn detour_of_square(
+    alloc: Global,
+    stop: Need,
+    a: u32,
+    b: u32,
+) -> Result<Option<Vec<u32>>, AllocError>
+    requires { prize stop ≤ 9 }
+{
+    let instance = square(alloc, stop)?;
+    detour_for(alloc, &instance, a, b)
+}
+
 // Without the stop the way round costs 8 in one piece.
 #[test]
 fn finds_the_inner_vertices(rt: HostRuntime) -> Result<(), Fail> {
-    let alloc = rt.alloc();
-    let instance = square(alloc, Need::Required)?;
-    let there = detour_for(alloc, &instance, 1, 4)?;
+    let there = detour_of_square(rt.alloc(), Need::Required, 1, 4)?;
     assert_eq!(rt; there.as_deref(), Some([2, 3].as_slice()));
-    let back = detour_for(alloc, &instance, 4, 1)?;
+    let back = detour_of_square(rt.alloc(), Need::Required, 4, 1)?;
     assert_eq!(rt; back.as_deref(), Some([3, 2].as_slice()));
-    let none = detour_for(alloc, &square(alloc, Need::Pays(9))?, 1, 4)?;
+    let none = detour_of_square(rt.alloc(), Need::Pays(9), 1, 4)?;
     assert!(rt; none.is_none());
     Ok(())
 }

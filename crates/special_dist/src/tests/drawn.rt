@@ -113,7 +113,44 @@ fn is_right(
     }
 }
 
-// Whether all answers of one finder are right, and how many are detours.
+// How many detours are found for a link, none or one, if the answer is right.
+fn detours_for(
+    alloc: Global,
+    instance: &Instance,
+    store: &Store,
+    finder: &mut Finder,
+    link: &Link,
+    most: Option<u32>,
+) -> Result<Option<u32>, AllocError>
+    requires { finder.old ≡ store.now.network.n }
+    ensures { finder.new ≡ finder.old }
+{
+    let answer = found(alloc, finder, store, link.a, link.b, most)?;
+    let count = u32::from(matches!(&answer, Found::Detour(_)));
+    let is_right = is_right(alloc, instance, link, most, answer)?;
+    Ok(is_right.then_some(count))
+}
+
+// How many detours one finder finds for all links, if all of its answers are right.
+fn detours_by(
+    alloc: Global,
+    instance: &Instance,
+    store: &Store,
+    finder: &mut Finder,
+    most: Option<u32>,
+) -> Result<Option<u32>, AllocError>
+    requires { finder.old ≡ store.now.network.n }
+{
+    let mut count = 0u32;
+    for link in instance.links() {
+        let Some(more) = detours_for(alloc, instance, store, finder, link, most)? else {
+            return Ok(None);
+        };
+        count = count.saturating_add(more);
+    }
+    Ok(Some(count))
+}
+
 fn detours_of(
     alloc: Global,
     instance: &Instance,
@@ -121,17 +158,7 @@ fn detours_of(
 ) -> Result<Option<u32>, AllocError> {
     let store = Store::of(alloc, instance)?;
     let mut finder = Finder::new(alloc, store.vertices())?;
-    let mut count = 0u32;
-    for link in instance.links() {
-        let answer = found(alloc, &mut finder, &store, link.a, link.b, most)?;
-        if matches!(&answer, Found::Detour(_)) {
-            count = count.saturating_add(1);
-        }
-        if !is_right(alloc, instance, link, most, answer)? {
-            return Ok(None);
-        }
-    }
-    Ok(Some(count))
+    detours_by(alloc, instance, &store, &mut finder, most)
 }
 
 // How many links of drawn instances have a detour that is found.
