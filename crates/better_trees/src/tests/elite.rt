@@ -1,8 +1,9 @@
 ghost use Rattle.st_model.specs.Arborescence.{IsTree};
 
+use super::tree_over;
 use crate::draws::Draws;
 use crate::elite::Elite;
-use st_model::{Instance, Listed, Tree, is_tree};
+use st_model::{Instance, Tree, is_tree};
 use std::alloc::{AllocError, Global};
 use std::test::Fail;
 use test_instances::triangle_with_centre;
@@ -14,10 +15,7 @@ fn keep(
     instance: &Instance,
     arcs: &[(u32, u32)],
 ) -> Result<(), AllocError> {
-    let tree = Tree {
-        start: 1,
-        arcs: Listed::of(Vec::from_slice(alloc, arcs)?),
-    };
+    let tree = tree_over(alloc, arcs)?;
     if is_tree(alloc, instance, &tree)? {
         elite.keep(alloc, instance, &tree)?;
     }
@@ -29,26 +27,58 @@ fn arcs_of(tree: Option<&Tree>) -> Option<usize> {
     Some(tree?.arcs.as_slice().len())
 }
 
+// Whether the vertices of the triangle get these weights from two trees that are kept.
+fn weighs(alloc: Global, elite: &Elite, expected: &[u64]) -> Result<bool, AllocError> {
+    let weights = elite.between(alloc, 4, &mut Draws::of(1))?;
+    Ok(weights.as_slice() == expected)
+}
+
+// How many of two trees over the sides are kept, and whether these say what vertices weigh.
+fn kept_of_sides(
+    alloc: Global,
+    elite: &mut Elite,
+    instance: &Instance,
+) -> Result<(usize, bool), AllocError> {
+    keep(alloc, elite, instance, &[(1, 2), (2, 3)])?;
+    keep(alloc, elite, instance, &[(1, 3), (3, 2)])?;
+    let weighs = weighs(alloc, elite, &[200, 10, 10, 10, 200])?;
+    Ok((elite.len(), weighs))
+}
+
+// How many trees are kept once there is one over the centre, and how many arcs the cheapest one has
+// that costs less than 8, and less than 5.
+fn kept_of_centre(
+    alloc: Global,
+    elite: &mut Elite,
+    instance: &Instance,
+) -> Result<(usize, Option<usize>, Option<usize>), AllocError> {
+    keep(alloc, elite, instance, &[(1, 4), (4, 2), (4, 3)])?;
+    let draws = &mut Draws::of(1);
+    let below_8 = arcs_of(elite.cheapest(8, draws));
+    let below_5 = arcs_of(elite.cheapest(5, draws));
+    Ok((elite.len(), below_8, below_5))
+}
+
+// Whether one tree over the sides is kept, and then one over the centre too.
+fn keeps_both(alloc: Global, elite: &mut Elite, instance: &Instance) -> Result<bool, AllocError> {
+    let sides = kept_of_sides(alloc, elite, instance)?;
+    let centre = kept_of_centre(alloc, elite, instance)?;
+    Ok(sides == (1, true) && centre == (2, Some(3), None))
+}
+
+// Whether they are kept in the triangle.
+fn keeps_both_of_triangle(alloc: Global) -> Result<bool, AllocError> {
+    let instance = triangle_with_centre(alloc, 4)?;
+    keeps_both(alloc, &mut Elite::new(alloc), &instance)
+}
+
 // Two trees over the sides cost the same and reach as much, so the second isn't kept; one over the
 // centre costs something else.
 #[test]
 fn keeps_trees_that_differ(rt: HostRuntime) -> Result<(), Fail> {
-    let alloc = rt.alloc();
-    let instance = triangle_with_centre(alloc, 4)?;
-    let mut elite = Elite::new(alloc);
-    keep(alloc, &mut elite, &instance, &[(1, 2), (2, 3)])?;
-    keep(alloc, &mut elite, &instance, &[(1, 3), (3, 2)])?;
-    assert_eq!(rt; elite.len(), 1);
-    let weights = elite.between(alloc, 4, &mut Draws::of(1))?;
-    assert!(rt; weights.as_slice() == [200, 10, 10, 10, 200].as_slice());
-    keep(alloc, &mut elite, &instance, &[(1, 4), (4, 2), (4, 3)])?;
-    assert_eq!(rt; elite.len(), 2);
-    let draws = &mut Draws::of(1);
-    assert_eq!(rt; arcs_of(elite.cheapest(8, draws)), Some(3));
-    assert_eq!(rt; arcs_of(elite.cheapest(5, draws)), None);
+    assert!(rt; keeps_both_of_triangle(rt.alloc())?);
     Ok(())
 }
-
 // After two times without a gain there are no more walks, until there is one.
 #[test]
 fn loses_patience_with_walks(rt: HostRuntime) -> Result<(), Fail> {

@@ -1,11 +1,13 @@
 ghost use Rattle.std.specs.Prelude.{◌≡◌, ◌≤◌, IfOk};
+ghost use Rattle.st_model.specs.Branch.{IsBranch};
+ghost use Rattle.st_model.specs.Network.{IsVertex};
 
 use super::{all, price_beside, tree_over};
 use crate::effort::Effort;
 use crate::elite::Elite;
 use crate::wandering::wandered_tree;
 use graph_store::Whole;
-use st_model::{Instance, Need, VertexSet};
+use st_model::{Instance, Need, Sides, VertexSet};
 use std::alloc::{AllocError, Global};
 use std::test::Fail;
 use std::thread::Threads;
@@ -34,23 +36,37 @@ fn two_ways(alloc: Global, vertices: u32) -> Result<Instance, AllocError>
 }
 
 // What the tree costs that walks from the one over vertex 2 come to among its vertices and those that are near, if it
-// costs less than the least cost known. There are enough vertices for a walk.
+// costs less than the least cost known.
+fn price_near<R: Threads + Sync>(
+    rt: &R,
+    alloc: Global,
+    whole: &Whole,
+    branch: &Sides,
+    near: &VertexSet,
+    least: u64,
+) -> Result<Option<u64>, AllocError>
+    requires { IsBranch whole.now.instance branch.now }
+{
+    let known = tree_over(alloc, &[(1, 2), (2, 3), (1, 5)])?;
+    let mut elite = Elite::new(alloc);
+    let effort = Effort::at(branch.branch(), true, 1);
+    let found = wandered_tree(
+        rt, alloc, whole, branch, near, &known, &mut elite, effort, least, 0,
+    )?;
+    Ok(found.map(|found| found.price))
+}
+
+// The same at the first node. There are enough vertices for a walk.
 fn price_of_walks<R: Threads + Sync>(
     rt: &R,
     alloc: Global,
     near: &[u32],
     least: u64,
 ) -> Result<Option<u64>, AllocError> {
-    let whole = Whole::of(alloc, two_ways(alloc, 20)?)?;
-    let branch = all(alloc)?;
     let near = VertexSet::of(alloc, 21, near)?;
-    let known = tree_over(alloc, &[(1, 2), (2, 3), (1, 5)])?;
-    let mut elite = Elite::new(alloc);
-    let effort = Effort::at(branch.branch(), true, 1);
-    let found = wandered_tree(
-        rt, alloc, &whole, &branch, &near, &known, &mut elite, effort, least, 0,
-    )?;
-    Ok(found.map(|found| found.price))
+    let branch = all(alloc)?;
+    let whole = Whole::of(alloc, two_ways(alloc, 20)?)?;
+    price_near(rt, alloc, &whole, &branch, &near, least)
 }
 
 // No move gains at the tree over vertex 2, which costs 7. A walk that may reach vertex 4 comes to one of cost 6, and
@@ -63,27 +79,50 @@ fn walks_where_no_move_gains(rt: HostRuntime) -> Result<(), Fail> {
     Ok(())
 }
 
+// The work on the first node, and on another one.
+fn efforts(alloc: Global) -> Result<(Effort, Effort), AllocError> {
+    let branch = all(alloc)?;
+    let first = Effort::at(branch.branch(), true, 1);
+    let other = Effort::at(branch.branch(), false, 1);
+    Ok((first, other))
+}
+
 // At the first node always; at others where the bound lacks little.
 #[test]
 fn walks_where_a_tree_is_wanting(rt: HostRuntime) -> Result<(), Fail> {
-    let branch = all(rt.alloc())?;
-    let first = Effort::at(branch.branch(), true, 1);
-    let other = Effort::at(branch.branch(), false, 1);
+    let (first, other) = efforts(rt.alloc())?;
     assert_eq!(rt; (first.steps(9, 10), other.steps(9, 10)), (4, 0));
     assert_eq!(rt; (other.steps(1, 301), other.steps(1, 300)), (2, 0));
     Ok(())
 }
 
-// Among so many vertices no tree is drawn. At the first node walks lead from the tree known to one of cost 6; at
-// others there are none.
+// What the best tree costs that is found beside the one over vertex 2 at the first node, and at another one.
+fn prices_beside<R: Threads + Sync>(
+    rt: &R,
+    alloc: Global,
+    whole: &Whole,
+) -> Result<[Option<u64>; 2], AllocError>
+    requires { IsVertex whole.now.instance.n 1 }
+{
+    let known = [(1, 2), (2, 3), (1, 5)];
+    Ok([
+        price_beside(rt, alloc, whole, &known, 8, true, 1)?,
+        price_beside(rt, alloc, whole, &known, 8, false, 1)?,
+    ])
+}
+
+// The same among so many vertices that no tree is drawn.
+fn prices_of_many<R: Threads + Sync>(
+    rt: &R,
+    alloc: Global,
+) -> Result<[Option<u64>; 2], AllocError> {
+    let whole = Whole::of(alloc, two_ways(alloc, 8_200)?)?;
+    prices_beside(rt, alloc, &whole)
+}
+
+// At the first node walks lead from the tree known to one of cost 6; at others there are none.
 #[test]
 fn walks_at_the_first_node(rt: HostRuntime) -> Result<(), Fail> {
-    let instance = two_ways(rt.alloc(), 8_200)?;
-    let whole = Whole::of(rt.alloc(), instance)?;
-    for (is_first, wanted) in [(true, Some(6)), (false, None)] {
-        let known = [(1, 2), (2, 3), (1, 5)];
-        let got = price_beside(&rt, rt.alloc(), &whole, &known, 8, is_first, 1)?;
-        assert_eq!(rt; got, wanted, "at the first node: {is_first}");
-    }
+    assert_eq!(rt; prices_of_many(&rt, rt.alloc())?, [Some(6), None]);
     Ok(())
 }
