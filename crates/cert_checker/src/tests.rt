@@ -1,6 +1,7 @@
 use super::*;
 use log_format::{Claim, Kind, Log, LogFault};
 use st_model::{Instance, Link, Listed, Need};
+use std::alloc::Global;
 use std::test::Fail;
 use stp_reader::{Reason, StpFault};
 
@@ -50,7 +51,7 @@ fn answer_of(
 }
 
 /// A file, a log, a part of it and what stands there instead, and the verdict.
-const CONCLUDED: [(&str, &str, &str, &str, Verdict); 8] = [
+const CONCLUDED: &[(&str, &str, &str, &str, Verdict)] = &[
     (TRIANGLE, STAR, "END", "END", Verdict::Optimal(6)),
     (
         TRIANGLE,
@@ -99,7 +100,8 @@ const CONCLUDED: [(&str, &str, &str, &str, Verdict); 8] = [
 
 #[test]
 fn concludes(rt: HostRuntime) -> Result<(), Fail> {
-    for (stp, log, right, wrong, verdict) in CONCLUDED {
+    for row in CONCLUDED {
+        let (stp, log, right, wrong, verdict) = *row;
         let answer = answer_of(&rt, stp, log, right, wrong)?;
         assert_eq!(rt; answer, Ok(verdict), "at {wrong}");
     }
@@ -107,7 +109,7 @@ fn concludes(rt: HostRuntime) -> Result<(), Fail> {
 }
 
 /// A part of the star's log, what stands there instead, and the fault.
-const CHANGES: [(&str, &str, u64, Kind); 20] = [
+const CHANGES: &[(&str, &str, u64, Kind)] = &[
     ("6 6", "6 7", 2, Kind::DualAbovePrimal),
     ("6 6", "7 6", 2, Kind::WrongCost),
     ("6 6", "7 8", 2, Kind::WrongCost),
@@ -162,7 +164,8 @@ const CHANGES: [(&str, &str, u64, Kind); 20] = [
 
 #[test]
 fn refuses_each_change(rt: HostRuntime) -> Result<(), Fail> {
-    for (right, wrong, line, kind) in CHANGES {
+    for row in CHANGES {
+        let (right, wrong, line, kind) = *row;
         let answer = answer_of(&rt, TRIANGLE, STAR, right, wrong)?;
         let fault = LogFault { line, kind };
         assert_eq!(rt; answer, Err(CheckFault::Log(fault)), "at {wrong}");
@@ -187,21 +190,29 @@ fn names_the_fault_of_the_file_first(rt: HostRuntime) {
     assert_eq!(rt; answer, Err(CheckFault::Log(fault)));
 }
 
-/// What is judged of a wall in the file of two terminals that aren't joined.
-fn judgement_of(rt: &impl AllocGlobal, wall: &[u32]) -> Result<Result<Verdict, JudgeError>, Fail> {
+/// What is judged of a wall.
+fn judged_wall(
+    alloc: Global,
+    instance: &Instance,
+    wall: &[u32],
+) -> Result<Result<Verdict, JudgeError>, Fail> {
+    let log = Log {
+        claim: Claim::NoTree {
+            wall: Listed::of(Vec::from_slice(alloc, wall)?),
+        },
+    };
+    Ok(judge(alloc, instance, &log))
+}
+
+/// The same in the file of two terminals that aren't joined.
+fn judgement_of(alloc: Global, wall: &[u32]) -> Result<Result<Verdict, JudgeError>, Fail> {
     let links = [Link {
         a: 1,
         b: 2,
         cost: 7,
     }];
     let needs = [(1, Need::Required), (3, Need::Required)];
-    let instance = Instance::build(rt.alloc(), 3, &links, &needs)?;
-    let log = Log {
-        claim: Claim::NoTree {
-            wall: Listed::of(Vec::from_slice(rt.alloc(), wall)?),
-        },
-    };
-    Ok(judge(rt.alloc(), &instance, &log))
+    judged_wall(alloc, &Instance::build(alloc, 3, &links, &needs)?, wall)
 }
 
 #[test]
@@ -210,10 +221,10 @@ fn judges_walls(rt: HostRuntime) -> Result<(), Fail> {
         line: 3,
         kind: Kind::BadWall,
     });
-    assert_eq!(rt; judgement_of(&rt, &[1, 2])?, Ok(Verdict::NoTree));
-    assert_eq!(rt; judgement_of(&rt, &[3])?, Ok(Verdict::NoTree));
+    assert_eq!(rt; judgement_of(rt.alloc(), &[1, 2])?, Ok(Verdict::NoTree));
+    assert_eq!(rt; judgement_of(rt.alloc(), &[3])?, Ok(Verdict::NoTree));
     for wall in [[1, 1], [2, 2], [1, 3], [2, 3], [3, 4], [0, 3]] {
-        assert_eq!(rt; judgement_of(&rt, &wall)?, Err(bad));
+        assert_eq!(rt; judgement_of(rt.alloc(), &wall)?, Err(bad));
     }
     Ok(())
 }

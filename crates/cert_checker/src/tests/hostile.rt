@@ -23,11 +23,21 @@ fn winding(alloc: Global, count: &str, turns: u32, last: &str) -> Result<String,
     Ok(text)
 }
 
+/// What is answered to that log.
+fn winding_answer(
+    alloc: Global,
+    count: &str,
+    turns: u32,
+    last: &str,
+) -> Result<Result<Verdict, CheckFault>, AllocError> {
+    let log = winding(alloc, count, turns, last)?;
+    Ok(check(alloc, TRIANGLE.as_bytes(), log.as_bytes()))
+}
+
 // Each piece costs as much as the side: there are walks of any length.
 #[test]
 fn follows_a_long_detour(rt: HostRuntime) -> Result<(), Fail> {
-    let log = winding(rt.alloc(), "999999", 499_999, " 4")?;
-    let answer = check(rt.alloc(), TRIANGLE.as_bytes(), log.as_bytes());
+    let answer = winding_answer(rt.alloc(), "999999", 499_999, " 4")?;
     assert_eq!(rt; answer, Ok(Verdict::Optimal(6)));
     Ok(())
 }
@@ -35,8 +45,7 @@ fn follows_a_long_detour(rt: HostRuntime) -> Result<(), Fail> {
 // The last step of the walk would be the side itself.
 #[test]
 fn refuses_a_long_detour(rt: HostRuntime) -> Result<(), Fail> {
-    let log = winding(rt.alloc(), "1000000", 500_000, "")?;
-    let answer = check(rt.alloc(), TRIANGLE.as_bytes(), log.as_bytes());
+    let answer = winding_answer(rt.alloc(), "1000000", 500_000, "")?;
     let fault = LogFault {
         line: 8,
         kind: Kind::BadStep,
@@ -56,7 +65,7 @@ const BEFORE_PROOF: &str =
     "STEINERLOG 1\nCLAIM TREE 6 6\nTREE 1 3\nA 1 4\nA 4 2\nA 4 3\nSTEPS 0\nPROOF\n";
 
 /// A text of the triangle's log that states more than it holds, holds nothing or ends within a line, and the fault.
-const TEXTS: [(&str, &str, u64, Kind); 20] = [
+const TEXTS: &[(&str, &str, u64, Kind)] = &[
     (
         BEFORE_TREE,
         "TREE 1 18446744073709551615\nA 1 4\n",
@@ -141,7 +150,8 @@ const TEXTS: [(&str, &str, u64, Kind); 20] = [
 
 #[test]
 fn refuses_hostile_texts_in_pieces(rt: HostRuntime) -> Result<(), Fail> {
-    for (first, rest, line, kind) in TEXTS {
+    for row in TEXTS {
+        let (first, rest, line, kind) = *row;
         assert!(rt;
             is_refused(&rt, first, rest, LogFault { line, kind })?,
             "at {first}{rest}"

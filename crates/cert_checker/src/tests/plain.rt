@@ -218,18 +218,13 @@ fn fault(line: u64, kind: Kind) -> Result<Verdict, CheckFault> {
     Err(CheckFault::Log(LogFault { line, kind }))
 }
 
-/// What the checker has to answer to a certificate. The path has five arcs, so the first step is on
-/// line 10.
-pub fn judged(
-    alloc: Global,
-    first: &Left,
+// What the checker has to answer to a certificate on what it leaves of an instance. The path has
+// five arcs, so the first step is on line 10.
+fn judged_on(
+    left: &mut Left,
     certificate: &Certificate,
 ) -> Result<Result<Verdict, CheckFault>, AllocError> {
     let (dual, primal) = (certificate.dual, certificate.primal);
-    if dual > primal {
-        return Ok(fault(2, Kind::DualAbovePrimal));
-    }
-    let mut left = first.copied(alloc)?;
     let mut line: u64 = 10;
     for step in &certificate.steps {
         if !left.take(*step)? {
@@ -251,4 +246,17 @@ pub fn judged(
         return Ok(Ok(Verdict::Optimal(primal)));
     }
     Ok(Ok(Verdict::Bound { dual, primal }))
+}
+
+/// What the checker has to answer to a certificate.
+pub fn judged(
+    alloc: Global,
+    first: &Left,
+    certificate: &Certificate,
+) -> Result<Result<Verdict, CheckFault>, AllocError> {
+    if certificate.dual > certificate.primal {
+        return Ok(fault(2, Kind::DualAbovePrimal));
+    }
+    let mut left = first.copied(alloc)?;
+    judged_on(&mut left, certificate)
 }

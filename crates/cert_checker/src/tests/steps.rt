@@ -25,7 +25,7 @@ const SHORTENED: &str =
     "STEINERLOG 1\nCLAIM TREE 0 0\nTREE 1 0\nSTEPS 2\nH 2\nP 1\nPROOF\nC 0 0\nEND\n";
 
 /// A file, a log, a part of it and what stands there instead, and the verdict.
-pub const CONCLUDED: [(&str, &str, &str, &str, Verdict); 8] = [
+pub const CONCLUDED: &[(&str, &str, &str, &str, Verdict)] = &[
     (TRIANGLE, USED_UP, "END", "END", Verdict::Optimal(6)),
     (
         TRIANGLE,
@@ -74,7 +74,8 @@ pub const CONCLUDED: [(&str, &str, &str, &str, Verdict); 8] = [
 
 #[test]
 fn concludes_after_steps(rt: HostRuntime) -> Result<(), Fail> {
-    for (stp, log, right, wrong, verdict) in CONCLUDED {
+    for row in CONCLUDED {
+        let (stp, log, right, wrong, verdict) = *row;
         let answer = answer_of(&rt, stp, log, right, wrong)?;
         assert_eq!(rt; answer, Ok(verdict), "at {wrong}");
     }
@@ -82,7 +83,7 @@ fn concludes_after_steps(rt: HostRuntime) -> Result<(), Fail> {
 }
 
 /// A file, a log, a part of it and what stands there instead, and the fault.
-pub const CHANGES: [(&str, &str, &str, &str, u64, Kind); 33] = [
+pub const CHANGES: &[(&str, &str, &str, &str, u64, Kind)] = &[
     (NARROW, USED_UP, "END", "END", 8, Kind::BadStep),
     (
         TRIANGLE,
@@ -260,7 +261,8 @@ pub const CHANGES: [(&str, &str, &str, &str, u64, Kind); 33] = [
 
 #[test]
 fn refuses_steps_that_fail(rt: HostRuntime) -> Result<(), Fail> {
-    for (stp, log, right, wrong, line, kind) in CHANGES {
+    for row in CHANGES {
+        let (stp, log, right, wrong, line, kind) = *row;
         let answer = answer_of(&rt, stp, log, right, wrong)?;
         let fault = LogFault { line, kind };
         assert_eq!(rt; answer, Err(CheckFault::Log(fault)), "at {wrong}");
