@@ -50,11 +50,16 @@ fn used_up(alloc: Global, first: &Instance) -> Result<Reduced, ApplyError> {
     Ok(reduced)
 }
 
-// What is paid of the used up triangle, and whether just the corners are gone.
-fn left_of_triangle(alloc: Global) -> Result<(u64, bool), ApplyError> {
-    let reduced = used_up(alloc, &triangle_with_centre(alloc, 4)?)?;
+// What is paid, and whether just the corners are gone.
+fn paid_for(alloc: Global, reduced: &Reduced) -> Result<(u64, bool), ApplyError> {
     let gone = reduced.gone(alloc)?;
     Ok((reduced.offset(), gone.as_slice() == [1, 2, 3].as_slice()))
+}
+
+// The same of the used up triangle.
+fn left_of_triangle(alloc: Global) -> Result<(u64, bool), ApplyError> {
+    let reduced = used_up(alloc, &triangle_with_centre(alloc, 4)?)?;
+    paid_for(alloc, &reduced)
 }
 
 #[test]
@@ -179,11 +184,16 @@ fn shortened(alloc: Global, first: &Instance) -> Result<Reduced, ApplyError> {
     Ok(reduced)
 }
 
-// The cost of the link that is left of the path, and how many links are left.
-fn left_of_path(alloc: Global) -> Result<(Option<u64>, usize), ApplyError> {
-    let reduced = shortened(alloc, &path(alloc)?)?;
+// The cost of the link that is left between 1 and 4, and how many links are left.
+fn links_left(alloc: Global, reduced: &Reduced) -> Result<(Option<u64>, usize), ApplyError> {
     let left = reduced.instance(alloc)?;
     Ok((left.link_cost(1, 4), left.links().len()))
+}
+
+// The same of the path.
+fn left_of_path(alloc: Global) -> Result<(Option<u64>, usize), ApplyError> {
+    let reduced = shortened(alloc, &path(alloc)?)?;
+    links_left(alloc, &reduced)
 }
 
 #[test]

@@ -5,23 +5,26 @@ use std::alloc::{AllocError, Global};
 use std::test::Fail;
 use test_instances::{Draws, triangle_with_centre};
 
-// What was paid, how many vertices are gone, and how many links are left.
-fn sums(alloc: Global, reduced: &Reduced) -> Result<(u64, usize, usize), AllocError> {
+// How many steps these are, what they paid, and how many vertices are gone and links left.
+fn sums(
+    alloc: Global,
+    steps: &[Step],
+    reduced: &Reduced,
+) -> Result<(usize, u64, usize, usize), AllocError> {
     let gone = reduced.gone(alloc)?.len();
     let links = reduced.instance(alloc)?.links().len();
-    Ok((reduced.offset(), gone, links))
+    Ok((steps.len(), reduced.offset(), gone, links))
 }
 
-// How many steps the triangle takes, and the sums then.
-fn used_up(alloc: Global) -> Result<(usize, (u64, usize, usize)), AllocError> {
+fn sums_of_triangle(alloc: Global) -> Result<(usize, u64, usize, usize), AllocError> {
     let (steps, reduced) = reduce(alloc, &triangle_with_centre(alloc, 4)?)?;
-    Ok((steps.len(), sums(alloc, &reduced)?))
+    sums(alloc, &steps, &reduced)
 }
 
 // The sides go for the ways over the centre, and then each corner with its link but the last.
 #[test]
 fn uses_up_a_triangle(rt: HostRuntime) -> Result<(), Fail> {
-    assert_eq!(rt; used_up(rt.alloc())?, (6, (6, 3, 0)));
+    assert_eq!(rt; sums_of_triangle(rt.alloc())?, (6, 6, 3, 0));
     Ok(())
 }
 
