@@ -2,7 +2,10 @@ use super::starting::{bit, run};
 use crate::OpenGate;
 use graph_store::Whole;
 use st_model::{Instance, Link, Need};
+use std::alloc::{AllocError, Global};
+use std::sync::Wait;
 use std::test::Fail;
+use std::thread::Threads;
 use test_instances::Draws;
 
 // A cheapest link from the vertices that are reached to those that are missing.
@@ -70,18 +73,25 @@ fn least_over_sets(instance: &Instance) -> Option<u64> {
     least
 }
 
+// The least cost of a drawn instance that a search by two workers ends with, and how many nodes wait then; and
+// the least over all sets.
+fn both_ways<R: Threads + Wait + Sync>(
+    rt: &R,
+    alloc: Global,
+    seed: u64,
+) -> Result<(Option<(u64, usize)>, Option<u64>), AllocError> {
+    let instance = Draws { state: seed }.instance(alloc)?;
+    let want = least_over_sets(&instance);
+    let whole = Whole::of(alloc, instance)?;
+    let got = run(rt, alloc, &whole, 2, u64::MAX, &OpenGate)?;
+    Ok((got.map(|end| (end.least, end.waiting)), want))
+}
+
 #[test]
 fn agrees_with_all_subsets(rt: HostRuntime) -> Result<(), Fail> {
     for seed in 1..21u64 {
-        let instance = Draws { state: seed }.instance(rt.alloc())?;
-        let want = least_over_sets(&instance);
-        let whole = Whole::of(rt.alloc(), instance)?;
-        let got = run(&rt, rt.alloc(), &whole, 2, u64::MAX, &OpenGate)?;
-        assert_eq!(rt;
-            got.map(|end| (end.least, end.waiting)),
-            want.map(|cost| (cost, 0)),
-            "with seed {seed}"
-        );
+        let (got, want) = both_ways(&rt, rt.alloc(), seed)?;
+        assert_eq!(rt; got, want.map(|cost| (cost, 0)), "with seed {seed}");
     }
     Ok(())
 }
