@@ -12,7 +12,7 @@ use Rattle.lift_back.specs.State.{State, whole}
 use Rattle.lift_back.specs.Steps.{Applies}
 use Rattle.log_format.specs.declared.log.Log.{Log}
 use Rattle.log_format.specs.declared.log.Claim.{Claim}
-use Rattle.log_format.specs.declared.log.Claim.TheVariants.{NoTree}
+use Rattle.log_format.specs.declared.log.Claim.TheVariants as claim
 use Rattle.log_format.specs.Accepts.{AcceptedHolds, Holds, ProvesIn, left_of, left_over}
 use Rattle.log_format.specs.Text.{IsWritableSet}
 use Rattle.search_core.specs.FreeVertices.{free_count}
@@ -20,8 +20,10 @@ use Rattle.search_core.specs.ReadOff.{least_weight}
 use Rattle.certificate_log.specs.Assembled.{IsAssembled}
 use Rattle.certificate_log.specs.Spent.{IsSpent}
 use Rattle.steiner_top.specs.declared.best.Best.{Best}
-use Rattle.steiner_top.specs.Left.{IsBestOf, IsClaimOf}
-use Rattle.steiner_top.specs.Outcome.{AreSteps, IsCertificate, IsFound, IsGreatestBound, IsWithoutTree, free_vertices}
+use Rattle.steiner_top.specs.declared.outcome.Outcome.{Outcome}
+use Rattle.steiner_top.specs.declared.outcome.Outcome.TheVariants.{Found, NoTree}
+use Rattle.steiner_top.specs.Left.{IsBestOf, IsClaimOf, IsShownBy}
+use Rattle.steiner_top.specs.Outcome.{AreSteps, IsCertificate, IsFound, IsGreatestBound, IsOutcome, IsWithoutTree, free_vertices}
 use Rattle.steiner_top.proofs.Remaining.{few_to_split, proved_of_both}
 
 -- a bound of what is left, and what is paid besides
@@ -100,18 +102,24 @@ module _ (nodes : ℕ) (plain : Bool) (I : Network) (steps : List Step) (s : Sta
   }
 
   -- what the log claims is what it was made for
-  pub claimed_found : (tree : Tree) (primal dual : ℕ) → AcceptedHolds → IsClaimOf log.claim tree primal dual → IsFound nodes plain I tree primal dual b.search.gathered.claimed (b.search ∷ []) log
+  claimed_found : (tree : Tree) (primal dual : ℕ) → AcceptedHolds → IsClaimOf log.claim tree primal dual → IsFound nodes plain I tree primal dual b.search.gathered.claimed (b.search ∷ []) log
   claimed_found tree primal dual holds claims =
       let (same_tree, same_primal, same_dual) = subst (λ (c : Claim). IsClaimOf c tree primal dual) a.claims claims in
       subst (λ (t : Tree). IsFound nodes plain I t primal dual b.search.gathered.claimed (b.search ∷ []) log) same_tree
       (subst (λ (p : ℕ). IsFound nodes plain I a.tree p dual b.search.gathered.claimed (b.search ∷ []) log) same_primal
       (subst (λ (d : ℕ). IsFound nodes plain I a.tree a.primal d b.search.gathered.claimed (b.search ∷ []) log) same_dual (own holds)))
 
+  -- so is what the log shows
+  pub shown_outcome : (o : Outcome) → AcceptedHolds → IsShownBy b.search log o → IsOutcome nodes plain I o
+  shown_outcome (Found tree primal dual expanded searches certificate) holds (claims, expanded_is, searches_is, certificate_is) =
+      rw (expanded_is, searches_is, certificate_is) (claimed_found tree primal dual holds claims)
+  shown_outcome (NoTree certificate) holds none = absurd none
+
 -- a wall says that there is no tree
-pub without_tree : (I : Network) (wall : List ℕ) → AcceptedHolds → IsInstance I → IsWritableSet wall → IsWall I wall → IsWithoutTree I (record { claim = NoTree wall })
+pub without_tree : (I : Network) (wall : List ℕ) → AcceptedHolds → IsInstance I → IsWritableSet wall → IsWall I wall → IsWithoutTree I (record { claim = claim.NoTree wall })
 without_tree I wall holds instance set h = record {
   wall = wall;
-  none = holds I (record { claim = NoTree wall }) instance h;
+  none = holds I (record { claim = claim.NoTree wall }) instance h;
   claims = refl;
   is_log = record { in_range = set; one_proof = tt };
   accepted = h;

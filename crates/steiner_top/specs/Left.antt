@@ -1,5 +1,5 @@
 -- What steps leave of an instance. Helpers' clauses cite this, and no public one.
-use Rattle.std.specs.Prelude.{◌≡◌, ℕ, ◌<◌, ◌^◌, Bool, length, ⊤}
+use Rattle.std.specs.Prelude.{◌≡◌, ℕ, ◌<◌, ◌^◌, Bool, [], ◌∷◌, length, ⊤}
 use Rattle.st_model.specs.declared.tree.Tree.{Tree}
 use Rattle.st_model.specs.Network.{Network}
 use Rattle.st_model.specs.Arborescence.{cost}
@@ -7,12 +7,16 @@ use Rattle.lift_back.specs.declared.step.Step.{Step}
 use Rattle.lift_back.specs.declared.step.Step.TheVariants.{Pendant, Through, Forced, Detour}
 use Rattle.lift_back.specs.State.{State, IsTreeOf, whole}
 use Rattle.lift_back.specs.Steps.{Applies}
+use Rattle.log_format.specs.declared.log.Log.{Log}
 use Rattle.log_format.specs.declared.log.Claim.{Claim}
 use Rattle.log_format.specs.declared.log.Claim.TheVariants.{Found, NoTree}
 use Rattle.log_format.specs.Text.{IsWritablePacking}
+use Rattle.search_core.specs.declared.gathered.Searched.{Searched}
 use Rattle.search_core.specs.Complete.{AllPackings}
 use Rattle.steiner_top.specs.declared.best.Best.{Best}
 use Rattle.steiner_top.specs.declared.left.Left.{Left}
+use Rattle.steiner_top.specs.declared.outcome.Outcome.{Outcome}
+use Rattle.steiner_top.specs.declared.outcome.Outcome.TheVariants as outcome
 use Rattle.steiner_top.specs.Outcome.{AreSteps, IsSearchOf}
 
 -- the steps apply to the instance and leave this
@@ -41,6 +45,12 @@ IsFoundClaim (NoTree wall) = ⊥
 abbrev pub IsClaimOf : Claim → Tree → ℕ → ℕ → Type 0
 IsClaimOf (Found p d t steps proof) tree primal dual = (t ≡ tree) × (p ≡ primal) × (d ≡ dual)
 IsClaimOf (NoTree wall) tree primal dual = ⊥
+
+-- an outcome is a log's tree and numbers, found by this search
+abbrev pub IsShownBy : Searched → Log → Outcome → Type 0
+IsShownBy search log (outcome.Found tree primal dual expanded searches certificate) =
+    IsClaimOf log.claim tree primal dual × (expanded ≡ search.gathered.claimed) × (searches ≡ search ∷ []) × (certificate ≡ log)
+IsShownBy search log (outcome.NoTree certificate) = ⊥
 
 -- a detour's inner vertices can be counted
 abbrev pub CanBeCounted : Step → Type 0

@@ -5,9 +5,10 @@ ghost use Rattle.st_model.specs.Wall.{IsWall};
 ghost use Rattle.stp_reader.specs.declared.reason.Reason.{Reason};
 ghost use Rattle.stp_reader.specs.Reads.{Refused};
 ghost use Rattle.lift_back.specs.State.{IsState};
+ghost use Rattle.log_format.specs.Accepts.{left_over};
 ghost use Rattle.log_format.specs.Text.{IsWritableSet};
 ghost use Rattle.steiner_top.specs.declared.outcome.SolveFault.TheVariants.{Stp, NoMemory};
-ghost use Rattle.steiner_top.specs.Left.{HasSomeTree, IsBestOf, IsClaimOf, IsFoundClaim, IsLeftOf};
+ghost use Rattle.steiner_top.specs.Left.{HasSomeTree, IsBestOf, IsClaimOf, IsFoundClaim, IsLeftOf, IsShownBy};
 ghost use Rattle.steiner_top.specs.Outcome.{IsOutcome, Solves};
 
 use crate::best::{Best, cheapest, copy_of};
@@ -121,10 +122,30 @@ fn search_left<R: Threads + Wait + Sync, G: Gate>(
     let whole = Whole::of(alloc, rest)?;
     let branch = left_over(alloc, reduced)?;
     let sides = Sides::of(alloc, branch)?;
-    let start = start_tree(alloc, &whole, &sides)?;
+    search_from(rt, alloc, reduced, &whole, &sides, workers, nodes, gate)
+}
+
+// Searches for one from a first tree of it.
+fn search_from<R: Threads + Wait + Sync, G: Gate>(
+    rt: &R,
+    alloc: Global,
+    reduced: &Reduced,
+    whole: &Whole,
+    sides: &Sides,
+    workers: u32,
+    nodes: u64,
+    gate: &G,
+) -> Result<Best, AllocError>
+    requires state { IsState reduced.now.state }
+    requires some { HasSomeTree reduced.now.state }
+    requires whole { whole.now.instance ≡ reduced.now.state.instance }
+    requires sides { sides.now ≡ left_over reduced.now.state }
+    ensures { IfOk result (IsBestOf reduced.now.state nodes) }
+{
+    let start = start_tree(alloc, whole, sides)?;
     let gone = sides.branch().outside.as_slice();
     let first = tree_cost(&whole.instance, &start);
-    let gathered = run_all(rt, alloc, &whole, gone, &start, workers, nodes, gate)?;
+    let gathered = run_all(rt, alloc, whole, gone, &start, workers, nodes, gate)?;
     let tree = cheapest(
         alloc,
         &whole.instance,
@@ -162,8 +183,16 @@ fn found(
     // So that each step can be written.
     count_steps(&steps);
     let Best { tree, search } = best;
-    let expanded = search.gathered.claimed;
     let certificate = assemble(alloc, steps, &reduced, &tree, &search.gathered)?;
+    shown(alloc, search, certificate)
+}
+
+// What a log shows, as what a search found.
+fn shown(alloc: Global, search: Searched, certificate: Log) -> Result<Outcome, AllocError>
+    requires { IsFoundClaim certificate.claim }
+    ensures { IfOk result (IsShownBy search certificate) }
+{
+    let expanded = search.gathered.claimed;
     let (tree, primal, dual) = claimed(alloc, &certificate)?;
     Ok(Outcome::Found {
         tree,

@@ -1,4 +1,5 @@
-use crate::{OpenGate, Status, run};
+use crate::{Gate, OpenGate, Outcome, Status, run, solve_bytes};
+use log_format::Claim;
 use st_edge::{MemoryShelf, MemorySink, Shelf};
 use std::alloc::{AllocError, Global};
 use std::process::Abort;
@@ -73,30 +74,92 @@ fn sink_of(alloc: Global) -> Result<MemorySink, AllocError> {
     MemorySink::of(alloc, 1_000_000, 99, Vec::new(alloc))
 }
 
-/// The status of a run with these words over this shelf.
-fn status_of<R: Threads + Wait + Sync, F: Shelf>(
+/// What a tree and its log come to: the two numbers, and how many steps and lines of proof there are.
+#[derive(Clone, Copy)]
+struct Solution {
+    primal: u64,
+    dual: u64,
+    steps: usize,
+    lines: usize,
+}
+
+/// That of an outcome with a tree.
+fn solution_of(outcome: &Outcome) -> Option<Solution> {
+    let Outcome::Found {
+        primal,
+        dual,
+        certificate,
+        ..
+    } = outcome
+    else {
+        return None;
+    };
+    let Claim::Found { steps, proof, .. } = &certificate.claim else {
+        return None;
+    };
+    Some(Solution {
+        primal: *primal,
+        dual: *dual,
+        steps: steps.as_slice().len(),
+        lines: proof.lines().len(),
+    })
+}
+
+/// That of a file, where so many nodes may be expanded, and it is to be plain or not.
+fn solved<R: Threads + Wait + Sync, G: Gate>(
+    rt: &R,
+    alloc: Global,
+    lines: &str,
+    nodes: u64,
+    plain: bool,
+    gate: &G,
+) -> Result<Option<Solution>, AllocError> {
+    let text = text_of(alloc, lines)?;
+    match solve_bytes(rt, alloc, &text, 1, nodes, plain, gate) {
+        Ok(outcome) => Ok(solution_of(&outcome)),
+        Err(_) => Ok(None),
+    }
+}
+
+/// How a run ends: whether it has an outcome, and what one with a tree comes to.
+#[derive(Clone, Copy)]
+struct Ending {
+    status: Status,
+    has_outcome: bool,
+    solution: Option<Solution>,
+}
+
+/// How a run with these words over this shelf ends.
+fn ending_of<R: Threads + Wait + Sync, F: Shelf>(
     rt: &R,
     alloc: Global,
     line: &str,
     shelf: &mut F,
-) -> Result<Status, AllocError> {
+    out: &mut MemorySink,
+) -> Result<Ending, AllocError> {
     let words = words_of(alloc, line)?;
-    let mut out = sink_of(alloc)?;
-    Ok(run(rt, alloc, &words, shelf, &mut out, &OpenGate).status)
+    let ended = run(rt, alloc, &words, shelf, out, &OpenGate);
+    let solution = match &ended.outcome {
+        Some(outcome) => solution_of(outcome),
+        None => None,
+    };
+    Ok(Ending {
+        status: ended.status,
+        has_outcome: ended.outcome.is_some(),
+        solution,
+    })
 }
 
-/// How a run with these words over this shelf ends, and what it sends, in so many words.
+/// Whether a run with these words over this shelf ends so, and sends this.
 fn ends<F: Shelf>(
     rt: &(impl Abort + AllocGlobal + Threads + Wait + Sync),
     line: &str,
     shelf: &mut F,
     want: (Status, u8, &str),
 ) -> Result<(), Fail> {
-    let words = words_of(rt.alloc(), line)?;
     let mut out = sink_of(rt.alloc())?;
-    let ended = run(rt, rt.alloc(), &words, shelf, &mut out, &OpenGate);
-    assert_eq!(rt; ended.status, want.0, "after {line}");
-    assert_eq!(rt; ended.status.code(), want.1, "after {line}");
+    let status = ending_of(rt, rt.alloc(), line, shelf, &mut out)?.status;
+    assert_eq!(rt; (status, status.code()), (want.0, want.1), "after {line}");
     assert_eq!(rt; out.bytes(), want.2.as_bytes(), "after {line}");
     Ok(())
 }

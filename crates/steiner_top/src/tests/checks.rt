@@ -1,8 +1,10 @@
-use super::{APART, PRIZES, TRIANGLE, WHEEL, ends, shelf_of, sink_of, text_of, words_of};
-use crate::{OpenGate, Status, run};
+use super::{APART, PRIZES, TRIANGLE, WHEEL, ending_of, ends, shelf_of, sink_of, text_of};
+use crate::Status;
 use st_edge::{MemoryShelf, SaveFault, Shelf};
 use std::process::Abort;
+use std::sync::Wait;
 use std::test::Fail;
+use std::thread::Threads;
 
 /// A log of the triangle.
 const LOG: &str =
@@ -65,16 +67,27 @@ const SAVED: &[(&str, Status, u8, &str)] = &[
     (APART, Status::Infeasible, 4, "no tree\n"),
 ];
 
+/// Solves a file by these words, and checks the log that is saved: both end so, and this is said of the log.
+pub fn is_accepted(
+    rt: &(impl Abort + AllocGlobal + Threads + Wait + Sync),
+    words: &str,
+    lines: &str,
+    want: (Status, u8, &str),
+) -> Result<(), Fail> {
+    let mut shelf = shelf_of(rt.alloc(), lines, &[])?;
+    let mut out = sink_of(rt.alloc())?;
+    let ending = ending_of(rt, rt.alloc(), words, &mut shelf, &mut out)?;
+    assert!(rt;
+        ending.has_outcome && ending.status == want.0,
+        "for {lines}"
+    );
+    ends(rt, "check a.stp b", &mut shelf, want)
+}
+
 #[test]
 fn accepts_what_solving_saves(rt: HostRuntime) -> Result<(), Fail> {
     for (lines, status, code, line) in SAVED {
-        let mut shelf = shelf_of(rt.alloc(), lines, &[])?;
-        let words = words_of(rt.alloc(), "solve a.stp --log b")?;
-        let mut out = sink_of(rt.alloc())?;
-        let ended = run(&rt, rt.alloc(), &words, &mut shelf, &mut out, &OpenGate);
-        assert_eq!(rt; ended.status, *status);
-        assert!(rt; ended.outcome.is_some());
-        ends(&rt, "check a.stp b", &mut shelf, (*status, *code, line))?;
+        is_accepted(&rt, "solve a.stp --log b", lines, (*status, *code, line))?;
     }
     Ok(())
 }

@@ -1,5 +1,5 @@
-use super::{ends, sink_of, words_of};
-use crate::{OpenGate, Outcome, Status, run};
+use super::{ending_of, ends, sink_of};
+use crate::Status;
 use st_edge::MemoryShelf;
 use std::alloc::{AllocError, Global};
 use std::process::Abort;
@@ -39,24 +39,26 @@ fn file_of(alloc: Global, seed: u64) -> Result<String, AllocError> {
     Ok(text)
 }
 
+/// A shelf with a drawn file under `a.stp`.
+fn shelf_with(alloc: Global, seed: u64) -> Result<MemoryShelf, AllocError> {
+    let text = file_of(alloc, seed)?;
+    let mut texts = Vec::new(alloc);
+    texts.push((String::from_str(alloc, "a.stp")?, text.into_bytes()))?;
+    Ok(MemoryShelf::of(alloc, texts, Vec::new(alloc)))
+}
+
 /// Solves a drawn file by these words, and checks the log that is saved: it shows the same cost.
 fn is_accepted(
     rt: &(impl Abort + AllocGlobal + Threads + Wait + Sync),
     seed: u64,
     line: &str,
 ) -> Result<(), Fail> {
-    let text = file_of(rt.alloc(), seed)?;
-    let mut texts = Vec::new(rt.alloc());
-    texts.push((String::from_str(rt.alloc(), "a.stp")?, text.into_bytes()))?;
-    let mut shelf = MemoryShelf::of(rt.alloc(), texts, Vec::new(rt.alloc()));
-    let words = words_of(rt.alloc(), line)?;
+    let mut shelf = shelf_with(rt.alloc(), seed)?;
     let mut out = sink_of(rt.alloc())?;
-    let ended = run(&rt, rt.alloc(), &words, &mut shelf, &mut out, &OpenGate);
-    let Some(Outcome::Found { primal, dual, .. }) = ended.outcome else {
-        return Err(Fail::new("no tree"));
-    };
-    assert_eq!(rt; primal, dual, "for {seed}");
-    let line = format!(in rt.alloc(); "optimal {primal}\n")?;
+    let ending = ending_of(rt, rt.alloc(), line, &mut shelf, &mut out)?;
+    let found = ending.solution.ok_or("no tree")?;
+    assert_eq!(rt; found.primal, found.dual, "for {seed}");
+    let line = format!(in rt.alloc(); "optimal {}\n", found.primal)?;
     ends(rt, "check a.stp b", &mut shelf, (Status::Optimal, 0, &line))
 }
 

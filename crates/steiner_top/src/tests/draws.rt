@@ -1,7 +1,7 @@
-use super::worked::solution_of;
-use super::{TRIANGLE, ends, shelf_of, sink_of, words_of};
-use crate::{OpenGate, Outcome, Status, run};
-use std::alloc::Global;
+use super::worked::solution_text;
+use super::{Ending, TRIANGLE, ending_of, ends, shelf_of, sink_of};
+use crate::Status;
+use std::alloc::{AllocError, Global};
 use std::process::Abort;
 use std::sync::Wait;
 use std::test::Fail;
@@ -33,7 +33,7 @@ fn sends_what_is_drawn_with_prizes(rt: HostRuntime) -> Result<(), Fail> {
 #[test]
 fn solves_what_is_drawn_with_prizes(rt: HostRuntime) -> Result<(), Fail> {
     let mut shelf = shelf_of(rt.alloc(), WITH_PRIZES, &[])?;
-    let text = solution_of(rt.alloc(), "optimal", 32, 32, (&[1], &[]))?;
+    let text = solution_text(rt.alloc(), "optimal", 32, 32, (&[1], &[]))?;
     let want = (Status::Optimal, 0, text.as_str());
     ends(&rt, "solve a.stp", &mut shelf, want)
 }
@@ -54,23 +54,21 @@ fn sent_for<R: Threads + Wait + Sync>(
     rt: &R,
     alloc: Global,
     line: &str,
-) -> Result<(Status, Option<Outcome>, Vec<u8>), Fail> {
-    let words = words_of(alloc, line)?;
+) -> Result<(Ending, Vec<u8>), AllocError> {
     let mut shelf = shelf_of(alloc, TRIANGLE, &[])?;
     let mut out = sink_of(alloc)?;
-    let ended = run(rt, alloc, &words, &mut shelf, &mut out, &OpenGate);
+    let ending = ending_of(rt, alloc, line, &mut shelf, &mut out)?;
     let sent = Vec::from_slice(alloc, out.bytes())?;
-    Ok((ended.status, ended.outcome, sent))
+    Ok((ending, sent))
 }
 
 /// Where one worker and four of them prove a cost the least, it is the same.
 #[test]
 fn tries_alike_with_four_workers(rt: HostRuntime) -> Result<(), Fail> {
-    let (one, first, lines) = sent_for(&rt, rt.alloc(), "trial 20 300 600 12")?;
-    let (four, second, others) = sent_for(&rt, rt.alloc(), "trial 20 300 600 12 --workers 4")?;
-    assert!(rt; matches!(first, Some(Outcome::Found { .. })));
-    assert!(rt; matches!(second, Some(Outcome::Found { .. })));
-    if one == Status::Optimal && four == Status::Optimal {
+    let (one, lines) = sent_for(&rt, rt.alloc(), "trial 20 300 600 12")?;
+    let (four, others) = sent_for(&rt, rt.alloc(), "trial 20 300 600 12 --workers 4")?;
+    assert!(rt; one.solution.is_some() && four.solution.is_some());
+    if one.status == Status::Optimal && four.status == Status::Optimal {
         assert_eq!(rt; lines.as_slice(), others.as_slice());
     }
     Ok(())

@@ -1,8 +1,8 @@
 use super::solves::STAR;
-use super::{TRIANGLE, ends, shelf_of, words_of};
-use crate::{OpenGate, Status, run};
+use super::{TRIANGLE, ending_of, ends, shelf_of};
+use crate::Status;
 use st_edge::{LoadFault, MemorySink, SaveFault, Shelf};
-use std::alloc::Global;
+use std::alloc::{AllocError, Global};
 use std::process::Abort;
 use std::sync::Wait;
 use std::test::Fail;
@@ -31,20 +31,33 @@ fn tells_read_faults(rt: HostRuntime) -> Result<(), Fail> {
 #[test]
 fn ends_at_each_write_that_fails(rt: HostRuntime) -> Result<(), Fail> {
     for write in 1..=STAR.len() as u64 {
-        let mut shelf = shelf_of(rt.alloc(), TRIANGLE, &[])?;
-        let failing = Vec::from_slice(rt.alloc(), &[write])?;
-        let mut out = MemorySink::of(rt.alloc(), 1_000, 1, failing)?;
-        let words = words_of(rt.alloc(), "solve a.stp --log b")?;
-        let ended = run(&rt, rt.alloc(), &words, &mut shelf, &mut out, &OpenGate);
-        assert_eq!(rt; ended.status, Status::WriteFault);
-        assert!(rt; ended.outcome.is_none());
+        let (code, has_outcome, is_saved, sent) = found_at(&rt, rt.alloc(), &[], &[write], 1_000)?;
         assert_eq!(rt;
-            out.bytes(),
-            STAR.as_bytes().get(..write as usize - 1).unwrap_or(&[])
+            (code, has_outcome, is_saved),
+            (8, false, true),
+            "at {write}"
         );
-        assert!(rt; shelf.text_of("b").is_some());
+        let before = STAR.as_bytes().get(..write as usize - 1).unwrap_or(&[]);
+        assert_eq!(rt; sent.as_slice(), before, "at {write}");
     }
     Ok(())
+}
+
+/// The code of a run that solves the triangle with a log where such calls fail and so many bytes can be sent; whether
+/// it has an outcome, and the log is saved; and what is sent.
+fn found_at<R: Threads + Wait + Sync>(
+    rt: &R,
+    alloc: Global,
+    calls: &[u64],
+    writes: &[u64],
+    room: u64,
+) -> Result<(u8, bool, bool, Vec<u8>), AllocError> {
+    let mut shelf = shelf_of(alloc, TRIANGLE, calls)?;
+    let mut out = MemorySink::of(alloc, room, 1, Vec::from_slice(alloc, writes)?)?;
+    let ending = ending_of(rt, alloc, "solve a.stp --log b", &mut shelf, &mut out)?;
+    let sent = Vec::from_slice(alloc, out.bytes())?;
+    let is_saved = shelf.text_of("b").is_some();
+    Ok((ending.status.code(), ending.has_outcome, is_saved, sent))
 }
 
 /// What fails of the devices, by the numbers of their calls, where the triangle is solved with a log.
@@ -98,16 +111,9 @@ const ROWS: &[Row] = &[
 ];
 
 /// Whether a run ends as its row says.
-fn ends_as<R: Threads + Wait + Sync>(rt: &R, alloc: Global, row: &Row) -> Result<bool, Fail> {
-    let mut shelf = shelf_of(alloc, TRIANGLE, row.calls)?;
-    let failing = Vec::from_slice(alloc, row.writes)?;
-    let mut out = MemorySink::of(alloc, row.room, 1, failing)?;
-    let words = words_of(alloc, "solve a.stp --log b")?;
-    let code = run(rt, alloc, &words, &mut shelf, &mut out, &OpenGate)
-        .status
-        .code();
-    let is_saved = shelf.text_of("b").is_some();
-    Ok(code == row.code && out.bytes() == row.sent.as_bytes() && is_saved == row.is_saved)
+fn ends_as<R: Threads + Wait + Sync>(rt: &R, alloc: Global, row: &Row) -> Result<bool, AllocError> {
+    let (code, _, is_saved, sent) = found_at(rt, alloc, row.calls, row.writes, row.room)?;
+    Ok(code == row.code && sent.as_slice() == row.sent.as_bytes() && is_saved == row.is_saved)
 }
 
 #[test]

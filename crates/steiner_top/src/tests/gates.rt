@@ -1,7 +1,6 @@
-use super::{PRIZES, TRIANGLE, WHEEL, text_of};
-use crate::{Gate, Outcome, solve_bytes};
-use log_format::{Claim, Log};
-use std::alloc::Global;
+use super::{PRIZES, TRIANGLE, WHEEL, solved};
+use crate::Gate;
+use std::alloc::{AllocError, Global};
 use std::process::Abort;
 use std::sync::Wait;
 use std::sync::atomic::{AtomicU64, Ordering};
@@ -42,30 +41,22 @@ impl Gate for CountingGate {
     }
 }
 
-/// How many lines the proof of a log has, and so how many nodes a search has worked on that ended within its budget.
-fn lines_of(log: &Log) -> u64 {
-    match &log.claim {
-        Claim::Found { proof, .. } => proof.lines().len() as u64,
-        Claim::NoTree { .. } => 0,
-    }
-}
-
-/// Whether as many nodes are shown as the proof has lines, each once.
+/// Whether as many nodes are shown as the proof has lines, which are as many as a search has worked on that ended
+/// within its budget, each once.
 fn shows_each_line<R: Threads + Wait + Sync>(
     rt: &R,
     alloc: Global,
     lines: &str,
     nodes: u64,
     plain: bool,
-) -> Result<bool, Fail> {
-    let text = text_of(alloc, lines)?;
+) -> Result<bool, AllocError> {
     let gate = CountingGate::new();
-    let Ok(outcome) = solve_bytes(rt, alloc, &text, 1, nodes, plain, &gate) else {
+    let Some(found) = solved(rt, alloc, lines, nodes, plain, &gate)? else {
         return Ok(false);
     };
     let expanded = gate.nodes.load(Ordering::SeqCst);
     let strays = gate.strays.load(Ordering::SeqCst);
-    Ok(expanded > 0 && expanded == lines_of(outcome.certificate()) && strays == 0)
+    Ok(expanded > 0 && expanded == found.lines as u64 && strays == 0)
 }
 
 /// Files and budgets that suffice for them.
@@ -85,14 +76,10 @@ fn shows_each_node_to_the_gate_once(rt: HostRuntime) -> Result<(), Fail> {
 /// The wheel needs more than one node.
 #[test]
 fn shows_no_more_nodes_than_the_budget(rt: HostRuntime) -> Result<(), Fail> {
-    let text = text_of(rt.alloc(), WHEEL)?;
     for budget in [0, 1] {
         let gate = CountingGate::new();
-        let found = solve_bytes(&rt, rt.alloc(), &text, 1, budget, false, &gate);
-        let Ok(Outcome::Found { primal, dual, .. }) = found else {
-            return Err(Fail::new("no tree"));
-        };
-        assert!(rt; dual < primal);
+        let found = solved(&rt, rt.alloc(), WHEEL, budget, false, &gate)?.ok_or("no tree")?;
+        assert!(rt; found.dual < found.primal);
         assert_eq!(rt; gate.nodes.load(Ordering::SeqCst), budget);
     }
     Ok(())

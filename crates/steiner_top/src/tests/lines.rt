@@ -35,8 +35,8 @@ fn sends_the_usage(rt: HostRuntime) -> Result<(), Fail> {
 fn sends_the_usage_where_there_are_no_words(rt: HostRuntime) -> Result<(), Fail> {
     let mut shelf = shelf_of(rt.alloc(), TRIANGLE, &[])?;
     let mut out = sink_of(rt.alloc())?;
-    let ended = run(&rt, rt.alloc(), &[], &mut shelf, &mut out, &OpenGate);
-    assert_eq!(rt; ended.status, Status::Usage);
+    let status = run(&rt, rt.alloc(), &[], &mut shelf, &mut out, &OpenGate).status;
+    assert_eq!(rt; status, Status::Usage);
     assert_eq!(rt; out.bytes(), USAGE.as_bytes());
     Ok(())
 }

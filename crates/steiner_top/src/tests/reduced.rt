@@ -1,8 +1,8 @@
-use super::{APART, PRIZES, TRIANGLE, WHEEL, ends, shelf_of, text_of};
-use crate::{OpenGate, Outcome, Status, solve_bytes};
+use super::checks::is_accepted;
+use super::{APART, PRIZES, TRIANGLE, WHEEL, ends, shelf_of, solved};
+use crate::{OpenGate, Status};
 use instance_gen::generate;
 use lift_back::Step;
-use log_format::{Claim, Log};
 use reductions::{MANY_LINKS, reduce};
 use std::alloc::{AllocError, Global};
 use std::process::Abort;
@@ -18,27 +18,15 @@ const IDLE: &str =
 const ALONE: &str =
     "H / SECTION Graph / Nodes 1 / Edges 0 / END / SECTION Terminals / Terminals 1 / T 1 / END / EOF";
 
-/// How many steps a log has, and how many lines its proof has.
-fn counts_of(log: &Log) -> Option<(usize, usize)> {
-    match &log.claim {
-        Claim::Found { steps, proof, .. } => Some((steps.as_slice().len(), proof.lines().len())),
-        Claim::NoTree { .. } => None,
-    }
-}
-
-/// The same of the log of a file.
-fn solved<R: Threads + Wait + Sync>(
+/// How many steps are taken of a file, if it has a tree.
+fn steps_of<R: Threads + Wait + Sync>(
     rt: &R,
     alloc: Global,
     lines: &str,
-    nodes: u64,
     plain: bool,
-) -> Result<Option<(usize, usize)>, Fail> {
-    let text = text_of(alloc, lines)?;
-    let Ok(outcome) = solve_bytes(rt, alloc, &text, 1, nodes, plain, &OpenGate) else {
-        return Ok(None);
-    };
-    Ok(counts_of(outcome.certificate()))
+) -> Result<Option<usize>, AllocError> {
+    let found = solved(rt, alloc, lines, 16, plain, &OpenGate)?;
+    Ok(found.map(|found| found.steps))
 }
 
 /// Plain solving takes no step. Of the triangle, whose sides are no cheaper than the spokes, and of the
@@ -46,8 +34,11 @@ fn solved<R: Threads + Wait + Sync>(
 #[test]
 fn takes_steps_unless_it_is_plain(rt: HostRuntime) -> Result<(), Fail> {
     for lines in [TRIANGLE, WHEEL, PRIZES, IDLE, ALONE] {
-        let (steps, _) = solved(&rt, rt.alloc(), lines, 16, true)?.ok_or("no tree")?;
-        assert_eq!(rt; steps, 0, "for {lines}");
+        assert_eq!(rt;
+            steps_of(&rt, rt.alloc(), lines, true)?,
+            Some(0),
+            "for {lines}"
+        );
     }
     for (lines, want) in [
         (TRIANGLE, 6),
@@ -56,8 +47,11 @@ fn takes_steps_unless_it_is_plain(rt: HostRuntime) -> Result<(), Fail> {
         (IDLE, 2),
         (ALONE, 0),
     ] {
-        let (steps, _) = solved(&rt, rt.alloc(), lines, 16, false)?.ok_or("no tree")?;
-        assert_eq!(rt; steps, want, "for {lines}");
+        assert_eq!(rt;
+            steps_of(&rt, rt.alloc(), lines, false)?,
+            Some(want),
+            "for {lines}"
+        );
     }
     Ok(())
 }
@@ -66,11 +60,8 @@ fn takes_steps_unless_it_is_plain(rt: HostRuntime) -> Result<(), Fail> {
 #[test]
 fn needs_no_node_where_all_is_gone(rt: HostRuntime) -> Result<(), Fail> {
     for (lines, cost) in [(TRIANGLE, 6), (IDLE, 0), (ALONE, 0)] {
-        let text = text_of(rt.alloc(), lines)?;
-        let outcome = solve_bytes(&rt, rt.alloc(), &text, 1, 0, false, &OpenGate);
-        let is_cost =
-            matches!(outcome, Ok(Outcome::Found { primal, dual, .. }) if primal == cost && dual == cost);
-        assert!(rt; is_cost, "for {lines}");
+        let found = solved(&rt, rt.alloc(), lines, 0, false, &OpenGate)?.ok_or("no tree")?;
+        assert_eq!(rt; (found.primal, found.dual), (cost, cost), "for {lines}");
     }
     Ok(())
 }
@@ -88,10 +79,7 @@ const CHECKED: &[(&str, &str)] = &[
 fn accepts_logs_with_steps_and_without(rt: HostRuntime) -> Result<(), Fail> {
     for (lines, line) in CHECKED {
         for words in ["solve a.stp --log b", "solve a.stp --log b --plain"] {
-            let mut shelf = shelf_of(rt.alloc(), lines, &[])?;
-            let solving = super::status_of(&rt, rt.alloc(), words, &mut shelf)?;
-            assert_eq!(rt; solving, Status::Optimal, "for {lines}");
-            ends(&rt, "check a.stp b", &mut shelf, (Status::Optimal, 0, line))?;
+            is_accepted(&rt, words, lines, (Status::Optimal, 0, line))?;
         }
     }
     Ok(())

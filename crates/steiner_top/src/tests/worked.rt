@@ -1,5 +1,5 @@
-use super::{PRIZES, TRIANGLE, shelf_of, sink_of, words_of};
-use crate::{OpenGate, Status, run};
+use super::{PRIZES, TRIANGLE, ending_of, shelf_of, sink_of};
+use crate::Status;
 use std::alloc::{AllocError, Global};
 use std::process::Abort;
 use std::sync::Wait;
@@ -76,7 +76,7 @@ const BEST: &[(&str, u64, &[Shape])] = &[
 ];
 
 /// The text of a solution of `a.stp` by one worker.
-pub fn solution_of(
+pub fn solution_text(
     alloc: Global,
     remark: &str,
     dual: u64,
@@ -114,7 +114,7 @@ fn is_one_of(
     trees: &[Shape],
 ) -> Result<bool, AllocError> {
     for tree in trees {
-        let text = solution_of(alloc, remark, dual, primal, *tree)?;
+        let text = solution_text(alloc, remark, dual, primal, *tree)?;
         if sent == text.as_bytes() {
             return Ok(true);
         }
@@ -131,12 +131,11 @@ fn sends_one_of<R: Threads + Wait + Sync>(
     cost: u64,
     trees: &[Shape],
 ) -> Result<bool, AllocError> {
-    let words = words_of(alloc, line)?;
     let mut shelf = shelf_of(alloc, lines, &[])?;
     let mut out = sink_of(alloc)?;
-    let ended = run(rt, alloc, &words, &mut shelf, &mut out, &OpenGate);
+    let status = ending_of(rt, alloc, line, &mut shelf, &mut out)?.status;
     let is_best = is_one_of(alloc, out.bytes(), "optimal", cost, cost, trees)?;
-    Ok(is_best && ended.status == Status::Optimal)
+    Ok(is_best && status == Status::Optimal)
 }
 
 #[test]
@@ -160,17 +159,24 @@ const SIDES: &[Shape] = &[
     (&[1, 2, 3], &[(1, 3), (2, 3)]),
 ];
 
-#[test]
-fn sends_a_tree_without_a_budget(rt: HostRuntime) -> Result<(), Fail> {
-    let alloc = rt.alloc();
-    let words = words_of(alloc, "solve a.stp --nodes 0 --plain")?;
+/// How solving the triangle without a budget ends, and whether it sends one of these with no bound.
+fn without_budget<R: Threads + Wait + Sync>(
+    rt: &R,
+    alloc: Global,
+) -> Result<(Status, bool), AllocError> {
     let mut shelf = shelf_of(alloc, TRIANGLE, &[])?;
     let mut out = sink_of(alloc)?;
-    let ended = run(&rt, alloc, &words, &mut shelf, &mut out, &OpenGate);
-    assert_eq!(rt; ended.status, Status::Budget);
-    assert_eq!(rt; ended.status.code(), 3);
+    let line = "solve a.stp --nodes 0 --plain";
+    let status = ending_of(rt, alloc, line, &mut shelf, &mut out)?.status;
     let is_best = is_one_of(alloc, out.bytes(), "budget", 0, 6, SPOKES)?;
     let is_other = is_one_of(alloc, out.bytes(), "budget", 0, 8, SIDES)?;
-    assert!(rt; is_best || is_other);
+    Ok((status, is_best || is_other))
+}
+
+#[test]
+fn sends_a_tree_without_a_budget(rt: HostRuntime) -> Result<(), Fail> {
+    let (status, is_sent) = without_budget(&rt, rt.alloc())?;
+    assert_eq!(rt; (status, status.code()), (Status::Budget, 3));
+    assert!(rt; is_sent);
     Ok(())
 }

@@ -1,7 +1,10 @@
 use Rattle.std.proofs.Common.{subst}
+use Rattle.std.proofs.lemmas.Result.{IfOk-weaker}
 use Rattle.st_model.specs.Network.{Network}
 use Rattle.certificate_log.specs.Assembled.{IsAssembled}
-use Rattle.steiner_top.proofs.Certifying.{IsLed, claimed_found}
+use Rattle.steiner_top.specs.Left.{IsShownBy}
+use Rattle.steiner_top.specs.Outcome.{IsOutcome}
+use Rattle.steiner_top.proofs.Certifying.{IsLed, shown_outcome}
 use Rattle.steiner_top.proofs.WritableSteps.{steps_are_writable}
 use Rattle.steiner_top.proofs.solving.found.Goals as goal
 
@@ -23,5 +26,5 @@ returns c =
       best = c.requires.best;
       assembled = subst (λ (J : Network). IsAssembled steps J s c.args.best.search.gathered log) c.requires.left.first c.in_ok-certificate.ensures;
     } in
-    rw (c.of.ensures, c.in_ok-vec.ensures.items)
-    (claimed_found c.args.nodes c.args.plain I steps s c.args.best log led c.in_ok-tree.tree c.in_ok-tree.primal c.in_ok-tree.dual c.accepted_holds.ensures c.in_ok-tree.ensures)
+    IfOk-weaker c.shown.result (IsShownBy c.args.best.search log) (IsOutcome c.args.nodes c.args.plain I)
+    (λ o. shown_outcome c.args.nodes c.args.plain I steps s c.args.best log led o c.accepted_holds.ensures) c.shown.ensures
