@@ -47,12 +47,23 @@ fn closes_the_ring<R: Threads + Sync>(
     threads: usize,
 ) -> Result<bool, AllocError> {
     let whole = ring(alloc)?;
+    let tree = tree_of_ring(alloc)?;
+    closes_both_ways(rt, alloc, &whole, &tree, threads)
+}
+
+// The same of an instance with this tree.
+fn closes_both_ways<R: Threads + Sync>(
+    rt: &R,
+    alloc: Global,
+    whole: &Whole,
+    tree: &Tree,
+    threads: usize,
+) -> Result<bool, AllocError> {
     let Some(root) = root_of_all(alloc, &whole.instance)? else {
         return Ok(false);
     };
-    let tree = tree_of_ring(alloc)?;
-    let better = closes(rt, alloc, &whole, root, 8, &tree, threads)?;
-    let none = closes(rt, alloc, &whole, root, 7, &tree, threads)?;
+    let better = closes(rt, alloc, whole, root, 8, tree, threads)?;
+    let none = closes(rt, alloc, whole, root, 7, tree, threads)?;
     Ok(better == Some(Some(7)) && none == Some(None))
 }
 

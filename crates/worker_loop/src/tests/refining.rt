@@ -1,6 +1,7 @@
 ghost use Rattle.st_model.specs.Branch.{all_trees};
 ghost use Rattle.dual_ascent.specs.Extension.{IsRootFor};
 ghost use Rattle.worker_loop.specs.Node.{no_cuts};
+ghost use Rattle.worker_loop.specs.Trying.{IsAt};
 
 use super::roots::{ring, root_of_all, tree_of_ring};
 use crate::attempt::{Attempt, Site, make_all};
@@ -9,6 +10,7 @@ use crate::raising::raise;
 use crate::refining::{Guide, raise_refined};
 use better_trees::Effort;
 use cut_packing::weight;
+use dual_ascent::Extension;
 use graph_store::Whole;
 use st_model::{Branch, Sides, Tree};
 use std::alloc::{AllocError, Global};
@@ -41,13 +43,23 @@ fn refined_weight<R: Threads + Sync>(
 // Whether cuts at the ring weigh no less with each turn, and at last 7.
 fn rises<R: Threads + Sync>(rt: &R, alloc: Global) -> Result<bool, AllocError> {
     let whole = ring(alloc)?;
+    let tree = tree_of_ring(alloc)?;
+    rises_by(rt, alloc, &whole, &tree)
+}
+
+// The same of cuts that are refined by this tree.
+fn rises_by<R: Threads + Sync>(
+    rt: &R,
+    alloc: Global,
+    whole: &Whole,
+    tree: &Tree,
+) -> Result<bool, AllocError> {
     let Some(root) = root_of_all(alloc, &whole.instance)? else {
         return Ok(false);
     };
-    let tree = tree_of_ring(alloc)?;
     let mut before = 0;
     for turns in 0..40 {
-        let weight = refined_weight(rt, alloc, &whole, &tree, root, 100, turns)?;
+        let weight = refined_weight(rt, alloc, whole, tree, root, 100, turns)?;
         if weight < before {
             return Ok(false);
         }
@@ -83,21 +95,41 @@ fn raised_in<R: Threads + Sync>(
         tree: &None,
         least: 100,
     };
+    raised_at(rt, alloc, &site, &extension, threads)
+}
+
+// The same of a site and an extension there.
+fn raised_at<R: Threads + Sync>(
+    rt: &R,
+    alloc: Global,
+    site: &Site<'_>,
+    extension: &Extension,
+    threads: usize,
+) -> Result<Vec<bool>, AllocError>
+    requires { IsAt site.now extension.now }
+{
+    let mut attempts = five_attempts(alloc)?;
+    make_all(rt, alloc, site, extension, attempts.as_mut_slice(), threads);
+    which_raised(alloc, &attempts)
+}
+
+// Five attempts, none of which was made.
+fn five_attempts(alloc: Global) -> Result<Vec<Attempt>, AllocError> {
     let mut attempts = Vec::new(alloc);
     for seed in 0..5 {
         attempts.push(Attempt::of(seed))?;
     }
-    make_all(
-        rt,
-        alloc,
-        &site,
-        &extension,
-        attempts.as_mut_slice(),
-        threads,
-    );
+    Ok(attempts)
+}
+
+// Which of some attempts that were made raised something.
+fn which_raised(alloc: Global, attempts: &[Attempt]) -> Result<Vec<bool>, AllocError> {
     let mut raised = Vec::new(alloc);
     for attempt in attempts {
-        raised.push(attempt.raised?.is_some())?;
+        match &attempt.raised {
+            Ok(extension) => raised.push(extension.is_some())?,
+            Err(_) => return Err(AllocError),
+        }
     }
     Ok(raised)
 }
@@ -105,12 +137,21 @@ fn raised_in<R: Threads + Sync>(
 // Whether attempts at the ring raise something, and the same in any number of threads.
 fn are_the_same<R: Threads + Sync>(rt: &R, alloc: Global) -> Result<bool, AllocError> {
     let whole = ring(alloc)?;
+    are_the_same_at(rt, alloc, &whole)
+}
+
+// The same of attempts at an instance.
+fn are_the_same_at<R: Threads + Sync>(
+    rt: &R,
+    alloc: Global,
+    whole: &Whole,
+) -> Result<bool, AllocError> {
     let Some(root) = root_of_all(alloc, &whole.instance)? else {
         return Ok(false);
     };
-    let alone = raised_in(rt, alloc, &whole, root, 1)?;
+    let alone = raised_in(rt, alloc, whole, root, 1)?;
     for threads in [2, 3, 9] {
-        if raised_in(rt, alloc, &whole, root, threads)?.as_slice() != alone.as_slice() {
+        if raised_in(rt, alloc, whole, root, threads)?.as_slice() != alone.as_slice() {
             return Ok(false);
         }
     }
