@@ -21,8 +21,8 @@ const LEAST: u64 = 50;
 
 const MORE: u64 = 100;
 
-// How many steps a walk from a drawn tree has.
-const STEPS: u64 = 4;
+/// How many steps a walk from a drawn tree has, or from one over used-up arcs at a first node.
+pub const STEPS: u64 = 4;
 
 /// A tree of the branch that costs less than the least cost known, if `used_up_tree` is one.
 pub fn better_tree(

@@ -3,18 +3,20 @@ ghost use Rattle.std.specs.Thread.{IsSync};
 ghost use Rattle.st_model.specs.Branch.{IsBranch};
 ghost use Rattle.better_trees.specs.Grown.{IsGrown};
 
-use crate::bettering::tree_along;
-use crate::walk::Walk;
+use crate::bettering::{STEPS, tree_along};
+use crate::walk::{Walk, walked};
 use graph_store::Whole;
 use st_model::{Sides, Tree};
 use std::alloc::{AllocError, Global};
 use std::thread;
 use std::thread::{Threads, join_mut};
 
-/// What a tree is to come of: weights by vertex along which it grows, or a walk from another one.
+/// What a tree is to come of: weights by vertex along which it grows, another tree that a walk leads on, or
+/// such a walk among some vertices alone.
 #[derive(Drop)]
 pub enum Source {
     Weights(Vec<u64>),
+    Tree(Tree),
     Walk(Walk),
 }
 
@@ -45,6 +47,7 @@ impl Draft {
             Source::Weights(weights) => {
                 tree_along(alloc, whole, branch, weights.as_slice(), self.seed)
             }
+            Source::Tree(tree) => walked(alloc, whole, branch, tree, self.seed, STEPS),
             Source::Walk(walk) => walk.end(alloc, whole, branch, self.seed),
         };
     }

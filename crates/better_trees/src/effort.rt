@@ -55,12 +55,11 @@ impl Effort {
         if self.is_bare { 40 } else { 10 }
     }
 
-    /// How many steps a walk from a tree over used-up arcs has, where the bound lacks so much of the least cost
-    /// known: none at a node with cuts, unless it lacks little, since then a tree is wanting and not a bound.
+    /// How many steps a walk from a tree over used-up arcs has as soon as this has grown, where the bound lacks
+    /// so much of the least cost known: none unless it lacks little, since then a tree is wanting and not a bound;
+    /// none at a node without cuts, where the walk is one of the drafts.
     pub fn steps(self, below: u64, least: u64) -> u64 {
-        if self.is_bare {
-            4
-        } else if below.saturating_mul(LITTLE) < least {
+        if !self.is_bare && below.saturating_mul(LITTLE) < least {
             2
         } else {
             0

@@ -3,6 +3,7 @@ ghost use Rattle.st_model.specs.Branch.{IsBranch};
 ghost use Rattle.better_trees.specs.Grown.{IsGrown};
 ghost use Rattle.better_trees.specs.Better.{IsBetter};
 
+use crate::bettering::copied;
 use crate::by_vertex::{at, put};
 use crate::comparing::{later, least_after, priced};
 use crate::draft::{Draft, Source, grow_all};
@@ -12,7 +13,7 @@ use crate::elite::Elite;
 use crate::price::Priced;
 use bidirected_form::{Arc, Arcs};
 use graph_store::Whole;
-use st_model::{Instance, Sides};
+use st_model::{Instance, Sides, Tree};
 use std::alloc::{AllocError, Global};
 use std::thread::Threads;
 
@@ -20,6 +21,9 @@ use std::thread::Threads;
 const TREES: u64 = 12;
 
 const VERTICES: u64 = 8_000;
+
+// How many drafts grow at once, where there are so many processors.
+const AT_ONCE: u64 = 4;
 
 // How many vertices are open for each thread, at least: to start one takes as long as to draw a tree over few.
 const FOR_A_THREAD: u64 = 20;
@@ -35,8 +39,9 @@ const NOT_USED_UP: u64 = 55;
 const MORE: u64 = 10;
 
 /// A tree of the branch that costs less than the least cost known, if one is found: the cheapest of trees
-/// along costs that are drawn, led on by walks and improved. Costs are drawn alone and by what is left of the
-/// arcs, and then round two of the trees found before. No more are drawn where one costs what the bound is.
+/// along costs that are drawn, led on by walks and improved, and of the one over used-up arcs led on so. Costs
+/// are drawn alone and by what is left of the arcs, and then round two of the trees found before. No more are
+/// drawn where one costs what the bound is.
 #[tactic(auto, using(crate::proofs::Found::found_later))]
 pub fn drawn_tree<R: Threads + Sync>(
     rt: &R,
@@ -44,6 +49,7 @@ pub fn drawn_tree<R: Threads + Sync>(
     whole: &Whole,
     branch: &Sides,
     arcs: &Arcs,
+    used_up: &Option<Tree>,
     elite: &mut Elite,
     effort: Effort,
     least: u64,
@@ -55,6 +61,7 @@ pub fn drawn_tree<R: Threads + Sync>(
     let mut draws = Draws::of(effort.seed);
     let open = open_vertices(&whole.instance, branch);
     let count = TREES.min(VERTICES / open.max(1));
+    let first = first_of(count);
     let threads = effort.threads.min((open / FOR_A_THREAD) as usize);
     let mut best = None;
     for is_between in [false, true] {
@@ -62,7 +69,11 @@ pub fn drawn_tree<R: Threads + Sync>(
         if bound >= u128::from(known) {
             return Ok(best);
         }
-        let drafts = new_drafts(alloc, count, is_between, arcs, elite, &mut draws)?;
+        let drafts = if is_between {
+            drafts_between(alloc, count.saturating_sub(first), arcs, elite, &mut draws)?
+        } else {
+            first_drafts(alloc, first, arcs, used_up, &mut draws)?
+        };
         let found = best_grown(rt, alloc, whole, branch, drafts, threads, elite, known)?;
         best = later(best, found);
     }
@@ -75,32 +86,49 @@ pub fn open_vertices(instance: &Instance, branch: &Sides) -> u64 {
     u64::from(instance.vertices()).saturating_sub(outside)
 }
 
-// Half of so many drafts: those round two of the cheapest trees each, or the others.
-fn new_drafts(
+// How many of so many drafts are the first: half of them, made up to a multiple of those that grow at once.
+fn first_of(count: u64) -> u64 {
+    let times = count.div_ceil(2 * AT_ONCE);
+    count.min(times.saturating_mul(AT_ONCE))
+}
+
+// So many drafts, of which the first leads on the tree over used-up arcs, if there is one. That one is there
+// even where none is to be drawn.
+fn first_drafts(
     alloc: Global,
     count: u64,
-    is_between: bool,
+    arcs: &Arcs,
+    used_up: &Option<Tree>,
+    draws: &mut Draws,
+) -> Result<Vec<Draft>, AllocError> {
+    let mut drafts = Vec::new(alloc);
+    if let Some(tree) = used_up {
+        let source = Source::Tree(copied(alloc, tree)?);
+        drafts.push(Draft::of(source, draws.below(u64::MAX)))?;
+    }
+    for place in drafts.len() as u64..count {
+        let weights = drawn_weights(alloc, place, arcs, draws)?;
+        drafts.push(Draft::of(Source::Weights(weights), draws.below(u64::MAX)))?;
+    }
+    Ok(drafts)
+}
+
+// So many drafts round two of the cheapest trees each.
+fn drafts_between(
+    alloc: Global,
+    count: u64,
     arcs: &Arcs,
     elite: &Elite,
     draws: &mut Draws,
 ) -> Result<Vec<Draft>, AllocError> {
-    let few = count / 2;
-    let many = if is_between {
-        few
-    } else {
-        count.saturating_sub(few)
-    };
     let mut drafts = Vec::new(alloc);
-    for place in 0..many {
-        let weights = if is_between && elite.len() > 1 {
+    for place in 0..count {
+        let weights = if elite.len() > 1 {
             elite.between(alloc, arcs.vertices(), draws)?
-        } else if place % 2 == 1 {
-            weights_by_arcs(alloc, arcs, draws)?
         } else {
-            draws.weights(alloc, arcs.vertices(), DRAWN.0, DRAWN.1)?
+            drawn_weights(alloc, place, arcs, draws)?
         };
-        let seed = draws.below(u64::MAX);
-        drafts.push(Draft::of(Source::Weights(weights), seed))?;
+        drafts.push(Draft::of(Source::Weights(weights), draws.below(u64::MAX)))?;
     }
     Ok(drafts)
 }
@@ -166,6 +194,20 @@ fn or_grown(
     elite.keep(alloc, &whole.instance, &tree)?;
     let known = least_after(least, &best);
     Ok(later(best, priced(&whole.instance, tree, known)))
+}
+
+// By vertex, weights that are drawn alone, or in every other place by what is left of the arcs.
+fn drawn_weights(
+    alloc: Global,
+    place: u64,
+    arcs: &Arcs,
+    draws: &mut Draws,
+) -> Result<Vec<u64>, AllocError> {
+    if place % 2 == 1 {
+        weights_by_arcs(alloc, arcs, draws)
+    } else {
+        draws.weights(alloc, arcs.vertices(), DRAWN.0, DRAWN.1)
+    }
 }
 
 // By vertex, weights that are drawn by what is left of the arcs.

@@ -1,9 +1,10 @@
 ghost use Rattle.std.specs.Prelude.{IfOk, IfSome};
-ghost use Rattle.st_model.specs.Branch.{IsBranch};
+ghost use Rattle.st_model.specs.Arborescence.{IsTree};
+ghost use Rattle.st_model.specs.Branch.{Belongs, IsBranch};
 ghost use Rattle.better_trees.specs.Part.{IsPartOf};
 ghost use Rattle.better_trees.specs.Better.{IsBetter};
 
-use crate::bettering::used_up_tree;
+use crate::bettering::{copied, used_up_tree};
 use crate::comparing::{cheaper, gap, later, least_after, tree_of};
 use crate::distances::near_root;
 use crate::effort::Effort;
@@ -16,7 +17,7 @@ use crate::wandering::wandered_tree;
 use bidirected_form::Arcs;
 use cut_packing::{Packing, weight};
 use graph_store::Whole;
-use st_model::{Sides, Tree};
+use st_model::{Instance, Sides, Tree};
 use std::alloc::{AllocError, Global};
 use std::thread::Threads;
 
@@ -51,25 +52,76 @@ pub fn trees_at<R: Threads + Sync>(
     let below = gap(&whole.instance, branch, packing, least);
     let steps = effort.steps(below, least);
     let tree = used_up_tree(alloc, whole, branch, arcs, effort, steps)?;
-    let mut joints = Joints::of_none(alloc, &whole.instance)?;
-    joints.count(alloc, known)?;
-    if let Some(tree) = &tree {
-        joints.count(alloc, tree)?;
-        if effort.is_bare {
-            elite.keep(alloc, &whole.instance, tree)?;
-        }
-    }
-    let better = cheaper(&whole.instance, tree, least);
-    if !effort.is_bare {
-        return Ok(Trees { better, joints });
-    }
-    let better = or_drawn(
-        rt, alloc, whole, branch, packing, arcs, elite, better, least, effort,
-    )?;
-    let better = or_wandered(
-        rt, alloc, whole, branch, packing, arcs, known, elite, better, least, effort,
-    )?;
+    let joints = joints_of(alloc, &whole.instance, known, &tree)?;
+    let better = if effort.is_bare {
+        led_on(
+            rt, alloc, whole, branch, packing, arcs, known, tree, elite, least, effort,
+        )?
+    } else {
+        cheaper(&whole.instance, tree, least)
+    };
     Ok(Trees { better, joints })
+}
+
+// Where the best tree known branches, and one over used-up arcs, if there is one.
+fn joints_of(
+    alloc: Global,
+    instance: &Instance,
+    known: &Tree,
+    used_up: &Option<Tree>,
+) -> Result<Joints, AllocError> {
+    let mut joints = Joints::of_none(alloc, instance)?;
+    joints.count(alloc, known)?;
+    if let Some(tree) = used_up {
+        joints.count(alloc, tree)?;
+    }
+    Ok(joints)
+}
+
+// The best tree of one over used-up arcs, if there is one, of those that are drawn beside it, and of those
+// that walks come to, if it is cheaper than the least cost known.
+fn led_on<R: Threads + Sync>(
+    rt: &R,
+    alloc: Global,
+    whole: &Whole,
+    branch: &Sides,
+    packing: &Packing,
+    arcs: &Arcs,
+    known: &Tree,
+    tree: Option<Tree>,
+    elite: &mut Elite,
+    least: u64,
+    effort: Effort,
+) -> Result<Option<Priced>, AllocError>
+    requires branch { IsBranch whole.now.instance branch.now }
+    requires tree { IfSome tree (IsTree whole.now.instance) }
+    requires belongs { IfSome tree (Belongs branch.now) }
+    ensures { IfOk result (λ found. IfSome found (IsBetter whole.now.instance branch.now least)) }
+{
+    let used_up = kept(alloc, &whole.instance, &tree, elite)?;
+    let better = cheaper(&whole.instance, tree, least);
+    let better = or_drawn(
+        rt, alloc, whole, branch, packing, arcs, &used_up, elite, better, least, effort,
+    )?;
+    or_wandered(
+        rt, alloc, whole, branch, packing, arcs, known, elite, better, least, effort,
+    )
+}
+
+// Keeps a tree among the cheapest ones, if there is one; a copy of it.
+fn kept(
+    alloc: Global,
+    instance: &Instance,
+    tree: &Option<Tree>,
+    elite: &mut Elite,
+) -> Result<Option<Tree>, AllocError>
+    requires { IfSome tree.now (IsTree instance.now) }
+{
+    let Some(tree) = tree else {
+        return Ok(None);
+    };
+    elite.keep(alloc, instance, tree)?;
+    Ok(Some(copied(alloc, tree)?))
 }
 
 // A tree that walks come to, where it is cheaper than a better tree that was found, and else that one.
@@ -106,8 +158,9 @@ fn or_wandered<R: Threads + Sync>(
     Ok(later(better, found))
 }
 
-// A tree that is drawn, where it is cheaper than a better tree that was found, and else that one. None
-// that costs less than all reaches a vertex that isn't near the root, so the others are left out.
+// A tree that is drawn, or to which a walk leads from the one over used-up arcs, where it is cheaper than a
+// better tree that was found, and else that one. None that costs less than all reaches a vertex that isn't near
+// the root, so the others are left out.
 fn or_drawn<R: Threads + Sync>(
     rt: &R,
     alloc: Global,
@@ -115,6 +168,7 @@ fn or_drawn<R: Threads + Sync>(
     branch: &Sides,
     packing: &Packing,
     arcs: &Arcs,
+    used_up: &Option<Tree>,
     elite: &mut Elite,
     better: Option<Priced>,
     least: u64,
@@ -127,7 +181,9 @@ fn or_drawn<R: Threads + Sync>(
     let bound = weight(&whole.instance, branch.branch(), packing);
     let known = least_after(least, &better);
     let part = near_part(alloc, whole, branch, packing, arcs, known)?;
-    let drawn = drawn_tree(rt, alloc, whole, &part, arcs, elite, effort, known, bound)?;
+    let drawn = drawn_tree(
+        rt, alloc, whole, &part, arcs, used_up, elite, effort, known, bound,
+    )?;
     Ok(later(better, drawn))
 }
 

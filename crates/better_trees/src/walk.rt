@@ -52,27 +52,28 @@ impl Walk {
     {
         let part = narrowed(alloc, &whole.instance, branch, &self.among)?;
         let part = Sides::of(alloc, part)?;
-        let tree = self.end_within(alloc, whole, &part, seed)?;
+        let tree = walked(alloc, whole, &part, &self.from, seed, STEPS)?;
         Ok(tree)
     }
+}
 
-    // The tree of a part of a branch that the walk comes to, if it begins at one.
-    fn end_within(
-        &self,
-        alloc: Global,
-        whole: &Whole,
-        part: &Sides,
-        seed: u64,
-    ) -> Result<Option<Tree>, AllocError>
-        requires branch { IsBranch whole.now.instance part.now }
-        ensures tree { IfOk result (λ tree. IfSome tree (IsTree whole.now.instance)) }
-        ensures belongs { IfOk result (λ tree. IfSome tree (Belongs part.now)) }
-    {
-        let from = copied(alloc, &self.from)?;
-        let Some(tree) = judged(alloc, &whole.instance, part, from)? else {
-            return Ok(None);
-        };
-        let walked = wander(alloc, whole, part, tree, seed, STEPS)?;
-        Ok(Some(walked))
-    }
+/// The tree of a branch that a walk of so many steps comes to, if it begins at one.
+pub fn walked(
+    alloc: Global,
+    whole: &Whole,
+    branch: &Sides,
+    from: &Tree,
+    seed: u64,
+    steps: u64,
+) -> Result<Option<Tree>, AllocError>
+    requires branch { IsBranch whole.now.instance branch.now }
+    ensures tree { IfOk result (λ tree. IfSome tree (IsTree whole.now.instance)) }
+    ensures belongs { IfOk result (λ tree. IfSome tree (Belongs branch.now)) }
+{
+    let from = copied(alloc, from)?;
+    let Some(tree) = judged(alloc, &whole.instance, branch, from)? else {
+        return Ok(None);
+    };
+    let walked = wander(alloc, whole, branch, tree, seed, steps)?;
+    Ok(Some(walked))
 }

@@ -5,9 +5,11 @@ ghost use Rattle.st_model.specs.Network.{IsVertex};
 use super::{all, price_beside, tree_over};
 use crate::effort::Effort;
 use crate::elite::Elite;
+use crate::sampling::drawn_tree;
 use crate::wandering::wandered_tree;
+use bidirected_form::Arcs;
 use graph_store::Whole;
-use st_model::{Instance, Need, Sides, VertexSet};
+use st_model::{Instance, Need, Sides, Tree, VertexSet};
 use std::alloc::{AllocError, Global};
 use std::test::Fail;
 use std::thread::Threads;
@@ -87,12 +89,13 @@ fn efforts(alloc: Global) -> Result<(Effort, Effort), AllocError> {
     Ok((first, other))
 }
 
-// At the first node always; at others where the bound lacks little.
+// Where the bound lacks little, but for the first node, where such walks are among the drafts.
 #[test]
 fn walks_where_a_tree_is_wanting(rt: HostRuntime) -> Result<(), Fail> {
     let (first, other) = efforts(rt.alloc())?;
-    assert_eq!(rt; (first.steps(9, 10), other.steps(9, 10)), (4, 0));
+    assert_eq!(rt; (first.steps(9, 10), other.steps(9, 10)), (0, 0));
     assert_eq!(rt; (other.steps(1, 301), other.steps(1, 300)), (2, 0));
+    assert_eq!(rt; first.steps(1, 301), 0);
     Ok(())
 }
 
@@ -124,5 +127,58 @@ fn prices_of_many<R: Threads + Sync>(
 #[test]
 fn walks_at_the_first_node(rt: HostRuntime) -> Result<(), Fail> {
     assert_eq!(rt; prices_of_many(&rt, rt.alloc())?, [Some(6), None]);
+    Ok(())
+}
+
+// What the tree costs that is drawn, or led on from the one over used-up arcs if there is one, if it costs less
+// than 7.
+fn price_drawn<R: Threads + Sync>(
+    rt: &R,
+    alloc: Global,
+    whole: &Whole,
+    branch: &Sides,
+    arcs: &Arcs,
+    used_up: &Option<Tree>,
+) -> Result<Option<u64>, AllocError>
+    requires { IsBranch whole.now.instance branch.now }
+{
+    let mut elite = Elite::new(alloc);
+    let effort = Effort::at(branch.branch(), true, 1);
+    let found = drawn_tree(
+        rt, alloc, whole, branch, arcs, used_up, &mut elite, effort, 7, 0,
+    )?;
+    Ok(found.map(|found| found.price))
+}
+
+// The same where the one over used-up arcs is the one over vertex 2, and where there is none.
+fn prices_drawn<R: Threads + Sync>(
+    rt: &R,
+    alloc: Global,
+    whole: &Whole,
+) -> Result<[Option<u64>; 2], AllocError>
+    requires { IsVertex whole.now.instance.n 1 }
+{
+    let branch = all(alloc)?;
+    let arcs = Arcs::of(alloc, &whole.store, &branch, 1)?;
+    let used_up = Some(tree_over(alloc, &[(1, 2), (2, 3), (1, 5)])?);
+    Ok([
+        price_drawn(rt, alloc, whole, &branch, &arcs, &used_up)?,
+        price_drawn(rt, alloc, whole, &branch, &arcs, &None)?,
+    ])
+}
+
+// The same among so many vertices that no tree is drawn.
+fn prices_drawn_of_many<R: Threads + Sync>(
+    rt: &R,
+    alloc: Global,
+) -> Result<[Option<u64>; 2], AllocError> {
+    let whole = Whole::of(alloc, two_ways(alloc, 8_200)?)?;
+    prices_drawn(rt, alloc, &whole)
+}
+
+// A walk from the tree over used-up arcs comes to one of cost 6.
+#[test]
+fn leads_on_the_tree_over_used_up_arcs(rt: HostRuntime) -> Result<(), Fail> {
+    assert_eq!(rt; prices_drawn_of_many(&rt, rt.alloc())?, [Some(6), None]);
     Ok(())
 }
