@@ -14,6 +14,14 @@ use search_core::End;
 use std::alloc::AllocError;
 use std::sync::Wait;
 use std::thread;
+use std::thread::Parker;
+use std::time::Duration;
+
+// After how many looks in vain a worker sleeps before the next one, and for how many microseconds: it would keep a
+// processor busy that others need.
+const LOOKS: u32 = 200;
+
+const NAP: u64 = 100;
 
 /// A worker of a team: its seat, how many workers there are, the next id that it draws, its pass of
 /// the pool, and its seats at the ledger and the incumbent.
@@ -74,6 +82,8 @@ impl<Q: Aim> Worker<Q> {
             (λ end. (self.new.pass ≡ self.old.pass) × IsEnding end self.new.ledger) }
         ensures sound { IfOk result (λ node. IsSound Q.instance Q.gone node) }
     {
+        let rest = Parker::new();
+        let mut looks: u32 = 0;
         for _ in rt.forever() {
             let taken = self.pass.take(rt);
             if let Some(node) = taken {
@@ -86,7 +96,12 @@ impl<Q: Aim> Worker<Q> {
                 return Err(End::HaltSeen);
             }
             hint.processors.wait(rt);
-            thread::yield_now();
+            if looks < LOOKS {
+                looks += 1;
+                thread::yield_now();
+            } else {
+                rest.park_timeout(rt, Duration::from_micros(NAP));
+            }
         }
         unreachable!()
     }
