@@ -23,6 +23,10 @@ use std::alloc::{AllocError, Global};
 use std::sync::Wait;
 use std::thread::Threads;
 
+// Of how many nodes, the first that a worker works on, it keeps the other halves, but for the root's. What splits
+// high up is best worked on once good trees are known, which lie further down; by then others find nodes there.
+const KEPT: usize = 5;
+
 /// How a turn ends.
 #[derive(Drop)]
 pub enum Turn {
@@ -176,7 +180,14 @@ impl<Q: Aim> Worker<Q> {
         } else {
             (inside, outside)
         };
-        self.give(other)?;
+        let is_shared = is_for_others(id, work.done.len());
+        self.give(other, is_shared)?;
         Ok(half)
     }
+}
+
+// Whether others may take the other half of the node under an id, which is the last of so many that a worker has
+// split or closed.
+fn is_for_others(id: u64, worked_on: usize) -> bool {
+    id == 0 || worked_on > KEPT
 }

@@ -120,16 +120,16 @@ impl<Q: Aim> Worker<Q> {
         Ok((first, second))
     }
 
-    // Gives a node to the pool: to where others can take it only if they find none there, so that the
-    // worker goes on with its newest nodes.
-    pub(crate) fn give(&mut self, node: Node) -> Result<(), AllocError>
+    // Gives a node to the pool: to where others can take it only if they may and find none there, so that
+    // the worker goes on with its newest nodes.
+    pub(crate) fn give(&mut self, node: Node, is_shared: bool) -> Result<(), AllocError>
         requires { IsSound Q.instance Q.gone node }
         ensures same { (self.new.seat ≡ self.old.seat) × (self.new.workers ≡ self.old.workers)
             × (self.new.next ≡ self.old.next) × (self.new.ledger ≡ self.old.ledger) × (self.new.best ≡ self.old.best) }
         ensures pass { SamePass self.old.pass self.new.pass }
         ensures gave { OnOk result (Moves self.old.pass self.new.pass (node ∷ []) []) }
     {
-        let given = if self.workers > 1 && self.pass.is_bare() {
+        let given = if is_shared && self.workers > 1 && self.pass.is_bare() {
             self.pass.give(node)
         } else {
             self.pass.hold(node)
