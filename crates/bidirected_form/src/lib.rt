@@ -14,8 +14,6 @@ mod entering;
 mod kind;
 mod marks;
 mod rows;
-#[cfg(test)]
-mod tests;
 
 pub use arc::Arc;
 pub use arcs::Arcs;

@@ -40,7 +40,7 @@ inside_fits I B P v fits = record {
   where
     by_root : (root : Option ℕ) → MatchOption root (P.cuts ≡ []) (IsRoot I B P.cuts) → MatchOption root (P.cuts ≡ []) (IsRoot I (with_inside B v) P.cuts)
     by_root None none = none
-    by_root (Some r) root = record { vertex = root.vertex; certain = certain_inside I B v r root.certain; apart = root.apart }
+    by_root (Some r) root = record { vertex = root.vertex; certain = certain_inside I B v r root.certain; same = root.same; apart = root.apart }
 
 -- the cuts that don't name v
 abbrev kept : ℕ → List Cut → List Cut
@@ -84,7 +84,7 @@ outside_fits I B P v fits = record {
   where
     by_root : (root : Option ℕ) → MatchOption root (P.cuts ≡ []) (IsRoot I B P.cuts) → MatchOption root (kept v P.cuts ≡ []) (IsRoot I (with_outside B v) (kept v P.cuts))
     by_root None none = ap (kept v) none
-    by_root (Some r) root = record { vertex = root.vertex; certain = root.certain; apart = All-filter (λ c. not (eqb c.q v)) (λ c. IsFalse (has c.set r)) P.cuts root.apart }
+    by_root (Some r) root = record { vertex = root.vertex; certain = root.certain; same = root.same; apart = All-filter (λ c. not (eqb c.q v)) (λ c. IsFalse (has c.set r)) P.cuts root.apart }
 
 -- the cuts weigh what is named at v and what is kept
 named_and_kept : (v : ℕ) (cuts : List Cut) → total (λ c. c.y) cuts ≡ named cuts v + total (λ c. c.y) (kept v cuts)

@@ -9,8 +9,6 @@ mod choosing;
 mod halving;
 mod law;
 mod node;
-#[cfg(test)]
-mod tests;
 
 pub use choosing::{choose, may_split};
 pub use halving::halves;

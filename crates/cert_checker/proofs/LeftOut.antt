@@ -9,7 +9,7 @@ use Rattle.std.proofs.lemmas.List.Kept.{AllPairs-from_increasing}
 use Rattle.st_model.specs.declared.branch.Branch.{Branch}
 use Rattle.st_model.specs.Lists.{has}
 use Rattle.st_model.specs.Network.{Network, IsVertex, is_needed, is_required}
-use Rattle.st_model.specs.Branch.{with_vertex, with_outside, is_undecided}
+use Rattle.st_model.specs.Branch.{avoiding, with_vertex, with_outside, is_undecided}
 use Rattle.st_model.proofs.Branches.{IsVertexSet-member}
 use Rattle.st_model.proofs.Marked.{at_member}
 use Rattle.lift_back.specs.State.{State, IsState}
@@ -35,13 +35,9 @@ with_vertex-last (x ∷ xs) v below =
 above : (xs : List ℕ) (v : ℕ) → AllByRecursion (λ x. x < v) xs → has xs v ≡ false
 above xs v below = false_from_ne_true (has xs v) (λ there. let less : v < v = at_member (λ x. x < v) xs v below there in omega arith)
 
--- everybody outside
-abbrev out : List ℕ → Branch
-out vertices = record { inside = []; outside = vertices }
-
 -- the path leads to the branch without these, and there by splits alone
 record LeadsOut (I : Network) (vertices : List ℕ) : Type 0 where
-  leads : branch_of (leaving_out vertices) ≡ out vertices
+  leads : branch_of (leaving_out vertices) ≡ avoiding vertices
   alone : waiting (leaving_out vertices) ≡ []
   splits : AreSplits I (leaving_out vertices)
 
@@ -52,9 +48,9 @@ IsFree I v = IsVertex I.n v × IsFalse (is_required I v)
 one_more : (I : Network) (front : List ℕ) (v : ℕ) → IsFree I v → AllByRecursion (λ x. x < v) front → LeadsOut I front → LeadsOut I (front ++ v ∷ [])
 one_more I front v free below leads =
     let path = leaving_out-push front v in
-    let undecided : IsTrue (is_undecided (out front) v) = ap not (above front v below) in
+    let undecided : IsTrue (is_undecided (avoiding front) v) = ap not (above front v below) in
     record {
-      leads = ap branch_of path ∙ (ap (λ (B : Branch). with_outside B v) leads.leads ∙ ap out (with_vertex-last front v below));
+      leads = ap branch_of path ∙ (ap (λ (B : Branch). with_outside B v) leads.leads ∙ ap avoiding (with_vertex-last front v below));
       alone = ap waiting path ∙ leads.alone;
       splits = subst (AreSplits I) (sym path) (record { vertex = free.0; undecided = subst (λ (B : Branch). IsTrue (is_undecided B v)) (sym leads.leads) undecided; free = free.1 }, leads.splits);
     }

@@ -9,8 +9,8 @@ use Rattle.cert_checker.proofs.Places.{without-with_vertex}
 
 -- a turn is taken back
 pub turned_back-turned : (B : Branch) (turn : Turn) → turned_back (turned B turn) turn ≡ B
-turned_back-turned B (Inside v) = ap (λ (xs : List ℕ). let C : Branch = record { inside = xs; outside = B.outside } in C) (without-with_vertex B.inside v)
-turned_back-turned B (Outside v) = ap (λ (xs : List ℕ). let C : Branch = record { inside = B.inside; outside = xs } in C) (without-with_vertex B.outside v)
+turned_back-turned B (Inside v) = ap (λ (xs : List ℕ). let C : Branch = record B { inside = xs } in C) (without-with_vertex B.inside v)
+turned_back-turned B (Outside v) = ap (λ (xs : List ℕ). let C : Branch = record B { outside = xs } in C) (without-with_vertex B.outside v)
 
 -- the branch before the last turn is found again
 pub taken_back : (turn : Turn) (turns rest : List Turn) (B C : Branch) → turns ≡ rest ++ turn ∷ [] → B ≡ branch_of (reverse turns) → C ≡ turned_back B turn → C ≡ branch_of (reverse rest)

@@ -67,8 +67,8 @@ without (x ∷ xs) v = if nat_lt x v then x ∷ without xs v else xs
 
 -- the branch whose half a turn went into
 abbrev pub turned_back : Branch → Turn → Branch
-turned_back B (Inside v) = record { inside = without B.inside v; outside = B.outside }
-turned_back B (Outside v) = record { inside = B.inside; outside = without B.outside v }
+turned_back B (Inside v) = record B { inside = without B.inside v }
+turned_back B (Outside v) = record B { outside = without B.outside v }
 
 -- the path to the first branch that is open after a right line, if one is
 abbrev pub path_after : List Turn → ProofLine → Option (List Turn)

@@ -20,8 +20,6 @@ mod proving;
 mod splits;
 mod stage;
 mod steps;
-#[cfg(test)]
-mod tests;
 mod turn;
 mod verdict;
 mod wall;

@@ -37,10 +37,7 @@ impl Path {
     {
         Path {
             turns: Vec::new(alloc),
-            branch: Branch {
-                inside: Listed::of(Vec::new(alloc)),
-                outside: Listed::of(Vec::new(alloc)),
-            },
+            branch: Branch::all(alloc),
         }
     }
 
@@ -105,14 +102,8 @@ fn turned(branch: Branch, turn: Turn) -> Result<Branch, AllocError>
     ensures { IfOk result (λ half. half ≡ turned branch turn) }
 {
     match turn {
-        Turn::Inside(vertex) => Ok(Branch {
-            inside: with(branch.inside, vertex)?,
-            outside: branch.outside,
-        }),
-        Turn::Outside(vertex) => Ok(Branch {
-            inside: branch.inside,
-            outside: with(branch.outside, vertex)?,
-        }),
+        Turn::Inside(vertex) => Ok(Branch::of(with(branch.inside, vertex)?, branch.outside)),
+        Turn::Outside(vertex) => Ok(Branch::of(branch.inside, with(branch.outside, vertex)?)),
     }
 }
 
@@ -122,14 +113,8 @@ fn turned_back(branch: Branch, turn: Turn) -> Branch
     ensures { result ≡ turned_back branch turn }
 {
     match turn {
-        Turn::Inside(vertex) => Branch {
-            inside: without(branch.inside, vertex),
-            outside: branch.outside,
-        },
-        Turn::Outside(vertex) => Branch {
-            inside: branch.inside,
-            outside: without(branch.outside, vertex),
-        },
+        Turn::Inside(vertex) => Branch::of(without(branch.inside, vertex), branch.outside),
+        Turn::Outside(vertex) => Branch::of(branch.inside, without(branch.outside, vertex)),
     }
 }
 

@@ -10,8 +10,6 @@ mod cmd;
 mod meaning;
 mod parse;
 mod program;
-#[cfg(test)]
-mod tests;
 
 pub use cmd::{CheckWords, Cmd, DrawWords, GenWords, SolveWords, TrialWords};
 pub use parse::{WordFault, read_words};

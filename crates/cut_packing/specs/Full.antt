@@ -1,31 +1,48 @@
 -- Packings to which no cut can be added: the root reaches all that has to be reached or paid for.
 use Rattle.std.specs.Prelude.{◌≡◌, ℕ, ◌<◌, nat_lt, Bool, ◌&&◌, ◌||◌, IsTrue, Some}
 use Rattle.st_model.specs.declared.branch.Branch.{Branch}
-use Rattle.st_model.specs.Network.{Network, IsVertex, link, pays}
-use Rattle.st_model.specs.Branch.{is_present, is_certain, is_undecided}
+use Rattle.st_model.specs.Network.{Network, IsVertex}
+use Rattle.st_model.specs.Ground.{Ground, ground}
+use Rattle.st_model.specs.Branch.{is_present, is_undecided, certain_in}
 use Rattle.cut_packing.specs.declared.packing.Packing.{Packing}
 use Rattle.cut_packing.specs.Packing.{load, named}
 
 -- an arc between present vertices whose whole cost the cuts take
-pub record IsUsedUp (I : Network) (B : Branch) (P : Packing) (u v : ℕ) : Type 0 where
+pub record IsUsedUpIn (G : Ground) (B : Branch) (P : Packing) (u v : ℕ) : Type 0 where
   pub tail : IsTrue (is_present B u)
   pub head : IsTrue (is_present B v)
-  pub used : link I.links u v ≡ Some (load P.cuts (u, v))
+  pub used : G.price u v ≡ Some (load P.cuts (u, v))
 
 -- what a walk of such arcs from the root reaches
-pub data IsReached (I : Network) (B : Branch) (P : Packing) (r : ℕ) : ℕ → Type 0 where
-  here : IsReached I B P r r
-  there : {u v : ℕ} → IsReached I B P r u → IsUsedUp I B P u v → IsReached I B P r v
+pub data IsReachedIn (G : Ground) (B : Branch) (P : Packing) (r : ℕ) : ℕ → Type 0 where
+  here : IsReachedIn G B P r r
+  there : {u v : ℕ} → IsReachedIn G B P r u → IsUsedUpIn G B P u v → IsReachedIn G B P r v
 
 -- whether v has to be reached, or could still be paid for
-abbrev pub is_open : Network → Branch → Packing → ℕ → Bool
-is_open I B P v = is_certain I B v || (is_undecided B v && nat_lt (named P.cuts v) (pays I v))
+abbrev pub open_in : Ground → Branch → Packing → ℕ → Bool
+open_in G B P v = certain_in G B v || (is_undecided B v && nat_lt (named P.cuts v) (G.pays v))
 
 -- from the root each vertex is reached that is required or inside, or that could still be paid for
-pub record IsFullFrom (I : Network) (B : Branch) (P : Packing) (r : ℕ) : Type 0 where
-  pub certain : (v : ℕ) → IsVertex I.n v → IsTrue (is_certain I B v) → IsReached I B P r v
-  pub undecided : (v : ℕ) → IsVertex I.n v → IsTrue (is_undecided B v) → named P.cuts v < pays I v → IsReached I B P r v
+pub record IsFullFromIn (G : Ground) (B : Branch) (P : Packing) (r : ℕ) : Type 0 where
+  pub certain : (v : ℕ) → IsVertex G.n v → IsTrue (certain_in G B v) → IsReachedIn G B P r v
+  pub undecided : (v : ℕ) → IsVertex G.n v → IsTrue (is_undecided B v) → named P.cuts v < G.pays v → IsReachedIn G B P r v
 
 -- there is a root, and it reaches them
+abbrev pub IsFullIn : Ground → Branch → Packing → Type 0
+IsFullIn G B P = (r : ℕ) × (P.root ≡ Some r) × IsFullFromIn G B P r
+
+-- the same in a network
+abbrev pub IsUsedUp : Network → Branch → Packing → ℕ → ℕ → Type 0
+IsUsedUp I B P u v = IsUsedUpIn (ground I) B P u v
+
+abbrev pub IsReached : Network → Branch → Packing → ℕ → ℕ → Type 0
+IsReached I B P r v = IsReachedIn (ground I) B P r v
+
+abbrev pub is_open : Network → Branch → Packing → ℕ → Bool
+is_open I B P v = open_in (ground I) B P v
+
+abbrev pub IsFullFrom : Network → Branch → Packing → ℕ → Type 0
+IsFullFrom I B P r = IsFullFromIn (ground I) B P r
+
 abbrev pub IsFull : Network → Branch → Packing → Type 0
-IsFull I B P = (r : ℕ) × (P.root ≡ Some r) × IsFullFrom I B P r
+IsFull I B P = IsFullIn (ground I) B P

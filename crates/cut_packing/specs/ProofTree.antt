@@ -1,10 +1,11 @@
 -- Trees of splits that end in packings, and the bound that they prove.
 use Rattle.std.specs.Prelude.{ℕ, ◌≤◌, IsTrue, IsFalse}
 use Rattle.st_model.specs.declared.branch.Branch.{Branch}
-use Rattle.st_model.specs.Network.{Network, IsVertex, is_required}
+use Rattle.st_model.specs.Network.{Network, IsVertex}
+use Rattle.st_model.specs.Ground.{Ground, ground}
 use Rattle.st_model.specs.Branch.{is_undecided, with_inside, with_outside}
 use Rattle.cut_packing.specs.declared.packing.Packing.{Packing}
-use Rattle.cut_packing.specs.Packing.{Fits, weight}
+use Rattle.cut_packing.specs.Packing.{FitsIn, weight_in}
 
 -- a branch closed by a packing, or split at a vertex: the half with it inside, and the half with it outside
 pub data ProofTree : Type 0 where
@@ -12,17 +13,27 @@ pub data ProofTree : Type 0 where
   split : ℕ → ProofTree → ProofTree → ProofTree
 
 -- the packing fits the branch, and weighs x at least
-pub record Closes (I : Network) (B : Branch) (x : ℕ) (P : Packing) : Type 0 where
-  pub fits : Fits I B P
-  pub weighs : x ≤ weight I B P
+pub record ClosesIn (G : Ground) (B : Branch) (x : ℕ) (P : Packing) : Type 0 where
+  pub fits : FitsIn G B P
+  pub weighs : x ≤ weight_in G B P
 
 -- the branch can be split at v
-pub record IsSplit (I : Network) (B : Branch) (v : ℕ) : Type 0 where
-  pub vertex : IsVertex I.n v
+pub record IsSplitIn (G : Ground) (B : Branch) (v : ℕ) : Type 0 where
+  pub vertex : IsVertex G.n v
   pub undecided : IsTrue (is_undecided B v)
-  pub free : IsFalse (is_required I v)
+  pub free : IsFalse (G.required v)
 
 -- each branch at the ends of the splits is closed by a packing that weighs x at least
+abbrev pub ProvesIn : Ground → Branch → ℕ → ProofTree → Type 0
+ProvesIn G B x (close P) = ClosesIn G B x P
+ProvesIn G B x (split v inside outside) = IsSplitIn G B v × ProvesIn G (with_inside B v) x inside × ProvesIn G (with_outside B v) x outside
+
+-- the same in a network
+abbrev pub Closes : Network → Branch → ℕ → Packing → Type 0
+Closes I B x P = ClosesIn (ground I) B x P
+
+abbrev pub IsSplit : Network → Branch → ℕ → Type 0
+IsSplit I B v = IsSplitIn (ground I) B v
+
 abbrev pub Proves : Network → Branch → ℕ → ProofTree → Type 0
-Proves I B x (close P) = Closes I B x P
-Proves I B x (split v inside outside) = IsSplit I B v × Proves I (with_inside B v) x inside × Proves I (with_outside B v) x outside
+Proves I B x p = ProvesIn (ground I) B x p

@@ -3,7 +3,8 @@
 //! A `Packing` that *fits* a branch of an instance weighs at most what any tree of the branch
 //! costs (`weak_duality`), and so does what a proof tree of splits and packings proves
 //! (`proof_tree_bounds`). `fits`, `weight` and `is_full` compute the definitions of their names; a
-//! caller may rely on them exactly, for every packing, whatever stands in it.
+//! caller may rely on them exactly, for every packing, whatever stands in it. What they are made of is
+//! public where it doesn't know that links go both ways: arcs with what cuts lay on them, whichever they are.
 #![tactic(auto)]
 
 mod arcs;
@@ -16,16 +17,18 @@ mod named;
 mod packing;
 mod set_table;
 mod shared_set;
-#[cfg(test)]
-mod tests;
 mod used_up;
 mod weighing;
 
+pub use arcs::{LoadedArc, LoadedArcs, can_bear};
 pub use cut::Cut;
 pub use fitting::fits;
 pub use fullness::is_full;
 pub use law::{proof_tree_bounds, weak_duality};
+pub use loads::lay;
+pub use named::named_values;
 pub use packing::Packing;
 pub use set_table::SetTable;
 pub use shared_set::SharedSet;
+pub use used_up::heads_of;
 pub use weighing::weight;

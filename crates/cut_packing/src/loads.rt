@@ -62,8 +62,8 @@ fn free(tail: u32, cost: u64) -> LoadedArc
     }
 }
 
-// Lays a value on all arcs that enter a set.
-fn lay(arcs: &mut LoadedArcs, set: &VertexSet, value: u64)
+/// Lays a value on all arcs that enter a set.
+pub fn lay(arcs: &mut LoadedArcs, set: &VertexSet, value: u64)
     requires count { set.now.count ≡ length arcs.old }
     requires room { (v : ℕ) → All (λ arc. arc.load + value < 2 ^ 128) (arcs_into arcs.old v) }
     ensures count { length arcs.new ≡ length arcs.old }

@@ -24,8 +24,12 @@ pub fn used_up(
     heads_of(alloc, &arcs, vertices + 1)
 }
 
-// The heads of the arcs that bear just what their links cost, listed at their tails.
-fn heads_of(alloc: Global, arcs: &LoadedArcs, count: u32) -> Result<VertexLists<u32>, AllocError>
+/// The heads of the arcs that bear just what their links cost, listed at their tails.
+pub fn heads_of(
+    alloc: Global,
+    arcs: &LoadedArcs,
+    count: u32,
+) -> Result<VertexLists<u32>, AllocError>
     requires count { length arcs.now ≡ count }
     requires tails { (v : ℕ) → All (λ arc. arc.tail < count) (arcs_into arcs.now v) }
     ensures count { IfOk result (λ heads. length heads ≡ count) }

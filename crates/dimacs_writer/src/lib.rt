@@ -13,8 +13,6 @@ ghost use Rattle.dimacs_writer.specs.Writing.{AreSections};
 mod law;
 mod lines;
 mod sections;
-#[cfg(test)]
-mod tests;
 mod tree_lists;
 
 pub use law::{text_tells_solution, tree_has_one_text};

@@ -72,7 +72,7 @@ fewer_fit I B root before c after h = record {
   where
     by_root : (r : Option ℕ) → MatchOption r (before ++ c ∷ after ≡ []) (IsRoot I B (before ++ c ∷ after)) → MatchOption r (before ++ after ≡ []) (IsRoot I B (before ++ after))
     by_root None none = absurd (nil_apart before c after (sym none))
-    by_root (Some r) is = record { vertex = is.vertex; certain = is.certain; apart = (all_around (λ d. has d.set r ≡ false) before c after is.apart).1 }
+    by_root (Some r) is = record { vertex = is.vertex; certain = is.certain; same = is.same; apart = (all_around (λ d. has d.set r ≡ false) before c after is.apart).1 }
 
     by_price : (u v : ℕ) (price : Option ℕ) → IfSome price (λ p. load (before ++ c ∷ after) (u, v) ≤ p) → IfSome price (λ p. load (before ++ after) (u, v) ≤ p)
     by_price u v None fits = tt

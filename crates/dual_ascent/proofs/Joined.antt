@@ -152,6 +152,7 @@ module _ (g : Graph) (B : Branch) (P : Packing) (D : Digraph) (E : Ends) (h : Is
       root_fits = record {
         vertex = vertex;
         certain = h.certain;
+        same = tt;
         apart = both_apart (λ k d below. (a.borne.sets k d below).1);
       }
 
@@ -186,6 +187,7 @@ module _ (g : Graph) (B : Branch) (P : Packing) (D : Digraph) (E : Ends) (h : Is
       root_fits = record {
         vertex = vertex;
         certain = still_certain D.root h.certain;
+        same = tt;
         apart = both_apart (λ k d below. (a.cuts k d below).apart);
       }
 

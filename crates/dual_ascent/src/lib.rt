@@ -19,8 +19,6 @@ mod law;
 mod levels;
 mod raising;
 mod searching;
-#[cfg(test)]
-mod tests;
 mod turning;
 mod waiting;
 

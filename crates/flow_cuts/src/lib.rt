@@ -9,7 +9,5 @@ mod flow;
 mod least;
 mod searching;
 mod sending;
-#[cfg(test)]
-mod tests;
 
 pub use least::fewest;

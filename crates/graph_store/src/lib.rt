@@ -12,8 +12,6 @@ mod joints;
 mod links;
 mod lists;
 mod store;
-#[cfg(test)]
-mod tests;
 mod whole;
 
 pub use half::Half;

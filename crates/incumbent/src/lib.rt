@@ -8,8 +8,6 @@
 mod board;
 mod rule;
 mod seat;
-#[cfg(test)]
-mod tests;
 
 pub use board::Incumbent;
 pub use seat::BestSeat;

@@ -1,7 +1,8 @@
 //! Instances that look random, and the text of an instance as an STP file.
 //!
 //! `generated` is the instance that five numbers say, link by link, and `stp_text` the text of an instance, line by
-//! line. A caller may rely on both to the byte.
+//! line. A caller may rely on both to the byte. `Draws` gives the numbers behind the links and needs, each by the one
+//! before it (`next`).
 #![tactic(auto)]
 
 ghost use Rattle.std.specs.Prelude.{◌≡◌, IfOk};
@@ -13,12 +14,10 @@ mod draws;
 mod law;
 mod links;
 mod needs;
-#[cfg(test)]
-mod tests;
 mod text;
 
 use chosen::{draw_needs, shuffle};
-use draws::Draws;
+pub use draws::Draws;
 pub use law::{generated_are_connected, generated_fit_file, written_are_read};
 use links::draw_links;
 use needs::written_needs;

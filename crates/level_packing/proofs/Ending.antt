@@ -116,7 +116,7 @@ module _ (I : Network) (B : Branch) (root limit : ℕ) (F : Groups) (instance : 
   module _ (one : (v : ℕ) → IsPresent I B v → cluster_of F v ≡ cluster_of F root) where
     pub all_fit : Fits I B (record { root = Some root; cuts = F.cuts })
     all_fit = record {
-      root = record { vertex = forest.rooted.vertex; certain = certain root forest.rooted; apart = forest.levels.apart_from_root };
+      root = record { vertex = forest.rooted.vertex; certain = certain root forest.rooted; same = tt; apart = forest.levels.apart_from_root };
       cuts = forest.levels.cuts;
       arcs = λ u v pu pv. linked_present I B u v (λ price. load F.cuts (u, v) ≤ price) instance pu pv (λ u_here v_here. forest.levels.within u v u_here v_here (one u u_here ∙ sym (one v v_here)));
       prizes = λ q vertex free. prizes_free I B F.cuts q certain forest.levels.cuts vertex free;
@@ -211,7 +211,7 @@ module _ (I : Network) (B : Branch) (root limit : ℕ) (F : Groups) (instance : 
 
     pub wall_fits : Fits I B (record { root = Some root; cuts = record { set = inside; q = cluster_of F vertex; y = target } ∷ [] })
     wall_fits = record {
-      root = record { vertex = forest.rooted.vertex; certain = certain root forest.rooted; apart = All-cons (λ (c : Cut). IsFalse (has c.set root)) _ [] (not_in_wall root (λ e. apart (sym e))) (All-nil (λ (c : Cut). IsFalse (has c.set root))) };
+      root = record { vertex = forest.rooted.vertex; certain = certain root forest.rooted; same = tt; apart = All-cons (λ (c : Cut). IsFalse (has c.set root)) _ [] (not_in_wall root (λ e. apart (sym e))) (All-nil (λ (c : Cut). IsFalse (has c.set root))) };
       cuts = wall_cut_fits;
       arcs = λ u v pu pv. linked_present I B u v (λ price. load (record { set = inside; q = cluster_of F vertex; y = target } ∷ []) (u, v) ≤ price) instance pu pv (λ u_here v_here. arc u v u_here v_here (cases_eq (cluster_of F u) (cluster_of F v)));
       prizes = λ q q_vertex free. prizes_free I B (record { set = inside; q = cluster_of F vertex; y = target } ∷ []) q certain wall_cut_fits q_vertex free;

@@ -8,8 +8,6 @@
 
 mod ascending;
 mod close;
-#[cfg(test)]
-mod close_tests;
 mod forest;
 mod leaf;
 mod present;

@@ -14,8 +14,6 @@ mod links;
 mod reduced;
 mod rest;
 mod step;
-#[cfg(test)]
-mod tests;
 mod undo;
 
 pub use ends::Ends;

@@ -76,7 +76,7 @@ module _ (I J : Network) (same : Agree I J) where
     where
       root_same : (root : Option ℕ) → MatchOption root (P.cuts ≡ []) (IsRoot I B P.cuts) → MatchOption root (P.cuts ≡ []) (IsRoot J B P.cuts)
       root_same None none = none
-      root_same (Some r) is = record { vertex = vertex_same r is.vertex; certain = sym (ap (λ b. b || has B.inside r) (required_same r)) ∙ is.certain; apart = is.apart }
+      root_same (Some r) is = record { vertex = vertex_same r is.vertex; certain = sym (ap (λ b. b || has B.inside r) (required_same r)) ∙ is.certain; same = is.same; apart = is.apart }
 
   pub weight_same : (B : Branch) (P : Packing) → weight I B P ≡ weight J B P
   weight_same B P =

@@ -3,7 +3,7 @@ use Rattle.std.proofs.Common.{◌≡◌, ℕ, ◌+◌, ◌-◌, true, List, [], 
 use Rattle.std.proofs.lemmas.List.{append-nil}
 use Rattle.st_model.specs.declared.branch.Branch.{Branch}
 use Rattle.st_model.specs.Network.{Network, IsInstance}
-use Rattle.st_model.specs.Branch.{with_inside, with_outside}
+use Rattle.st_model.specs.Branch.{avoiding, with_inside, with_outside}
 use Rattle.cut_packing.specs.ProofTree.{ProofTree, close, split, Closes, IsSplit, Proves}
 use Rattle.lift_back.specs.declared.step.Step.{Step}
 use Rattle.lift_back.specs.State.{State, IsState, whole}
@@ -149,12 +149,12 @@ all_right I x (B ∷ Bs) at (Close P ∷ lines) even none not_right =
 -- what is proved of one of two states that are alike is proved of the other
 proves_in_alike : (s t : State) (x : ℕ) (lines : List ProofLine) → AreAlike s t → ProvesIn s x lines → ProvesIn t x lines
 proves_in_alike s t x lines alike (p, e, proves) =
-    (p, e, subst (λ (y : ℕ). Proves t.instance (left_over t) y p) (ap (λ (offset : ℕ). x - offset) alike.offset) (subst (λ (gone : List ℕ). Proves t.instance (record { inside = []; outside = gone }) (left_of x s) p) alike.gone (proves_alike s.instance t.instance alike.instance (left_over s) (left_of x s) p proves)))
+    (p, e, subst (λ (y : ℕ). Proves t.instance (left_over t) y p) (ap (λ (offset : ℕ). x - offset) alike.offset) (subst (λ (gone : List ℕ). Proves t.instance (avoiding gone) (left_of x s) p) alike.gone (proves_alike s.instance t.instance alike.instance (left_over s) (left_of x s) p proves)))
 
 -- what is wrong of one of them is wrong of the other
 wrong_in_alike : (s t : State) (x at : ℕ) (lines : List ProofLine) (l : ℕ) (k : Kind) → AreAlike s t → IsFirstWrongIn s x at lines l k → IsFirstWrongIn t x at lines l k
 wrong_in_alike s t x at lines l k alike wrong =
-    subst (λ (y : ℕ). IsFirstWrong t.instance y (left_over t ∷ []) at lines l k) (ap (λ (offset : ℕ). x - offset) alike.offset) (subst (λ (gone : List ℕ). let B : Branch = record { inside = []; outside = gone } in IsFirstWrong t.instance (left_of x s) (B ∷ []) at lines l k) alike.gone (wrong_alike s.instance t.instance alike.instance (left_of x s) (left_over s ∷ []) at lines l k wrong))
+    subst (λ (y : ℕ). IsFirstWrong t.instance y (left_over t ∷ []) at lines l k) (ap (λ (offset : ℕ). x - offset) alike.offset) (subst (λ (gone : List ℕ). IsFirstWrong t.instance (left_of x s) (avoiding gone ∷ []) at lines l k) alike.gone (wrong_alike s.instance t.instance alike.instance (left_of x s) (left_over s ∷ []) at lines l k wrong))
 
 -- no step is bad where all are taken, and the others fail of a state that is alike
 none_bad : (s t last : State) (at : ℕ) (steps : List Step) (l : ℕ) (k : Kind) (O : State → Type 0) → AreAlike s t → IsFirstBad s at steps l k O → Applies steps t last → ((u : State) → AreAlike u last → O u → ⊥) → ⊥

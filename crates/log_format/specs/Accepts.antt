@@ -4,7 +4,7 @@ use Rattle.st_model.specs.declared.branch.Branch.{Branch}
 use Rattle.st_model.specs.declared.tree.Tree.{Tree}
 use Rattle.st_model.specs.Network.{Network, IsInstance}
 use Rattle.st_model.specs.Arborescence.{IsTree, IsBound, IsBest, cost}
-use Rattle.st_model.specs.Branch.{with_inside, with_outside}
+use Rattle.st_model.specs.Branch.{avoiding, with_inside, with_outside}
 use Rattle.st_model.specs.Wall.{IsWall}
 use Rattle.cut_packing.specs.Packing.{Fits, weight}
 use Rattle.cut_packing.specs.ProofTree.{ProofTree, IsSplit, Proves}
@@ -26,7 +26,7 @@ ProvesOf I B x lines = (p : ProofTree) × (lines ≡ preorder p) × Proves I B x
 
 -- the branch of the trees that reach nobody who is gone
 abbrev pub left_over : State → Branch
-left_over s = record { inside = []; outside = s.gone }
+left_over s = avoiding s.gone
 
 -- what has to be proved of what is left so that x is proved of the whole: x less what is paid besides
 abbrev pub left_of : ℕ → State → ℕ

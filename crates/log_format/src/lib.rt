@@ -26,8 +26,6 @@ mod reader;
 mod said;
 mod stage;
 mod step_line;
-#[cfg(test)]
-mod tests;
 mod write;
 
 pub use fault::{LineError, LogFault, ReadError};

@@ -15,8 +15,6 @@ mod law;
 mod opening;
 mod pass;
 mod rule;
-#[cfg(test)]
-mod tests;
 
 pub use closing::close;
 pub use kept::Sound;

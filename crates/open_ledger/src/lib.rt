@@ -11,8 +11,6 @@ mod ledger;
 mod place;
 mod rule;
 mod seat;
-#[cfg(test)]
-mod tests;
 mod why;
 
 pub use ledger::{Ledger, Totals};

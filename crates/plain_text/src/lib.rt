@@ -9,8 +9,6 @@
 
 mod numbers;
 mod pieces;
-#[cfg(test)]
-mod tests;
 
 pub use numbers::{number, number_within};
 pub use pieces::cut_at;

@@ -6,8 +6,6 @@
 #![tactic(auto)]
 
 mod sets;
-#[cfg(test)]
-mod tests;
 mod twins;
 
 pub use twins::Twins;

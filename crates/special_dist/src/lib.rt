@@ -10,8 +10,6 @@ mod finder;
 mod found;
 mod quest;
 mod search;
-#[cfg(test)]
-mod tests;
 mod walk_back;
 
 pub use finder::{Finder, detour};

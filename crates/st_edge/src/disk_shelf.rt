@@ -120,8 +120,10 @@ fn zeros(alloc: Global, len: usize) -> Result<Vec<u8>, AllocError>
     vec![in alloc; 0; len]
 }
 
-// Reads to the end, a piece at a time, or until `limit + 1` bytes have come.
-fn read_within<S: Read>(
+/// Reads a source to its end, a piece at a time: all its bytes, if these are at most `limit`. Of a longer text it reads
+/// `limit + 1` bytes, which is `TooLong`. A read that fails for want of memory is `NoMemory`, any other that fails is
+/// `Failed`; what was read before is lost.
+pub fn read_within<S: Read>(
     alloc: Global,
     source: &mut S,
     piece: &mut [u8],
@@ -169,58 +171,5 @@ fn save_fault_of(error: io::Error) -> SaveFault
     match error.kind() {
         ErrorKind::OutOfMemory => SaveFault::NoMemory,
         _ => SaveFault::Failed,
-    }
-}
-
-#[cfg(test)]
-mod tests {
-    use super::*;
-
-    /// Gives two bytes at a time, and fails after so many reads.
-    #[derive(Drop)]
-    struct Worn(u8);
-
-    impl Read for Worn {
-        fn read(&mut self, buf: &mut [u8]) -> io::Result<usize> {
-            if self.0 == 0 {
-                return Err(io::Error::from(ErrorKind::TimedOut));
-            }
-            self.0 -= 1;
-            Ok(buf.len().min(2))
-        }
-    }
-
-    /// Fills each buffer, and counts the bytes.
-    #[derive(Drop)]
-    struct Endless(u64);
-
-    impl Read for Endless {
-        fn read(&mut self, buf: &mut [u8]) -> io::Result<usize> {
-            self.0 = self.0.saturating_add(buf.len() as u64);
-            Ok(buf.len())
-        }
-    }
-
-    #[test]
-    fn one_byte_more_than_the_limit_is_read(rt: HostRuntime) {
-        for limit in [0, 3, 4, 9] {
-            let mut source = Endless(0);
-            let read = read_within(rt.alloc(), &mut source, &mut [0; 4], limit);
-            assert_eq!(rt; read.err(), Some(LoadFault::TooLong));
-            assert_eq!(rt; source.0, limit + 1);
-        }
-    }
-
-    #[test]
-    fn a_read_that_fails_in_mid_stream_is_told(rt: HostRuntime) {
-        for (reads, limit, want) in [
-            (0, 9, LoadFault::Failed),
-            (2, 9, LoadFault::Failed),
-            (2, 4, LoadFault::Failed),
-            (2, 3, LoadFault::TooLong),
-        ] {
-            let read = read_within(rt.alloc(), &mut Worn(reads), &mut [0; 4], limit);
-            assert_eq!(rt; read.err(), Some(want), "{reads} reads, limit {limit}");
-        }
     }
 }

@@ -6,6 +6,7 @@ use Rattle.st_model.specs.declared.tree.Tree.{Tree}
 use Rattle.st_model.specs.Lists.{has}
 use Rattle.st_model.specs.Network.{Network, IsVertex, is_required}
 use Rattle.st_model.specs.Arborescence.{reached}
+use Rattle.st_model.specs.Ground.{Ground, ground}
 
 -- a set of vertices as it is written: ascending, so each once, and all from 1 to n
 pub record IsVertexSet (n : ℕ) (set : List ℕ) : Type 0 where
@@ -32,9 +33,17 @@ pub record Belongs (B : Branch) (t : Tree) : Type 0 where
   pub inside : (v : ℕ) → IsTrue (has B.inside v) → IsTrue (has (reached t) v)
   pub outside : (v : ℕ) → IsTrue (has B.outside v) → IsFalse (has (reached t) v)
 
+-- the branch of the trees that reach these vertices and none of those
+abbrev pub deciding : List ℕ → List ℕ → Branch
+deciding inside outside = record { inside = inside; outside = outside }
+
+-- the branch of the trees that reach nobody gone
+abbrev pub avoiding : List ℕ → Branch
+avoiding gone = deciding [] gone
+
 -- the branch of all trees
 abbrev pub all_trees : Branch
-all_trees = record { inside = []; outside = [] }
+all_trees = deciding [] []
 
 abbrev pub is_present : Branch → ℕ → Bool
 is_present B v = not (has B.outside v)
@@ -43,8 +52,11 @@ abbrev pub is_undecided : Branch → ℕ → Bool
 is_undecided B v = not (has B.inside v) && not (has B.outside v)
 
 -- every tree of the branch reaches v: it is required or inside
+abbrev pub certain_in : Ground → Branch → ℕ → Bool
+certain_in G B v = G.required v || has B.inside v
+
 abbrev pub is_certain : Network → Branch → ℕ → Bool
-is_certain I B v = is_required I v || has B.inside v
+is_certain I B v = certain_in (ground I) B v
 
 -- no vertex is required or inside
 abbrev pub NoneIsCertain : Network → Branch → Type 0
@@ -61,7 +73,7 @@ with_vertex (x ∷ xs) v = if nat_lt x v then x ∷ with_vertex xs v else v ∷ 
 
 -- the two halves of a branch at an undecided vertex
 abbrev pub with_inside : Branch → ℕ → Branch
-with_inside B v = record { inside = with_vertex B.inside v; outside = B.outside }
+with_inside B v = record B { inside = with_vertex B.inside v }
 
 abbrev pub with_outside : Branch → ℕ → Branch
-with_outside B v = record { inside = B.inside; outside = with_vertex B.outside v }
+with_outside B v = record B { outside = with_vertex B.outside v }

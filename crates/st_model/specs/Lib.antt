@@ -1,10 +1,12 @@
 pub mod Lists
 pub mod Network
+pub mod Ground
 pub mod Stated
 pub mod Steps
 pub mod Marks
 pub mod Arborescence
 pub mod Branch
+pub mod Terminals
 pub mod Made
 pub mod Growth
 pub mod Regrown

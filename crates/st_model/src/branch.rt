@@ -1,6 +1,6 @@
 ghost use Rattle.std.specs.Prelude.{◌≡◌, IfOk};
 ghost use Rattle.std.specs.List.Sorted.{IsNonDecreasing};
-ghost use Rattle.st_model.specs.Branch.{all_trees, is_undecided, with_vertex, with_inside, with_outside};
+ghost use Rattle.st_model.specs.Branch.{all_trees, avoiding, deciding, is_undecided, with_vertex, with_inside, with_outside};
 ghost use Rattle.st_model.specs.Lists.{has};
 
 use crate::Listed;
@@ -15,14 +15,25 @@ pub struct Branch {
 }
 
 impl Branch {
+    /// The branch of the trees that reach the vertices inside and none outside; takes no memory.
+    pub fn of(inside: Listed<u32>, outside: Listed<u32>) -> Branch
+        ensures { result ≡ deciding inside outside }
+    {
+        Branch { inside, outside }
+    }
+
+    /// The branch of the trees that reach nobody gone; takes no memory.
+    pub fn leaving_out(alloc: Global, gone: Vec<u32>) -> Branch
+        ensures { result ≡ avoiding gone.items }
+    {
+        Branch::of(Listed::of(Vec::new(alloc)), Listed::of(gone))
+    }
+
     /// The branch of all trees.
     pub fn all(alloc: Global) -> Branch
         ensures { result ≡ all_trees }
     {
-        Branch {
-            inside: Listed::of(Vec::new(alloc)),
-            outside: Listed::of(Vec::new(alloc)),
-        }
+        Branch::leaving_out(alloc, Vec::new(alloc))
     }
 
     /// The same branch again.
@@ -31,10 +42,7 @@ impl Branch {
     {
         let inside = Vec::from_slice(alloc, self.inside.as_slice())?;
         let outside = Vec::from_slice(alloc, self.outside.as_slice())?;
-        Ok(Branch {
-            inside: Listed::of(inside),
-            outside: Listed::of(outside),
-        })
+        Ok(Branch::of(Listed::of(inside), Listed::of(outside)))
     }
 
     /// Whether a vertex is neither inside nor outside.
@@ -52,10 +60,7 @@ impl Branch {
     {
         let inside = with(alloc, self.inside.as_slice(), vertex)?;
         let outside = Vec::from_slice(alloc, self.outside.as_slice())?;
-        Ok(Branch {
-            inside: Listed::of(inside),
-            outside: Listed::of(outside),
-        })
+        Ok(Branch::of(Listed::of(inside), Listed::of(outside)))
     }
 
     /// The branch with a vertex outside as well.
@@ -64,10 +69,7 @@ impl Branch {
     {
         let inside = Vec::from_slice(alloc, self.inside.as_slice())?;
         let outside = with(alloc, self.outside.as_slice(), vertex)?;
-        Ok(Branch {
-            inside: Listed::of(inside),
-            outside: Listed::of(outside),
-        })
+        Ok(Branch::of(Listed::of(inside), Listed::of(outside)))
     }
 }
 

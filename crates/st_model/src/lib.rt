@@ -7,13 +7,9 @@
 #![tactic(auto)]
 
 mod branch;
-#[cfg(test)]
-mod branch_tests;
 mod build;
 mod cost;
 mod instance;
-#[cfg(test)]
-mod instance_tests;
 mod judge;
 mod law;
 mod link;
@@ -23,14 +19,8 @@ mod regrowing;
 mod sides;
 mod thinning;
 mod tree;
-#[cfg(test)]
-mod tree_tests;
 mod vertex_lists;
-#[cfg(test)]
-mod vertex_lists_tests;
 mod vertex_set;
-#[cfg(test)]
-mod vertex_set_tests;
 mod walking;
 
 pub use branch::Branch;

@@ -27,12 +27,8 @@ mod words;
 
 pub use fault::{ReadError, StpFault};
 pub use law::refused_exactly;
-pub use reason::Reason;
-
-#[cfg(test)]
-mod tests;
-
 use read::file_in;
+pub use reason::Reason;
 use st_model::Instance;
 use std::alloc::Global;
 

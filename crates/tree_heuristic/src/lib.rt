@@ -12,8 +12,6 @@ mod kept;
 mod listing;
 mod pruning;
 mod spread;
-#[cfg(test)]
-mod tests;
 mod walls;
 
 pub use first::{first_tree, guided_tree};

@@ -1,5 +1,0 @@
-use Rattle.std.proofs.Common.{arith}
-use Rattle.cert_checker.proofs.tests.pieces.answer_by.Goals as goal
-
-pub fed_by-requires-clause-few : goal.fed_by-requires-clause-few
-fed_by-requires-clause-few g c = omega (arith, c.in_ok-checker.ensures)

@@ -1,5 +1,0 @@
-use Rattle.std.proofs.Common.{length, ap}
-use Rattle.cert_checker.proofs.tests.pieces.begun.Goals as goal
-
-pub returns : goal.returns
-returns g c = ap length c.in_ok-checker.ensures.found.1

@@ -1,4 +1,0 @@
-mod ascending;
-mod extending;
-mod fixing;
-mod freeing;

@@ -1,5 +1,0 @@
-use Rattle.node_pool.specs.Pool.{SamePass}
-use Rattle.node_pool.proofs.tests.work.Given as goal
-
-abbrev pub invariant-loop-k : goal.invariant-loop-k
-invariant-loop-k g l = SamePass l.fn.pass l.pass

@@ -1,5 +1,0 @@
-use Rattle.std.proofs.Common.{◌≡◌}
-use Rattle.open_ledger.proofs.tests.claim_up_to.Given as goal
-
-abbrev pub invariant-loop : goal.invariant-loop
-invariant-loop l = (l.seat.ledger ≡ l.fn.seat.ledger) × (l.seat.tally.refused ≡ 0)

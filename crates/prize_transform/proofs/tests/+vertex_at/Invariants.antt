@@ -1,5 +1,0 @@
-use Rattle.std.proofs.Common.{length}
-use Rattle.prize_transform.proofs.tests.+vertex_at.Given as goal
-
-abbrev pub decreases-vertex_at : goal.decreases-vertex_at
-decreases-vertex_at l = length l.ends.now
