@@ -6,3 +6,9 @@ pub mod Searches
 pub mod Settling
 pub mod Relaxing
 pub mod Endings
+pub mod Laying
+pub mod Below
+pub mod GoingAlong
+pub mod Begins
+pub mod Following
+pub mod Turned

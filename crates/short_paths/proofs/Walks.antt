@@ -9,7 +9,7 @@ use Rattle.st_model.proofs.Marked.{AllApart-push}
 use Rattle.short_paths.specs.Walk.{cost_along, path_cost, IsPath}
 
 -- the last of some vertices
-abbrev last_of : ℕ → List ℕ → ℕ
+abbrev pub last_of : ℕ → List ℕ → ℕ
 last_of u [] = u
 last_of u (v ∷ rest) = last_of v rest
 
@@ -22,7 +22,7 @@ last_is (f ∷ g ∷ front) [] s v e = absurd (let clash : ⊥ = cc in clash)
 last_is (f ∷ front) (x ∷ rest) s v e = last_is front rest x v (let tails : x ∷ rest ≡ front ++ v ∷ [] = cc in tails)
 
 -- what one more vertex costs
-along_more : (links : List Link) (u : ℕ) (rest : List ℕ) (c d w : ℕ) → cost_along links u rest ≡ Some c → link links (last_of u rest) w ≡ Some d → cost_along links u (rest ++ w ∷ []) ≡ Some (c + d)
+pub along_more : (links : List Link) (u : ℕ) (rest : List ℕ) (c d w : ℕ) → cost_along links u rest ≡ Some c → link links (last_of u rest) w ≡ Some d → cost_along links u (rest ++ w ∷ []) ≡ Some (c + d)
 along_more links u [] c d w at next =
     let zero_is : 0 ≡ c = cc in
     let sum : d + 0 ≡ c + d = omega arith in

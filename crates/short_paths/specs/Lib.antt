@@ -4,3 +4,4 @@ pub mod Walk
 pub mod Routes
 pub mod Searching
 pub mod Steps
+pub mod Laid

@@ -1,5 +1,5 @@
 -- Walks over links, what they cost, and the least of them.
-use Rattle.std.specs.Prelude.{◌≡◌, ℕ, ◌+◌, ◌≤◌, List, [], ◌∷◌, ◌++◌, Contains, Option, Some, None}
+use Rattle.std.specs.Prelude.{◌≡◌, ℕ, ◌+◌, ◌≤◌, List, [], ◌∷◌, ◌++◌, Contains, Option, Some, None, slice_index_or}
 use Rattle.std.specs.Option.{option_map, option_and_then}
 use Rattle.st_model.specs.declared.link.Link.{Link}
 use Rattle.st_model.specs.Network.{link}
@@ -24,6 +24,10 @@ cost_along links u (v ∷ rest) = option_and_then (λ c. option_map (λ d. c + d
 abbrev pub path_cost : List Link → List ℕ → Option ℕ
 path_cost links [] = None
 path_cost links (u ∷ rest) = cost_along links u rest
+
+-- the vertex that a path begins with
+abbrev pub first_of : List ℕ → ℕ
+first_of path = slice_index_or path 0 0
 
 -- the path begins with a source, ends with v, goes over links, passes no vertex twice and costs c
 pub record IsPath (links : List Link) (sources path : List ℕ) (v c : ℕ) : Type 0 where

@@ -1,12 +1,13 @@
-ghost use Rattle.std.specs.Prelude.{◌≡◌, ℕ, ◌+◌, ◌<◌, ◌≤◌, length, All, IfOk, [], slice_index_or};
+ghost use Rattle.std.specs.Prelude.{◌≡◌, ℕ, ◌+◌, ◌<◌, ◌≤◌, length, All, IfOk, [], ◌∷◌, map, slice_index_or};
 ghost use Rattle.std.specs.Option.{option_map};
 ghost use Rattle.st_model.specs.Network.{IsVertex};
-ghost use Rattle.short_paths.specs.Routes.{route_of, AreRoutes};
+ghost use Rattle.short_paths.specs.Routes.{route_of, source_of, AreRoutes};
 ghost use Rattle.short_paths.specs.Searching.{paths_of};
 
 use crate::mark::Mark;
 use crate::search::Search;
 use crate::settled::Settled;
+use crate::sources::sources_of;
 use graph_store::Store;
 use std::alloc::{AllocError, Global};
 use std::marker::Model;
@@ -75,6 +76,14 @@ impl Distances {
             Some(place) => Ok(Some(path_back(alloc, &self.settled, place)?)),
             None => Ok(None),
         }
+    }
+
+    /// By vertex the source that the path to it begins with, and 0 where there is none. At place
+    /// 0 stands a 0.
+    pub fn sources(&self, alloc: Global) -> Result<Vec<u32>, AllocError>
+        ensures { IfOk result (λ sources. sources.items ≡ 0 ∷ map source_of self.now) }
+    {
+        sources_of(alloc, &self.settled, &self.marks)
     }
 }
 

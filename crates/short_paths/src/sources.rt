@@ -1,0 +1,50 @@
+ghost use Rattle.std.specs.Prelude.{◌≡◌, ◌∷◌, ◌≤◌, map, length, IfOk, slice_index_or, unwrap_or};
+ghost use Rattle.std.specs.Option.{option_map};
+ghost use Rattle.short_paths.specs.Marks.{places_of};
+ghost use Rattle.short_paths.specs.Routes.{source_of};
+ghost use Rattle.short_paths.specs.Searching.{paths_of, routes_of};
+ghost use Rattle.short_paths.specs.Walk.{first_of};
+
+use crate::mark::Mark;
+use crate::settled::Settled;
+use std::alloc::{AllocError, Global};
+
+// By vertex the source that its path begins with, after a 0 at place 0.
+pub fn sources_of(
+    alloc: Global,
+    settled: &[Settled],
+    marks: &[Mark],
+) -> Result<Vec<u32>, AllocError>
+    requires { 1 ≤ length marks.now }
+    ensures { IfOk result (λ sources. sources.items
+        ≡ 0 ∷ map source_of (routes_of settled.now (places_of marks.now))) }
+{
+    let firsts = firsts_of(alloc, settled)?;
+    let mut sources = vec![in alloc; 0; 1]?;
+    for mark in &marks[1..] {
+        sources.push(first_at(&firsts, mark.place()))?;
+    }
+    Ok(sources)
+}
+
+// By place the source that the path there begins with.
+fn firsts_of(alloc: Global, settled: &[Settled]) -> Result<Vec<u32>, AllocError>
+    ensures { IfOk result (λ firsts. firsts.items ≡ map first_of (paths_of settled.now)) }
+{
+    let mut firsts: Vec<u32> = Vec::with_capacity(alloc, settled.len())?;
+    for one in settled {
+        let first = firsts.get(one.before as usize).copied();
+        firsts.push(first.unwrap_or(one.vertex))?;
+    }
+    Ok(firsts)
+}
+
+// The source at a place, and 0 where there is no place.
+fn first_at(firsts: &[u32], place: Option<u32>) -> u32
+    ensures { result ≡ unwrap_or (option_map (λ k. slice_index_or firsts.now k 0) place) 0 }
+{
+    match place {
+        Some(place) => firsts.get(place as usize).copied().unwrap_or(0),
+        None => 0,
+    }
+}
