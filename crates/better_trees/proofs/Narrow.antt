@@ -5,14 +5,14 @@ use Rattle.std.proofs.lemmas.Bool.{or_left}
 use Rattle.st_model.specs.declared.branch.Branch.{Branch}
 use Rattle.st_model.specs.Lists.{has}
 use Rattle.st_model.specs.Network.{Network, is_required}
-use Rattle.st_model.specs.Branch.{AreThose, IsBranch, LeavesRequired, is_certain}
+use Rattle.st_model.specs.Branch.{AreThose, IsBranch, LeavesRequired, deciding, is_certain}
 use Rattle.st_model.proofs.Branches.{IsVertexSet-member}
 use Rattle.better_trees.specs.Part.{IsPartOf}
 use Rattle.better_trees.specs.Part.{is_left_out}
 
 -- a branch in which more is outside, but nothing that is certain
 pub narrow_branch : (I : Network) (B : Branch) (reached out : List ℕ) → IsBranch I B → AreThose (is_left_out I B reached) I.n out
-    → IsBranch I (record { inside = B.inside; outside = out })
+    → IsBranch I (deciding B.inside out)
 narrow_branch I B reached out branch are = record { inside = branch.inside; outside = are.set; apart = apart }
   where
     apart : (v : ℕ) → IsTrue (has B.inside v) → IsFalse (has out v)
@@ -26,7 +26,7 @@ narrow_branch I B reached out branch are = record { inside = branch.inside; outs
 
 -- it is a part of the branch
 pub narrow_part : (I : Network) (B : Branch) (reached out : List ℕ) → IsBranch I B → AreThose (is_left_out I B reached) I.n out
-    → IsPartOf B (record { inside = B.inside; outside = out })
+    → IsPartOf B (deciding B.inside out)
 narrow_part I B reached out branch are = record { inside = λ v h. h; outside = outside }
   where
     outside : (v : ℕ) → IsTrue (has B.outside v) → IsTrue (has out v)
@@ -36,7 +36,7 @@ narrow_part I B reached out branch are = record { inside = λ v h. h; outside = 
 
 -- it still leaves who is required
 pub narrow_required : (I : Network) (B : Branch) (reached out : List ℕ) → LeavesRequired I B → AreThose (is_left_out I B reached) I.n out
-    → LeavesRequired I (record { inside = B.inside; outside = out })
+    → LeavesRequired I (deciding B.inside out)
 narrow_required I B reached out leaves are v h =
     by_case (is_required I v) refl (has B.outside v) refl (sym (are.same v (IsVertexSet-member I.n out v are.set h)) ∙ h)
   where

@@ -5,7 +5,7 @@ ghost use Rattle.better_trees.specs.Better.{IsBetter};
 
 use crate::comparing::cheaper;
 use crate::draws::Draws;
-use crate::effort::Effort;
+use crate::effort::{Effort, steps_for};
 use crate::growing::grown;
 use crate::price::Priced;
 use crate::used_up::UsedUp;
@@ -21,8 +21,8 @@ const LEAST: u64 = 50;
 
 const MORE: u64 = 100;
 
-/// How many steps a walk from a drawn tree has, or from one over used-up arcs at a first node.
-pub const STEPS: u64 = 4;
+// How many steps a walk from a drawn tree has, or from one over used-up arcs at a first node, at most.
+const STEPS: u64 = 4;
 
 /// A tree of the branch that costs less than the least cost known, if `used_up_tree` is one.
 pub fn better_tree(
@@ -81,7 +81,7 @@ fn cheapest_grown(
 {
     let mut draws = Draws::of(effort.seed);
     let mut best = first;
-    for _growth in 0..effort.growths() {
+    for _growth in 0..effort.growths(whole.instance.links().len()) {
         let weights = draws.weights(alloc, whole.store.vertices(), LEAST, MORE)?;
         if let Some(tree) = grown_along(alloc, whole, branch, arcs, &weights)? {
             if tree_cost(&whole.instance, &tree) < tree_cost(&whole.instance, &best) {
@@ -128,8 +128,13 @@ pub fn tree_along(
         return Ok(None);
     };
     let tree = prune(alloc, &whole.instance, branch, tree)?;
-    let tree = wander(alloc, whole, branch, tree, seed, STEPS)?;
+    let tree = wander(alloc, whole, branch, tree, seed, steps(whole))?;
     Ok(Some(tree))
+}
+
+/// How many steps a walk from a drawn tree has, or from one over used-up arcs at a first node.
+pub fn steps(whole: &Whole) -> u64 {
+    steps_for(STEPS, whole.instance.links().len())
 }
 
 /// The same arcs once more.

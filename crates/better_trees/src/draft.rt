@@ -3,7 +3,7 @@ ghost use Rattle.std.specs.Thread.{IsSync};
 ghost use Rattle.st_model.specs.Branch.{IsBranch};
 ghost use Rattle.better_trees.specs.Grown.{IsGrown};
 
-use crate::bettering::{STEPS, tree_along};
+use crate::bettering::{steps, tree_along};
 use crate::walk::{Walk, walked};
 use graph_store::Whole;
 use st_model::{Sides, Tree};
@@ -47,7 +47,7 @@ impl Draft {
             Source::Weights(weights) => {
                 tree_along(alloc, whole, branch, weights.as_slice(), self.seed)
             }
-            Source::Tree(tree) => walked(alloc, whole, branch, tree, self.seed, STEPS),
+            Source::Tree(tree) => walked(alloc, whole, branch, tree, self.seed, steps(whole)),
             Source::Walk(walk) => walk.end(alloc, whole, branch, self.seed),
         };
     }

@@ -26,6 +26,22 @@ const SIDE: u64 = 1_009;
 // A bound lacks little of what is so many times as much.
 const LITTLE: u64 = 300;
 
+// How many links all rounds at a node go over together, about: up to 66,666 links all rounds are made, and above
+// 200,000 one.
+const FOR_ROUNDS: u64 = 400_000;
+
+// How many links all growths of a tree go over together, about: up to 25,000 links there are all forty, and none above
+// 1,000,000.
+const FOR_GROWTHS: u64 = 1_000_000;
+
+// How many links all walks of a turn go over in a step, about: up to 25,000 links there are all four, and none above
+// 100,000.
+const FOR_WALKS: u64 = 100_000;
+
+// How many links all steps of a walk go over that leads a tree on, about: up to 25,000 links it has all four, and none
+// above 100,000.
+const FOR_STEPS: u64 = 100_000;
+
 impl Effort {
     /// The work on a node of a branch. What is drawn there hangs on the branch alone, and not on who works
     /// on it.
@@ -40,9 +56,11 @@ impl Effort {
         }
     }
 
-    /// For how many rounds packings are refined and trees are looked for, at most.
-    pub fn rounds(self) -> u64 {
-        if self.is_bare { 6 } else { 1 }
+    /// For how many rounds packings are refined and trees are looked for, at most, in a network of so many links: one
+    /// at least.
+    pub fn rounds(self, links: usize) -> u64 {
+        let rounds = if self.is_bare { 6 } else { 1 };
+        at_most(rounds, FOR_ROUNDS, links).max(1)
     }
 
     /// For how many turns a packing is refined in a round.
@@ -50,17 +68,23 @@ impl Effort {
         if self.is_bare { 60 } else { 10 }
     }
 
-    /// How many trees grow over used-up arcs by chance, for one that is improved.
-    pub fn growths(self) -> u64 {
-        if self.is_bare { 40 } else { 10 }
+    /// How many trees grow over used-up arcs by chance, for one that is improved, in a network of so many links.
+    pub fn growths(self, links: usize) -> u64 {
+        let growths = if self.is_bare { 40 } else { 10 };
+        at_most(growths, FOR_GROWTHS, links)
+    }
+
+    /// How many of so many walks there are in a turn, in a network of so many links.
+    pub fn walks(self, walks: u64, links: usize) -> u64 {
+        at_most(walks, FOR_WALKS, links)
     }
 
     /// How many steps a walk from a tree over used-up arcs has as soon as this has grown, where the bound lacks
     /// so much of the least cost known: none unless it lacks little, since then a tree is wanting and not a bound;
     /// none at a node without cuts, where the walk is one of the drafts.
-    pub fn steps(self, below: u64, least: u64) -> u64 {
+    pub fn steps(self, below: u64, least: u64, links: usize) -> u64 {
         if !self.is_bare && below.saturating_mul(LITTLE) < least {
-            2
+            steps_for(2, links)
         } else {
             0
         }
@@ -88,6 +112,16 @@ impl Effort {
         let seed = self.seed.wrapping_add(round.wrapping_mul(STEP));
         Effort { seed, ..self }
     }
+}
+
+/// How many of so many steps a walk has that leads a tree on, in a network of so many links.
+pub fn steps_for(steps: u64, links: usize) -> u64 {
+    at_most(steps, FOR_STEPS, links)
+}
+
+// How many of a share fall to each of so many links, at most so many.
+fn at_most(times: u64, share: u64, links: usize) -> u64 {
+    times.min(share / (links as u64).max(1))
 }
 
 // A number into which those of vertices are mixed.

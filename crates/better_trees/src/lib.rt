@@ -17,8 +17,6 @@ mod joints;
 mod narrowing;
 mod price;
 mod sampling;
-#[cfg(test)]
-mod tests;
 mod trees;
 mod used_up;
 mod walk;
@@ -33,4 +31,6 @@ pub use elite::Elite;
 pub use joints::Joints;
 pub use narrowing::narrowed;
 pub use price::Priced;
+pub use sampling::drawn_tree;
 pub use trees::{Trees, trees_at};
+pub use wandering::wandered_tree;

@@ -22,10 +22,7 @@ pub fn narrowed(
     let outside = left_out(alloc, instance, branch, reached)?;
     let before = branch.branch();
     let inside = Vec::from_slice(alloc, before.inside.as_slice())?;
-    Ok(Branch {
-        inside: Listed::of(inside),
-        outside: Listed::of(outside),
-    })
+    Ok(Branch::of(Listed::of(inside), Listed::of(outside)))
 }
 
 // The vertices that are outside, and those that are neither required nor inside nor in a set;

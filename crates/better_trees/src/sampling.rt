@@ -3,7 +3,7 @@ ghost use Rattle.st_model.specs.Branch.{IsBranch};
 ghost use Rattle.better_trees.specs.Grown.{IsGrown};
 ghost use Rattle.better_trees.specs.Better.{IsBetter};
 
-use crate::bettering::copied;
+use crate::bettering::{copied, steps};
 use crate::by_vertex::{at, put};
 use crate::comparing::{later, least_after, priced};
 use crate::draft::{Draft, Source, grow_all};
@@ -72,7 +72,7 @@ pub fn drawn_tree<R: Threads + Sync>(
         let drafts = if is_between {
             drafts_between(alloc, count.saturating_sub(first), arcs, elite, &mut draws)?
         } else {
-            first_drafts(alloc, first, arcs, used_up, &mut draws)?
+            first_drafts(alloc, whole, first, arcs, used_up, &mut draws)?
         };
         let found = best_grown(rt, alloc, whole, branch, drafts, threads, elite, known)?;
         best = later(best, found);
@@ -92,10 +92,11 @@ fn first_of(count: u64) -> u64 {
     count.min(times.saturating_mul(AT_ONCE))
 }
 
-// So many drafts, of which the first leads on the tree over used-up arcs, if there is one. That one is there
-// even where none is to be drawn.
+// So many drafts, of which the first leads on the tree over used-up arcs, if there is one and walks have steps. That
+// one is there even where none is to be drawn.
 fn first_drafts(
     alloc: Global,
+    whole: &Whole,
     count: u64,
     arcs: &Arcs,
     used_up: &Option<Tree>,
@@ -103,8 +104,10 @@ fn first_drafts(
 ) -> Result<Vec<Draft>, AllocError> {
     let mut drafts = Vec::new(alloc);
     if let Some(tree) = used_up {
-        let source = Source::Tree(copied(alloc, tree)?);
-        drafts.push(Draft::of(source, draws.below(u64::MAX)))?;
+        if steps(whole) > 0 {
+            let source = Source::Tree(copied(alloc, tree)?);
+            drafts.push(Draft::of(source, draws.below(u64::MAX)))?;
+        }
     }
     for place in drafts.len() as u64..count {
         let weights = drawn_weights(alloc, place, arcs, draws)?;

@@ -50,7 +50,7 @@ pub fn trees_at<R: Threads + Sync>(
     ensures { IfOk result (λ trees. IfSome trees.better (IsBetter whole.now.instance branch.now least)) }
 {
     let below = gap(&whole.instance, branch, packing, least);
-    let steps = effort.steps(below, least);
+    let steps = effort.steps(below, least, whole.instance.links().len());
     let tree = used_up_tree(alloc, whole, branch, arcs, effort, steps)?;
     let joints = joints_of(alloc, &whole.instance, known, &tree)?;
     let better = if effort.is_bare {

@@ -44,7 +44,8 @@ pub fn wandered_tree<R: Threads + Sync>(
 {
     let mut draws = Draws::of(effort.seed);
     let open = open_vertices(&whole.instance, branch);
-    let count = WALKS.min(open / FOR_A_WALK);
+    let walks = WALKS.min(open / FOR_A_WALK);
+    let count = effort.walks(walks, whole.instance.links().len());
     let mut best = None;
     for _turn in 0..TURNS {
         let price = least_after(least, &best);

@@ -1,2 +1,1 @@
 pub mod Belonging
-pub mod Drawn

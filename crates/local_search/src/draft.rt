@@ -1,8 +1,7 @@
-use crate::by_vertex::ByVertex;
-use crate::ground::Ground;
 use graph_store::Half;
 use st_model::{Listed, Tree};
 use std::alloc::{AllocError, Global};
+use way_costs::{ByVertex, MoveGraph};
 
 // How a vertex stands in a tree.
 #[derive(Clone, Copy)]
@@ -40,35 +39,35 @@ pub struct Draft {
 }
 
 impl Draft {
-    pub fn of(alloc: Global, ground: &Ground, tree: &Tree) -> Result<Draft, AllocError> {
+    pub fn of(alloc: Global, graph: &MoveGraph, tree: &Tree) -> Result<Draft, AllocError> {
         let mut draft = Draft {
             root: tree.start,
-            seats: ByVertex::new(alloc, ground.count(), UNREACHED)?,
-            count: ground.count(),
+            seats: ByVertex::new(alloc, graph.count(), UNREACHED)?,
+            count: graph.count(),
             old_root: tree.start,
             changed: Vec::new(alloc),
             saved: 0,
             spent: 0,
             loose: Vec::new(alloc),
         };
-        draft.enter(ground, tree.start)?;
+        draft.enter(graph, tree.start)?;
         for (tail, head) in tree.arcs.as_slice() {
-            draft.enter(ground, *head)?;
-            draft.hang(*head, *tail, ground.link_cost(*tail, *head))?;
+            draft.enter(graph, *head)?;
+            draft.hang(*head, *tail, graph.link_cost(*tail, *head))?;
         }
         draft.keep();
         Ok(draft)
     }
 
     // The tree as it stands, from the root on.
-    pub fn tree(&self, alloc: Global, ground: &Ground) -> Result<Tree, AllocError> {
+    pub fn tree(&self, alloc: Global, graph: &MoveGraph) -> Result<Tree, AllocError> {
         let mut arcs = Vec::new(alloc);
-        self.lead(ground, self.root, &mut arcs)?;
+        self.lead(graph, self.root, &mut arcs)?;
         for place in 0..self.count {
             let Some((_, tail)) = arcs.get(place).copied() else {
                 break;
             };
-            self.lead(ground, tail, &mut arcs)?;
+            self.lead(graph, tail, &mut arcs)?;
         }
         Ok(Tree {
             start: self.root,
@@ -79,11 +78,11 @@ impl Draft {
     // Adds the arcs from a tail.
     fn lead(
         &self,
-        ground: &Ground,
+        graph: &MoveGraph,
         tail: u32,
         arcs: &mut Vec<(u32, u32)>,
     ) -> Result<(), AllocError> {
-        for half in ground.neighbours(tail) {
+        for half in graph.neighbours(tail) {
             if self.is_below(half.to, tail) {
                 arcs.push((tail, half.to))?;
             }
@@ -117,8 +116,8 @@ impl Draft {
 
     // Whether a vertex is one that key paths lead between: the root, a fork or a leaf, or worth
     // something.
-    pub fn is_key(&self, ground: &Ground, vertex: u32) -> bool {
-        self.is_root(vertex) || self.degree(vertex) != 2 || ground.worth(vertex) > 0
+    pub fn is_key(&self, graph: &MoveGraph, vertex: u32) -> bool {
+        self.is_root(vertex) || self.degree(vertex) != 2 || graph.worth(vertex) > 0
     }
 
     // What the changes gain.
@@ -133,7 +132,7 @@ impl Draft {
     }
 
     // Reaches a vertex.
-    pub fn enter(&mut self, ground: &Ground, vertex: u32) -> Result<(), AllocError> {
+    pub fn enter(&mut self, graph: &MoveGraph, vertex: u32) -> Result<(), AllocError> {
         let seat = self.seats.at(vertex);
         self.put(
             vertex,
@@ -142,12 +141,12 @@ impl Draft {
                 ..seat
             },
         )?;
-        self.saved = self.saved.saturating_add(ground.worth(vertex));
+        self.saved = self.saved.saturating_add(graph.worth(vertex));
         Ok(())
     }
 
     // Reaches a vertex no longer.
-    pub fn leave(&mut self, ground: &Ground, vertex: u32) -> Result<(), AllocError> {
+    pub fn leave(&mut self, graph: &MoveGraph, vertex: u32) -> Result<(), AllocError> {
         let seat = self.seats.at(vertex);
         self.put(
             vertex,
@@ -156,7 +155,7 @@ impl Draft {
                 ..seat
             },
         )?;
-        self.spent = self.spent.saturating_add(ground.worth(vertex));
+        self.spent = self.spent.saturating_add(graph.worth(vertex));
         Ok(())
     }
 
@@ -257,9 +256,9 @@ impl Draft {
     }
 
     // Reaches a vertex by a link, and makes it the root.
-    pub fn crown(&mut self, ground: &Ground, vertex: u32, link: Half) -> Result<(), AllocError> {
+    pub fn crown(&mut self, graph: &MoveGraph, vertex: u32, link: Half) -> Result<(), AllocError> {
         self.root_at(link.to)?;
-        self.enter(ground, vertex)?;
+        self.enter(graph, vertex)?;
         self.hang(link.to, vertex, link.cost)?;
         self.root = vertex;
         Ok(())
@@ -298,14 +297,14 @@ impl Draft {
     }
 
     // Takes out the key path from a vertex towards the root, up to its other end.
-    pub fn drop_above(&mut self, ground: &Ground, vertex: u32) -> Result<(), AllocError> {
+    pub fn drop_above(&mut self, graph: &MoveGraph, vertex: u32) -> Result<(), AllocError> {
         let mut here = vertex;
         for _step in 0..self.count {
             let up = self.seats.at(here).up;
-            let ends = up == 0 || self.is_key(ground, up);
+            let ends = up == 0 || self.is_key(graph, up);
             self.loosen(here)?;
             if here != vertex {
-                self.leave(ground, here)?;
+                self.leave(graph, here)?;
             }
             here = up;
             if ends {
@@ -318,16 +317,16 @@ impl Draft {
 
     // Takes out the key path that begins with the link from a vertex towards the root, down to its
     // other end, which is the top of a part then.
-    pub fn drop_below(&mut self, ground: &Ground, vertex: u32) -> Result<u32, AllocError> {
+    pub fn drop_below(&mut self, graph: &MoveGraph, vertex: u32) -> Result<u32, AllocError> {
         let mut here = vertex;
         for _step in 0..self.count {
-            let ends = self.is_key(ground, here);
+            let ends = self.is_key(graph, here);
             self.loosen(here)?;
             if ends {
                 break;
             }
-            let below = self.below(ground, here);
-            self.leave(ground, here)?;
+            let below = self.below(graph, here);
+            self.leave(graph, here)?;
             here = below;
         }
         Ok(here)
@@ -335,15 +334,15 @@ impl Draft {
 
     // The other end of a key path that leads from a vertex away from the root; the vertex itself
     // where there is none.
-    pub fn key_below(&self, ground: &Ground, vertex: u32) -> u32 {
+    pub fn key_below(&self, graph: &MoveGraph, vertex: u32) -> u32 {
         let mut here = vertex;
         for _step in 0..self.count {
-            let below = self.below(ground, here);
+            let below = self.below(graph, here);
             if below == 0 {
                 break;
             }
             here = below;
-            if self.is_key(ground, here) {
+            if self.is_key(graph, here) {
                 break;
             }
         }
@@ -351,8 +350,8 @@ impl Draft {
     }
 
     // A vertex that is linked with this one and farther from the root; 0 where there is none.
-    pub fn below(&self, ground: &Ground, vertex: u32) -> u32 {
-        for half in ground.neighbours(vertex) {
+    pub fn below(&self, graph: &MoveGraph, vertex: u32) -> u32 {
+        for half in graph.neighbours(vertex) {
             if self.is_below(half.to, vertex) {
                 return half.to;
             }
@@ -361,26 +360,26 @@ impl Draft {
     }
 
     // Takes leaves off that aren't worth their links, from this one on towards the root.
-    fn trim(&mut self, ground: &Ground, vertex: u32) -> Result<(), AllocError> {
+    fn trim(&mut self, graph: &MoveGraph, vertex: u32) -> Result<(), AllocError> {
         let mut here = vertex;
         for _step in 0..self.count {
             let seat = self.seats.at(here);
             let is_leaf = seat.reached && seat.degree == 1 && seat.up != 0;
-            if !is_leaf || ground.worth(here) >= seat.cost {
+            if !is_leaf || graph.worth(here) >= seat.cost {
                 break;
             }
             self.loosen(here)?;
-            self.leave(ground, here)?;
+            self.leave(graph, here)?;
             here = seat.up;
         }
         Ok(())
     }
 
     // Keeps the changes if they gain, and else takes them back; whether they gain.
-    pub fn settle(&mut self, ground: &Ground) -> Result<bool, AllocError> {
+    pub fn settle(&mut self, graph: &MoveGraph) -> Result<bool, AllocError> {
         for place in 0..self.loose.len() {
             let vertex = self.loose.get(place).copied().unwrap_or(0);
-            self.trim(ground, vertex)?;
+            self.trim(graph, vertex)?;
         }
         let gains = self.spent < self.saved;
         if gains {

@@ -5,18 +5,20 @@ ghost use Rattle.local_search.specs.Better.{IsNoDearer};
 
 use crate::branches::without_branches;
 use crate::exchanging::{with_all_worth, with_exchanges};
-use crate::ground::Ground;
 use crate::inserting::with_more;
 use crate::judging::cheaper;
-use crate::noise::Noise;
 use crate::spanning::spanning_tree;
 use graph_store::Whole;
 use st_model::{Sides, Tree, tree_cost};
 use std::alloc::{AllocError, Global};
 use tree_heuristic::prune;
+use way_costs::{MoveGraph, Noise};
 
 // How many rounds of all moves there are at most.
-const ROUNDS: u32 = 20;
+const ROUNDS: u64 = 20;
+
+// How many links all rounds go over together, about: up to 20,000 links all rounds are made, and above 200,000 one.
+const SHARE: u64 = 400_000;
 
 /// A tree of the branch that costs no more than the one that is given.
 pub fn improve(alloc: Global, whole: &Whole, branch: &Sides, tree: Tree) -> Result<Tree, AllocError>
@@ -27,16 +29,16 @@ pub fn improve(alloc: Global, whole: &Whole, branch: &Sides, tree: Tree) -> Resu
     ensures belongs { IfOk result (Belongs branch.now) }
     ensures cost { IfOk result (λ new. cost whole.now.instance new ≤ cost whole.now.instance tree) }
 {
-    let ground = Ground::of(alloc, &whole.store, branch, Noise::none())?;
-    let mut best = moved(alloc, whole, branch, &ground, tree)?;
-    for _round in 0..ROUNDS {
+    let graph = MoveGraph::of(alloc, &whole.store, branch, Noise::none())?;
+    let mut best = moved(alloc, whole, branch, &graph, tree)?;
+    for _round in 0..graph.times(ROUNDS, SHARE) {
         let before = tree_cost(&whole.instance, &best);
-        best = exchanged(alloc, whole, branch, &ground, best)?;
+        best = exchanged(alloc, whole, branch, &graph, best)?;
         let between = tree_cost(&whole.instance, &best);
         if between == before {
             break;
         }
-        best = moved(alloc, whole, branch, &ground, best)?;
+        best = moved(alloc, whole, branch, &graph, best)?;
         if tree_cost(&whole.instance, &best) == between {
             break;
         }
@@ -49,7 +51,7 @@ fn moved(
     alloc: Global,
     whole: &Whole,
     branch: &Sides,
-    ground: &Ground,
+    graph: &MoveGraph,
     tree: Tree,
 ) -> Result<Tree, AllocError>
     requires branch { IsBranch whole.now.instance branch.now }
@@ -58,11 +60,11 @@ fn moved(
     ensures { IfOk result (IsNoDearer whole.now.instance branch.now tree) }
 {
     let instance = &whole.instance;
-    let spanned = spanning_tree(alloc, ground, &tree)?;
+    let spanned = spanning_tree(alloc, graph, &tree)?;
     let tree = cheaper(alloc, instance, branch, tree, spanned)?;
-    let cut = without_branches(alloc, ground, &tree)?;
+    let cut = without_branches(alloc, graph, &tree)?;
     let tree = cheaper(alloc, instance, branch, tree, cut)?;
-    let more = with_more(alloc, ground, &tree)?;
+    let more = with_more(alloc, graph, &tree)?;
     cheaper(alloc, instance, branch, tree, more)
 }
 
@@ -72,7 +74,7 @@ fn exchanged(
     alloc: Global,
     whole: &Whole,
     branch: &Sides,
-    ground: &Ground,
+    graph: &MoveGraph,
     tree: Tree,
 ) -> Result<Tree, AllocError>
     requires branch { IsBranch whole.now.instance branch.now }
@@ -81,10 +83,10 @@ fn exchanged(
     ensures { IfOk result (IsNoDearer whole.now.instance branch.now tree) }
 {
     let instance = &whole.instance;
-    let exchanged = with_exchanges(alloc, ground, &tree)?;
+    let exchanged = with_exchanges(alloc, graph, &tree)?;
     let tree = cheaper(alloc, instance, branch, tree, exchanged)?;
     let tree = prune(alloc, instance, branch, tree)?;
-    let Some(widened) = widened_tree(alloc, ground, &tree)? else {
+    let Some(widened) = widened_tree(alloc, graph, &tree)? else {
         return Ok(tree);
     };
     cheaper(alloc, instance, branch, tree, widened)
@@ -92,13 +94,13 @@ fn exchanged(
 
 // What the moves make of the tree once it reaches all that is worth something, if it misses any of
 // that.
-fn widened_tree(alloc: Global, ground: &Ground, tree: &Tree) -> Result<Option<Tree>, AllocError> {
-    let Some(wide) = with_all_worth(alloc, ground, tree)? else {
+fn widened_tree(alloc: Global, graph: &MoveGraph, tree: &Tree) -> Result<Option<Tree>, AllocError> {
+    let Some(wide) = with_all_worth(alloc, graph, tree)? else {
         return Ok(None);
     };
-    let wide = spanning_tree(alloc, ground, &wide)?;
-    let wide = without_branches(alloc, ground, &wide)?;
-    let wide = with_more(alloc, ground, &wide)?;
-    let wide = with_exchanges(alloc, ground, &wide)?;
+    let wide = spanning_tree(alloc, graph, &wide)?;
+    let wide = without_branches(alloc, graph, &wide)?;
+    let wide = with_more(alloc, graph, &wide)?;
+    let wide = with_exchanges(alloc, graph, &wide)?;
     Ok(Some(wide))
 }

@@ -9,16 +9,27 @@ pub struct Joins {
 }
 
 impl Joins {
-    // Each part by itself.
-    pub fn of(alloc: Global, parts: u32) -> Result<Joins, AllocError> {
-        let mut labels = Vec::new(alloc);
-        for part in 0..=parts {
-            labels.push(part)?;
+    // No parts.
+    pub fn new(alloc: Global) -> Joins {
+        Joins {
+            labels: Vec::new(alloc),
+            left: 0,
         }
-        Ok(Joins {
-            labels,
-            left: parts,
-        })
+    }
+
+    // So many parts, each by itself.
+    pub fn begin(&mut self, parts: u32) -> Result<(), AllocError> {
+        self.labels.clear();
+        for part in 0..=parts {
+            self.labels.push(part)?;
+        }
+        self.left = parts;
+        Ok(())
+    }
+
+    // How many joins are left until all is one.
+    pub fn left(&self) -> u32 {
+        self.left
     }
 
     // Joins two parts; whether they were apart.

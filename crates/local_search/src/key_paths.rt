@@ -1,6 +1,5 @@
-use crate::bounds::Bounds;
 use crate::draft::Draft;
-use crate::ground::Ground;
+use way_costs::{Bounds, MoveGraph};
 
 // A key path of a tree: what it costs, and what a way costs at least that leads past one of its links.
 #[derive(Clone, Copy)]
@@ -54,36 +53,36 @@ impl Fork {
 
 // Whether all below a key vertex may be joined with the rest for less than the key path towards the root
 // costs. A way without one of the path's links costs no less than the bound past that link.
-pub fn may_exchange(ground: &Ground, draft: &Draft, bounds: &Bounds, vertex: u32) -> bool {
-    let path = path_above(ground, draft, bounds, vertex);
+pub fn may_exchange(graph: &MoveGraph, draft: &Draft, bounds: &Bounds, vertex: u32) -> bool {
+    let path = path_above(graph, draft, bounds, vertex);
     path.least < path.cost
 }
 
 // Whether all that key paths join at a key vertex is likely joined without it for less: by ways between two of
 // these parts each, one fewer than there are parts, of which each part but one has one that leads past its path.
 // (Ways that share some of their links may cost less together; such are passed over.)
-pub fn may_take_out(ground: &Ground, draft: &Draft, bounds: &Bounds, vertex: u32) -> bool {
+pub fn may_take_out(graph: &MoveGraph, draft: &Draft, bounds: &Bounds, vertex: u32) -> bool {
     let mut fork = NO_PATH;
     if !draft.is_root(vertex) {
-        fork = fork.with(path_above(ground, draft, bounds, vertex));
+        fork = fork.with(path_above(graph, draft, bounds, vertex));
     }
-    for half in ground.neighbours(vertex) {
+    for half in graph.neighbours(vertex) {
         if draft.is_below(half.to, vertex) {
-            fork = fork.with(path_below(ground, draft, bounds, half.to));
+            fork = fork.with(path_below(graph, draft, bounds, half.to));
         }
     }
     let ways = fork.total.saturating_sub(fork.least);
-    ways.saturating_add(ground.worth(vertex)) < fork.cost
+    ways.saturating_add(graph.worth(vertex)) < fork.cost
 }
 
 // The key path from a vertex towards the root.
-fn path_above(ground: &Ground, draft: &Draft, bounds: &Bounds, vertex: u32) -> KeyPath {
+fn path_above(graph: &MoveGraph, draft: &Draft, bounds: &Bounds, vertex: u32) -> KeyPath {
     let mut path = NO_LINK;
     let mut here = vertex;
-    for _step in 0..ground.vertices() {
+    for _step in 0..graph.vertices() {
         path = path.with(draft, bounds, here);
         here = draft.up(here).0;
-        if here == 0 || draft.is_key(ground, here) {
+        if here == 0 || draft.is_key(graph, here) {
             break;
         }
     }
@@ -91,15 +90,15 @@ fn path_above(ground: &Ground, draft: &Draft, bounds: &Bounds, vertex: u32) -> K
 }
 
 // The key path that begins with the link from a vertex towards the root, down to its other end.
-fn path_below(ground: &Ground, draft: &Draft, bounds: &Bounds, vertex: u32) -> KeyPath {
+fn path_below(graph: &MoveGraph, draft: &Draft, bounds: &Bounds, vertex: u32) -> KeyPath {
     let mut path = NO_LINK;
     let mut here = vertex;
-    for _step in 0..ground.vertices() {
+    for _step in 0..graph.vertices() {
         path = path.with(draft, bounds, here);
-        if draft.is_key(ground, here) {
+        if draft.is_key(graph, here) {
             break;
         }
-        here = draft.below(ground, here);
+        here = draft.below(graph, here);
     }
     path
 }

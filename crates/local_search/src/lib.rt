@@ -9,23 +9,16 @@
 //! `judged`. Which moves are tried, and in which order, is free: what they lay out is judged.
 #![tactic(auto)]
 
-mod bounds;
 mod branches;
-mod by_vertex;
 mod draft;
 mod exchanging;
-mod ground;
 mod improving;
 mod inserting;
 mod joins;
 mod judging;
 mod key_paths;
-mod noise;
-mod regions;
 mod search;
 mod spanning;
-#[cfg(test)]
-mod tests;
 mod wandering;
 
 pub use improving::improve;

@@ -4,14 +4,13 @@ ghost use Rattle.st_model.specs.Branch.{Belongs, IsBranch};
 ghost use Rattle.local_search.specs.Better.{IsNoDearer};
 
 use crate::exchanging::with_exchanges;
-use crate::ground::Ground;
 use crate::improving::improve;
 use crate::inserting::with_more;
 use crate::judging::no_dearer;
-use crate::noise::Noise;
 use graph_store::Whole;
 use st_model::{Sides, Tree};
 use std::alloc::{AllocError, Global};
+use way_costs::{MoveGraph, Noise};
 
 /// A tree of the branch that costs no more than the one that is given. In each of so many steps moves go to
 /// trees that cost the same, or less, by a noise on the costs that hangs on the seed, until none does; what
@@ -50,20 +49,20 @@ fn moved_on(
     tree: &Tree,
     noise: Noise,
 ) -> Result<Option<Tree>, AllocError> {
-    let ground = Ground::of(alloc, &whole.store, branch, noise)?;
-    let more = with_more(alloc, &ground, tree)?;
-    let other = with_exchanges(alloc, &ground, &more)?;
-    if links_cost(&ground, &other) == links_cost(&ground, tree) {
+    let graph = MoveGraph::of(alloc, &whole.store, branch, noise)?;
+    let more = with_more(alloc, &graph, tree)?;
+    let other = with_exchanges(alloc, &graph, &more)?;
+    if links_cost(&graph, &other) == links_cost(&graph, tree) {
         return Ok(None);
     }
     Ok(Some(other))
 }
 
 // What the links of a tree cost.
-fn links_cost(ground: &Ground, tree: &Tree) -> u64 {
+fn links_cost(graph: &MoveGraph, tree: &Tree) -> u64 {
     let mut cost: u64 = 0;
     for (tail, head) in tree.arcs.as_slice() {
-        cost = cost.saturating_add(ground.link_cost(*tail, *head));
+        cost = cost.saturating_add(graph.link_cost(*tail, *head));
     }
     cost
 }

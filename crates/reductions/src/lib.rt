@@ -6,8 +6,6 @@
 #![tactic(auto)]
 
 mod reducing;
-#[cfg(test)]
-mod tests;
 mod work;
 
-pub use reducing::{MANY_LINKS, reduce};
+pub use reducing::reduce;

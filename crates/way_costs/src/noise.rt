@@ -11,8 +11,8 @@ const OTHER: u64 = 0xBF58_476D_1CE4_E5B9;
 
 const LOW: u64 = 0x1_0000_0000;
 
-// What is taken off costs that are multiplied, so that of ways that cost the same one is cheaper, more often one of
-// more links: another one for another seed.
+/// What is taken off costs that are multiplied, so that of ways that cost the same one is cheaper, more often one of
+/// more links: another one for another seed.
 #[derive(Clone, Copy)]
 pub struct Noise {
     seed: u64,
@@ -21,7 +21,7 @@ pub struct Noise {
 }
 
 impl Noise {
-    // Costs stay as they are.
+    /// Costs stay as they are.
     pub fn none() -> Noise {
         Noise {
             seed: 0,
@@ -30,6 +30,7 @@ impl Noise {
         }
     }
 
+    /// The noise of a seed.
     pub fn of(seed: u64) -> Noise {
         Noise {
             seed,
@@ -38,13 +39,13 @@ impl Noise {
         }
     }
 
-    // What a link between two vertices costs.
+    /// What a link between two vertices costs.
     pub fn cost(self, a: u32, b: u32, cost: u64) -> u64 {
         let less = self.mixed(a, b) % self.bound.max(1);
         self.scaled(cost).saturating_sub(less)
     }
 
-    // What is neither more nor less for the noise.
+    /// What is neither more nor less for the noise.
     pub fn scaled(self, cost: u64) -> u64 {
         cost.saturating_mul(self.scale)
     }

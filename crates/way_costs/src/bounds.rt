@@ -1,5 +1,5 @@
 use crate::by_vertex::ByVertex;
-use crate::ground::Ground;
+use crate::move_graph::MoveGraph;
 use crate::regions::Regions;
 use st_model::Tree;
 use std::alloc::{AllocError, Global};
@@ -7,8 +7,8 @@ use std::alloc::{AllocError, Global};
 // A way past links of a tree, between two of its vertices.
 type Way = (u64, u32, u32);
 
-// What ways cost at least that join both sides of a link of a tree without it. They are known of a tree as it
-// was once, and say where to look.
+/// What ways cost at least that join both sides of a link of a tree without it. They are known of a tree as it
+/// was once, and say where to look.
 #[derive(Drop)]
 pub struct Bounds {
     // More than a way to the root has steps.
@@ -23,9 +23,10 @@ pub struct Bounds {
 }
 
 impl Bounds {
-    pub fn of(alloc: Global, ground: &Ground, tree: &Tree) -> Result<Bounds, AllocError> {
-        let mut bounds = Bounds::without_ways(alloc, ground, tree)?;
-        let mut ways = bounds.ways(alloc, ground, tree)?;
+    /// Those of a tree.
+    pub fn of(alloc: Global, graph: &MoveGraph, tree: &Tree) -> Result<Bounds, AllocError> {
+        let mut bounds = Bounds::without_ways(alloc, graph, tree)?;
+        let mut ways = bounds.ways(alloc, graph, tree)?;
         ways.sort()?;
         for way in ways {
             bounds.pass(way);
@@ -33,7 +34,7 @@ impl Bounds {
         Ok(bounds)
     }
 
-    // Of a tree without links.
+    /// Those of a tree without links.
     pub fn none(alloc: Global) -> Result<Bounds, AllocError> {
         Bounds::new(alloc, 0)
     }
@@ -49,8 +50,8 @@ impl Bounds {
     }
 
     // The bounds where no way is known but over the tree.
-    fn without_ways(alloc: Global, ground: &Ground, tree: &Tree) -> Result<Bounds, AllocError> {
-        let mut bounds = Bounds::new(alloc, ground.count())?;
+    fn without_ways(alloc: Global, graph: &MoveGraph, tree: &Tree) -> Result<Bounds, AllocError> {
+        let mut bounds = Bounds::new(alloc, graph.count())?;
         for (tail, head) in tree.arcs.as_slice() {
             bounds.ups.put(*head, *tail);
             let depth = bounds.depths.at(*tail).saturating_add(1);
@@ -60,18 +61,18 @@ impl Bounds {
     }
 
     // The ways over one link between what is nearest to one vertex of the tree and to another one.
-    fn ways(&self, alloc: Global, ground: &Ground, tree: &Tree) -> Result<Vec<Way>, AllocError> {
-        let regions = Regions::of(alloc, ground, tree)?;
+    fn ways(&self, alloc: Global, graph: &MoveGraph, tree: &Tree) -> Result<Vec<Way>, AllocError> {
+        let regions = Regions::of(alloc, graph, tree)?;
         let mut ways = Vec::new(alloc);
-        for before in 0..ground.vertices() {
-            self.ways_from(ground, &regions, before + 1, &mut ways)?;
+        for before in 0..graph.vertices() {
+            self.ways_from(graph, &regions, before + 1, &mut ways)?;
         }
         Ok(ways)
     }
 
     fn ways_from(
         &self,
-        ground: &Ground,
+        graph: &MoveGraph,
         regions: &Regions,
         vertex: u32,
         ways: &mut Vec<Way>,
@@ -80,7 +81,7 @@ impl Bounds {
         if base == 0 {
             return Ok(());
         }
-        for half in ground.open_neighbours(vertex) {
+        for half in graph.open_neighbours(vertex) {
             let (more, other) = regions.at(half.to);
             if vertex < half.to && base != other && !self.is_link(vertex, half.to) {
                 let total = cost.saturating_add(half.cost).saturating_add(more);
@@ -131,7 +132,7 @@ impl Bounds {
         here
     }
 
-    // What a way costs at least past the link between two vertices; 0 where the tree had none.
+    /// What a way costs at least past the link between two vertices; 0 where the tree had none.
     pub fn past(&self, a: u32, b: u32) -> u64 {
         if self.ups.at(a) == b {
             self.least.at(a)

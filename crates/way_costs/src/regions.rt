@@ -1,5 +1,5 @@
 use crate::by_vertex::ByVertex;
-use crate::ground::Ground;
+use crate::move_graph::MoveGraph;
 use st_model::Tree;
 use std::alloc::{AllocError, Global};
 use std::cmp::Reverse;
@@ -14,21 +14,21 @@ pub struct Regions {
 }
 
 impl Regions {
-    // (Mehlhorn 1988)
-    pub fn of(alloc: Global, ground: &Ground, tree: &Tree) -> Result<Regions, AllocError> {
+    // Those of a tree (Mehlhorn 1988).
+    pub fn of(alloc: Global, graph: &MoveGraph, tree: &Tree) -> Result<Regions, AllocError> {
         let mut regions = Regions {
             offers: BinaryHeap::new(alloc),
-            marks: ByVertex::new(alloc, ground.count(), (u64::MAX, 0))?,
+            marks: ByVertex::new(alloc, graph.count(), (u64::MAX, 0))?,
         };
         regions.marks.put(tree.start, (0, tree.start));
         for (_, head) in tree.arcs.as_slice() {
             regions.marks.put(*head, (0, *head));
         }
-        regions.expand(ground, tree.start)?;
+        regions.expand(graph, tree.start)?;
         for (_, head) in tree.arcs.as_slice() {
-            regions.expand(ground, *head)?;
+            regions.expand(graph, *head)?;
         }
-        regions.follow(ground)?;
+        regions.follow(graph)?;
         Ok(regions)
     }
 
@@ -36,22 +36,22 @@ impl Regions {
         self.marks.at(vertex)
     }
 
-    fn follow(&mut self, ground: &Ground) -> Result<(), AllocError> {
+    fn follow(&mut self, graph: &MoveGraph) -> Result<(), AllocError> {
         for _offer in 0..u64::MAX {
             let Some(Reverse((cost, vertex))) = self.offers.pop() else {
                 break;
             };
             if cost == self.marks.at(vertex).0 {
-                self.expand(ground, vertex)?;
+                self.expand(graph, vertex)?;
             }
         }
         Ok(())
     }
 
     // Offers the links of a vertex to those round it.
-    fn expand(&mut self, ground: &Ground, vertex: u32) -> Result<(), AllocError> {
+    fn expand(&mut self, graph: &MoveGraph, vertex: u32) -> Result<(), AllocError> {
         let (cost, base) = self.marks.at(vertex);
-        for half in ground.open_neighbours(vertex) {
+        for half in graph.open_neighbours(vertex) {
             let offered = cost.saturating_add(half.cost);
             if offered < self.marks.at(half.to).0 {
                 self.marks.put(half.to, (offered, base));

@@ -1,6 +1,6 @@
 use std::alloc::{AllocError, Global};
 
-// A value for each vertex below a count, and a usual one for all others.
+/// A value for each vertex below a count, and a usual one for all others.
 #[derive(Drop)]
 pub struct ByVertex<T> {
     values: Vec<T>,
@@ -8,7 +8,7 @@ pub struct ByVertex<T> {
 }
 
 impl<T: Copy> ByVertex<T> {
-    // The usual value for each vertex.
+    /// The usual value for each vertex.
     pub fn new(alloc: Global, count: usize, usual: T) -> Result<Self, AllocError> {
         let mut values = Vec::with_capacity(alloc, count)?;
         for _vertex in 0..count {
@@ -17,6 +17,7 @@ impl<T: Copy> ByVertex<T> {
         Ok(ByVertex { values, usual })
     }
 
+    /// The value of a vertex.
     pub fn at(&self, vertex: u32) -> T {
         self.values
             .get(vertex as usize)
@@ -24,7 +25,7 @@ impl<T: Copy> ByVertex<T> {
             .unwrap_or(self.usual)
     }
 
-    // Changes the value of a vertex, if it is below the count.
+    /// Changes the value of a vertex, if it is below the count.
     pub fn put(&mut self, vertex: u32, value: T) {
         if let Some(old) = self.values.get_mut(vertex as usize) {
             *old = value;
