@@ -2,6 +2,7 @@
 use Rattle.std.proofs.Common.{◌≡◌, ℕ, ◌+◌, ◌^◌, ◌<◌, ◌≤◌, ◌⊎◌, inl, inr, min, List, [], length, refl, sym, ap, ◌∙◌, subst, arith}
 use Rattle.std.specs.Prelude.{All, map}
 use Rattle.std.proofs.lemmas.List.{length-append, length-map}
+use Rattle.st_model.specs.declared.branch.Branch.{Branch}
 use Rattle.st_model.specs.declared.tree.Tree.{Tree}
 use Rattle.st_model.specs.Network.{Network, IsInstance}
 use Rattle.st_model.specs.Arborescence.{IsTree, cost}
@@ -15,10 +16,11 @@ use Rattle.log_format.specs.declared.proof_line.ProofLine.{ProofLine}
 use Rattle.log_format.specs.Accepts.{AcceptsFound, left_of, left_over}
 use Rattle.log_format.specs.Preorder.{preorder}
 use Rattle.log_format.specs.Text.{IsWritableFound, IsWritableLine, IsWritablePacking, IsWritableStep}
+use Rattle.log_format.proofs.AllTrees.{left_over-branch}
 use Rattle.search_core.specs.declared.gathered.Gathered.{Gathered}
 use Rattle.search_core.specs.Complete.{AllPackings, IsComplete, IsFinished, done_id, records, standing_ids, waiting}
 use Rattle.search_core.specs.FreeVertices.{free_count}
-use Rattle.search_core.specs.ReadOff.{CompleteCounts, CompleteIsFew, CompleteIsProof, IsReadOff, ProvesItsLeast, least_weight, size}
+use Rattle.search_core.specs.ReadOff.{CompleteCounts, CompleteIsFew, CompleteIsProof, IsReadOff, ProvesItsLeast, SidesAreApart, least_weight, size}
 use Rattle.certificate_log.specs.Assembled.{IsAssembled}
 use Rattle.certificate_log.specs.Bound.{lowest_weight}
 use Rattle.certificate_log.specs.Spent.{IsGreatestOf, IsSpent, light_weights}
@@ -33,11 +35,11 @@ small_sum s t least is_state is_left is_cost =
     omega (arith, is_cost, fits, is_state.amount)
 
 -- the tree that is read off, which has no more lines than there are ids
-pub tree_of : CompleteIsProof → CompleteCounts → (G : Gathered) (I : Network) (gone : List ℕ) (start budget : ℕ) → IsComplete G I gone start budget
+pub tree_of : CompleteIsProof → CompleteCounts → (G : Gathered) (I : Network) (R : Branch) (start budget : ℕ) → SidesAreApart R → IsComplete G I R start budget
     → (p : ProofTree) × IsReadOff G 0 p × (length (preorder p) ≤ length (standing_ids G))
-tree_of is_proof counts G I gone start budget complete =
-    let (p, proves) = is_proof G I gone start budget complete in
-    let c = counts G I gone start budget p complete proves.read in
+tree_of is_proof counts G I R start budget apart complete =
+    let (p, proves) = is_proof G I R start budget complete in
+    let c = counts G I R start budget p apart complete proves.read in
     let all : length (standing_ids G) ≡ length (records G) + length (waiting G) =
     length-append (map done_id (records G)) (map (λ (N : Node). N.id) (waiting G)) ∙ (λ j. length-map (records G) done_id j + length-map (waiting G) (λ (N : Node). N.id) j) in
     (p, proves.read, omega (arith, length-preorder p, c.0, all))
@@ -55,7 +57,7 @@ pub record IsReady (steps : List Step) (first : Network) (s : State) (G : Gather
   pub is_cost : cost first tree ≡ worth s t
   pub writable : AllPackings IsWritablePacking G
   pub lines_are : lines ≡ preorder p
-  pub proves : ProvesItsLeast G s.instance s.gone p
+  pub proves : ProvesItsLeast G s.instance (left_over s) p
   -- the least of the least value and of what the nodes that wait weigh
   pub is_lowest : lowest_weight s.instance G.least (waiting G) ≡ min G.least (least_weight s.instance (left_over s) p)
   pub counts : CompleteCounts
@@ -95,27 +97,30 @@ module _ (steps : List Step) (first : Network) (s : State) (G : Gathered) (t tre
   whole_bound : waiting G ≡ [] → dual ≡ primal
   whole_bound none = ap (λ (Ns : List _). lowest_weight s.instance G.least Ns + s.offset) none
 
+  apart : SidesAreApart (left_over s)
+  apart = (left_over-branch s h.is_state.gone).apart
+
   count : length lines ≡ size p
   count = ap length h.lines_are ∙ length-preorder p
 
-  spent : (start budget : ℕ) → IsComplete G s.instance s.gone start budget → IsFinished G s.instance s.gone start budget → dual < primal → IsSpent budget s.instance (left_over s) G.least lines
+  spent : (start budget : ℕ) → IsComplete G s.instance (left_over s) start budget → IsFinished G s.instance (left_over s) start budget → dual < primal → IsSpent budget s.instance (left_over s) G.least lines
   spent start budget complete finished below = (p, h.lines_are, by_case finished.spent)
     where
       by_case : (waiting G ≡ []) ⊎ (G.claimed ≡ budget) → budget + length (light_weights s.instance (left_over s) G.least p) ≤ length lines
       by_case (inl none) = absurd (omega (arith, whole_bound none, below))
       by_case (inr taken) =
-          let c = h.counts G s.instance s.gone start budget p complete h.proves.read in
+          let c = h.counts G s.instance (left_over s) start budget p apart complete h.proves.read in
           let same = length-light_weights s.instance (left_over s) G.least p in
           omega (arith, c.0, c.1, same, count, taken, complete.claimed)
 
-  enough : (start budget : ℕ) → IsComplete G s.instance s.gone start budget → IsFinished G s.instance s.gone start budget → 2 ^ (free_count s.instance (left_over s) + 1) ≤ budget → dual ≡ primal
+  enough : (start budget : ℕ) → IsComplete G s.instance (left_over s) start budget → IsFinished G s.instance (left_over s) start budget → 2 ^ (free_count s.instance (left_over s) + 1) ≤ budget → dual ≡ primal
   enough start budget complete finished suffices = by_case finished.spent
     where
       by_case : (waiting G ≡ []) ⊎ (G.claimed ≡ budget) → dual ≡ primal
       by_case (inl none) = whole_bound none
       by_case (inr taken) =
-          let c = h.counts G s.instance s.gone start budget p complete h.proves.read in
-          let few = h.few G s.instance s.gone start budget p complete h.proves.read in
+          let c = h.counts G s.instance (left_over s) start budget p apart complete h.proves.read in
+          let few = h.few G s.instance (left_over s) start budget p complete h.proves.read in
           absurd (omega (arith, c.0, few, suffices, taken, complete.claimed))
 
   writable : IsWritableFound primal dual tree steps lines

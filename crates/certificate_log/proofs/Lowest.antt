@@ -5,9 +5,9 @@ use Rattle.std.specs.List.{AllByRecursion, flat_map}
 use Rattle.std.proofs.lemmas.List.Elements.{All-contains, All-contains_itself, All-head, All-tail, All-weaker, Contains-append_cases, Contains-append_left, Contains-append_right, recursion_from_All}
 use Rattle.std.proofs.lemmas.List.{flat_map_more}
 use Rattle.st_model.specs.declared.branch.Branch.{Branch}
-use Rattle.st_model.specs.Branch.{IsBranch, IsVertexSet, with_inside, with_outside}
+use Rattle.st_model.specs.Branch.{IsBranch, with_inside, with_outside}
 use Rattle.st_model.specs.Network.{Network}
-use Rattle.st_model.proofs.Branches.{IsBranch-with_inside, IsBranch-with_outside, IsVertexSet-nil}
+use Rattle.st_model.proofs.Branches.{IsBranch-with_inside, IsBranch-with_outside}
 use Rattle.cut_packing.specs.declared.packing.Packing.{Packing}
 use Rattle.cut_packing.specs.Packing.{weight}
 use Rattle.cut_packing.specs.ProofTree.{IsSplit, ProofTree}
@@ -16,7 +16,7 @@ use Rattle.search_core.specs.declared.done.Done.{Done}
 use Rattle.search_core.specs.declared.done.Done.TheVariants.{Split, Close}
 use Rattle.search_core.specs.declared.gathered.Gathered.{Gathered}
 use Rattle.search_core.specs.declared.gathered.Segment.{Segment}
-use Rattle.search_core.specs.Complete.{IsComplete, IsMade, IsRightNode, IsRightRecord, IsRightSegment, root, inside_of, outside_of, records, waiting, without_gone}
+use Rattle.search_core.specs.Complete.{IsComplete, IsMade, IsRightNode, IsRightRecord, IsRightSegment, root, inside_of, outside_of, records, waiting}
 use Rattle.search_core.specs.ReadOff.{IsReadOff, closed, waits, was_split, least_weight}
 use Rattle.search_core.proofs.Ids.{Among, among, one_branch}
 use Rattle.certificate_log.specs.Bound.{lowest_weight}
@@ -66,45 +66,45 @@ all_of_one P (z ∷ zs) s all (inr later) = all_of_one P zs s (all_right P z.lef
 -- ---- what was gathered
 
 -- a record of all workers is right
-right_record : (I : Network) (gone : List ℕ) (start least : ℕ) (done : List Done) (ss : List Segment) (d : Done) → All (IsRightSegment I gone start least done) ss → Contains (flat_map (λ s. s.done) ss) d
-    → (seen : ℕ) × (least ≤ seen) × IsRightRecord I gone start done seen d
-right_record I gone start least done [] d all there = absurd (among [] d there)
-right_record I gone start least done (s ∷ ss) d all there =
+right_record : (I : Network) (R : Branch) (start least : ℕ) (done : List Done) (ss : List Segment) (d : Done) → All (IsRightSegment I R start least done) ss → Contains (flat_map (λ s. s.done) ss) d
+    → (seen : ℕ) × (least ≤ seen) × IsRightRecord I R start done seen d
+right_record I R start least done [] d all there = absurd (among [] d there)
+right_record I R start least done (s ∷ ss) d all there =
     elim (Contains-append_cases s.done (flat_map (λ s. s.done) ss) d there) [
-      | inl h ↦ (s.seen, (All-head (IsRightSegment I gone start least done) s ss all).seen, All-contains (IsRightRecord I gone start done s.seen) s.done d (All-head (IsRightSegment I gone start least done) s ss all).records h)
-      | inr h ↦ right_record I gone start least done ss d (All-tail (IsRightSegment I gone start least done) s ss all) h
+      | inl h ↦ (s.seen, (All-head (IsRightSegment I R start least done) s ss all).seen, All-contains (IsRightRecord I R start done s.seen) s.done d (All-head (IsRightSegment I R start least done) s ss all).records h)
+      | inr h ↦ right_record I R start least done ss d (All-tail (IsRightSegment I R start least done) s ss all) h
     ]
 
-module _ (G : Gathered) (I : Network) (gone : List ℕ) (start budget : ℕ) (complete : IsComplete G I gone start budget) where
+module _ (G : Gathered) (I : Network) (R : Branch) (start budget : ℕ) (complete : IsComplete G I R start budget) where
   pub once : StandsOnce G
   once id = subst (λ (n : ℕ). n ≤ 1) (sym (complete.once id)) (complete.apart id)
 
   -- the branch of a node that was split can be split there
-  splits : (id v i o : ℕ) (P : Packing) (B : Branch) → Contains (records G) (Split id v i o P) → IsMade gone (records G) id B → IsSplit I B v
+  splits : (id v i o : ℕ) (P : Packing) (B : Branch) → Contains (records G) (Split id v i o P) → IsMade R (records G) id B → IsSplit I B v
   splits id v i o P B there made =
-      let (seen, low, (C, right)) = right_record I gone start G.least (records G) G.segments (Split id v i o P) complete.segments there in
-      subst (λ (D : Branch). IsSplit I D v) (one_branch gone (records G) complete.apart id id C B right.made made refl) right.vertex
+      let (seen, low, (C, right)) = right_record I R start G.least (records G) G.segments (Split id v i o P) complete.segments there in
+      subst (λ (D : Branch). IsSplit I D v) (one_branch R (records G) complete.apart id id C B right.made made refl) right.vertex
 
   -- what was made is a branch
-  made_branch : IsVertexSet I.n gone → (id : ℕ) (B : Branch) → IsMade gone (records G) id B → IsBranch I B
-  made_branch set id B root = record { inside = IsVertexSet-nil I.n; outside = set; apart = λ v h. absurd cc }
-  made_branch set id B (inside_of {id = a} {v} {i} {o} {P} {B = C} there made) =
-      let may = splits a v i o P C there made in IsBranch-with_inside I C v may.vertex may.undecided (made_branch set a C made)
-  made_branch set id B (outside_of {id = a} {v} {i} {o} {P} {B = C} there made) =
-      let may = splits a v i o P C there made in IsBranch-with_outside I C v may.vertex may.undecided (made_branch set a C made)
+  made_branch : IsBranch I R → (id : ℕ) (B : Branch) → IsMade R (records G) id B → IsBranch I B
+  made_branch branch id B root = branch
+  made_branch branch id B (inside_of {id = a} {v} {i} {o} {P} {B = C} there made) =
+      let may = splits a v i o P C there made in IsBranch-with_inside I C v may.vertex may.undecided (made_branch branch a C made)
+  made_branch branch id B (outside_of {id = a} {v} {i} {o} {P} {B = C} there made) =
+      let may = splits a v i o P C there made in IsBranch-with_outside I C v may.vertex may.undecided (made_branch branch a C made)
 
   -- and so is that of each node that waits
-  pub waiting_branches : IsVertexSet I.n gone → All (λ (N : Node). IsBranch I N.branch) (waiting G)
-  waiting_branches set = All-weaker (IsRightNode I gone (records G)) (λ (N : Node). IsBranch I N.branch) (λ N right. made_branch set N.id N.branch right.made) (waiting G) complete.waiting
+  pub waiting_branches : IsBranch I R → All (λ (N : Node). IsBranch I N.branch) (waiting G)
+  waiting_branches branch = All-weaker (IsRightNode I R (records G)) (λ (N : Node). IsBranch I N.branch) (λ N right. made_branch branch N.id N.branch right.made) (waiting G) complete.waiting
 
   module _ (p : ProofTree) (read : IsReadOff G 0 p) where
     -- the tree under an id is a part of the whole, and weighs no less
     record Part (id : ℕ) (B : Branch) : Type 0 where
       tree : ProofTree
       reads : IsReadOff G id tree
-      heavy : least_weight I (without_gone gone) p ≤ least_weight I B tree
+      heavy : least_weight I R p ≤ least_weight I B tree
 
-    part : (id : ℕ) (B : Branch) → IsMade gone (records G) id B → Part id B
+    part : (id : ℕ) (B : Branch) → IsMade R (records G) id B → Part id B
     part id B root = record { tree = p; reads = read; heavy = omega arith }
     part id B (inside_of {id = a} {v} {i} {o} {P} {B = C} there made) =
         let above = part a C made in
@@ -118,22 +118,22 @@ module _ (G : Gathered) (I : Network) (gone : List ℕ) (start budget : ℕ) (co
         record { tree = r.outside; reads = r.reads_outside; heavy = omega (arith, e, above.heavy) }
 
     -- so a node that waits weighs no less than the least close
-    waits_heavy : (N : Node) → Contains (waiting G) N → least_weight I (without_gone gone) p ≤ weight I N.branch N.packing
+    waits_heavy : (N : Node) → Contains (waiting G) N → least_weight I R p ≤ weight I N.branch N.packing
     waits_heavy N there =
-        let here = part N.id N.branch (All-contains (IsRightNode I gone (records G)) (waiting G) N complete.waiting there).made in
+        let here = part N.id N.branch (All-contains (IsRightNode I R (records G)) (waiting G) N complete.waiting there).made in
         let e : least_weight I N.branch here.tree ≡ weight I N.branch N.packing = ap (least_weight I N.branch) (reads_waiting G once N N.id here.tree there refl here.reads) in
         omega (arith, e, here.heavy)
 
     -- and a close weighs no less than the least value or some node that waits
-    closes_heavy : (id : ℕ) (B : Branch) (q : ProofTree) → IsMade gone (records G) id B → IsReadOff G id q → lowest_weight I G.least (waiting G) ≤ least_weight I B q
+    closes_heavy : (id : ℕ) (B : Branch) (q : ProofTree) → IsMade R (records G) id B → IsReadOff G id q → lowest_weight I G.least (waiting G) ≤ least_weight I B q
     closes_heavy id B q made (closed {id = a} {P} there) =
-        let (seen, low, (C, right)) = right_record I gone start G.least (records G) G.segments (Close a P) complete.segments there in
-        let same : C ≡ B = one_branch gone (records G) complete.apart a a C B right.made made refl in
+        let (seen, low, (C, right)) = right_record I R start G.least (records G) G.segments (Close a P) complete.segments there in
+        let same : C ≡ B = one_branch R (records G) complete.apart a a C B right.made made refl in
         let heavy : seen ≤ weight I B P = subst (λ (D : Branch). seen ≤ weight I D P) same right.packing.weighs in
         omega (arith, low, heavy, lowest-top I G.least (waiting G))
     closes_heavy id B q made (waits {N} there) =
-        let right = All-contains (IsRightNode I gone (records G)) (waiting G) N complete.waiting there in
-        let same : N.branch ≡ B = one_branch gone (records G) complete.apart N.id N.id N.branch B right.made made refl in
+        let right = All-contains (IsRightNode I R (records G)) (waiting G) N complete.waiting there in
+        let same : N.branch ≡ B = one_branch R (records G) complete.apart N.id N.id N.branch B right.made made refl in
         subst (λ (D : Branch). lowest_weight I G.least (waiting G) ≤ weight I D N.packing) same (lowest-each I G.least (waiting G) N (among (waiting G) N there))
     closes_heavy id B q made (was_split {id = a} {v} {i} {o} {P} {inside} {outside} there first second) =
         let inner = closes_heavy i (with_inside B v) inside (inside_of there made) first in
@@ -141,12 +141,12 @@ module _ (G : Gathered) (I : Network) (gone : List ℕ) (start budget : ℕ) (co
         omega (arith, inner, outer)
 
     abbrev least : ℕ
-    least = min G.least (least_weight I (without_gone gone) p)
+    least = min G.least (least_weight I R p)
 
-    pub lowest_is : lowest_weight I G.least (waiting G) ≡ min G.least (least_weight I (without_gone gone) p)
+    pub lowest_is : lowest_weight I G.least (waiting G) ≡ min G.least (least_weight I R p)
     lowest_is =
         let below = lowest-top I G.least (waiting G) in
-        let heavy = closes_heavy 0 (without_gone gone) p root read in
+        let heavy = closes_heavy 0 R p root read in
         let above = lowest-from I least G.least (waiting G) (omega arith) (recursion_from_All (λ (N : Node). least ≤ weight I N.branch N.packing) (waiting G)
         (All-weaker (Contains (waiting G)) (λ (N : Node). least ≤ weight I N.branch N.packing) (λ N there. each N there) (waiting G) (All-contains_itself (waiting G)))) in
         omega (arith, below, heavy, above)

@@ -44,8 +44,8 @@ pub record IsAssembled (steps : List Step) (first : Network) (left : State) (G :
   -- where no node waits, the bound is what the tree costs
   pub whole : waiting G ≡ [] → dual ≡ primal
   -- where the bound is less, the proof spent the budget
-  pub spent : (start budget : ℕ) → IsComplete G left.instance left.gone start budget → IsFinished G left.instance left.gone start budget
+  pub spent : (start budget : ℕ) → IsComplete G left.instance (left_over left) start budget → IsFinished G left.instance (left_over left) start budget
       → dual < primal → IsSpent budget left.instance (left_over left) G.least proof
   -- a budget that is sure to suffice
-  pub enough : (start budget : ℕ) → IsComplete G left.instance left.gone start budget → IsFinished G left.instance left.gone start budget
+  pub enough : (start budget : ℕ) → IsComplete G left.instance (left_over left) start budget → IsFinished G left.instance (left_over left) start budget
       → 2 ^ (free_count left.instance (left_over left) + 1) ≤ budget → dual ≡ primal

@@ -3,6 +3,7 @@ ghost use Rattle.st_model.specs.Network.{IsInstance};
 ghost use Rattle.st_model.specs.Arborescence.{cost};
 ghost use Rattle.lift_back.specs.State.{IsTreeOf, whole};
 ghost use Rattle.lift_back.specs.Steps.{Applies};
+ghost use Rattle.log_format.specs.Accepts.{left_over};
 ghost use Rattle.log_format.specs.Text.{IsWritablePacking, IsWritableStep};
 ghost use Rattle.search_core.specs.Complete.{AllPackings, IsComplete};
 ghost use Rattle.certificate_log.specs.Assembled.{IsAssembled};
@@ -32,7 +33,7 @@ pub fn assemble(
     requires tree { IsTreeOf reduced.now.state tree.now }
     requires cost { gathered.now.least ≡ cost reduced.now.state.instance tree.now }
     requires complete { (start : ℕ) × (budget : ℕ)
-        × IsComplete gathered.now reduced.now.state.instance reduced.now.state.gone start budget }
+        × IsComplete gathered.now reduced.now.state.instance (left_over reduced.now.state) start budget }
     requires writable { AllPackings IsWritablePacking gathered.now }
     ensures { IfOk result (IsAssembled steps.items reduced.now.first reduced.now.state gathered.now) }
 {

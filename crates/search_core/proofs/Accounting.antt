@@ -6,6 +6,7 @@ use Rattle.std.proofs.lemmas.Bool.{false≢true}
 use Rattle.std.proofs.lemmas.Bool.Decides.{nat_tests}
 use Rattle.std.proofs.lemmas.List.{map-append}
 use Rattle.std.proofs.lemmas.List.Elements.{All-append, All-contains, All-from_recursion, All-filter, All-map, All-nil, All-weaker, recursion_from_All}
+use Rattle.st_model.specs.declared.branch.Branch.{Branch}
 use Rattle.st_model.specs.Lists.{total}
 use Rattle.st_model.specs.Network.{Network}
 use Rattle.branching.specs.declared.node.Node.{Node}
@@ -156,18 +157,18 @@ claims-went S counted h =
     either place.Closed false e = absurd (false≢true e)
 
 -- a sound record is of a node that was made
-record-right : (I : Network) (gone : List ℕ) (start : ℕ) (nodes : List Node) (done : List Done) (seen : ℕ) → ((N : Node) → Contains nodes N → IsRecordedNode I gone done N) → (d : Done) → IsSoundRecord I start nodes seen d → IsRightRecord I gone start done seen d
-record-right I gone start nodes done seen made (Split id v i o P) (N, h) = (N.branch, record { made = rw (← h.id_is) (made N h.node).made; vertex = h.vertex; packing = h.packing })
-record-right I gone start nodes done seen made (Close id P) (N, h) = (N.branch, record { made = rw (← h.id_is) (made N h.node).made; packing = h.packing })
+record-right : (I : Network) (R : Branch) (start : ℕ) (nodes : List Node) (done : List Done) (seen : ℕ) → ((N : Node) → Contains nodes N → IsRecordedNode I R done N) → (d : Done) → IsSoundRecord I start nodes seen d → IsRightRecord I R start done seen d
+record-right I R start nodes done seen made (Split id v i o P) (N, h) = (N.branch, record { made = rw (← h.id_is) (made N h.node).made; vertex = h.vertex; packing = h.packing })
+record-right I R start nodes done seen made (Close id P) (N, h) = (N.branch, record { made = rw (← h.id_is) (made N h.node).made; packing = h.packing })
 
-segments-right : (I : Network) (gone : List ℕ) (start least : ℕ) (nodes : List Made) (done : List Done) → ((N : Node) → Contains (map (λ m. m.node) nodes) N → IsRecordedNode I gone done N) → (w : ℕ) (xs : List Worker) → All (λ x. IsSoundWork I start least (map (λ m. m.node) nodes) x.seen x.done) xs → All (IsRightSegment I gone start least done) (segments_from nodes w xs)
-segments-right I gone start least nodes done made w xs all = All-from_recursion (IsRightSegment I gone start least done) (segments_from nodes w xs) (by_list w xs (recursion_from_All (λ x. IsSoundWork I start least (map (λ m. m.node) nodes) x.seen x.done) xs all))
+segments-right : (I : Network) (R : Branch) (start least : ℕ) (nodes : List Made) (done : List Done) → ((N : Node) → Contains (map (λ m. m.node) nodes) N → IsRecordedNode I R done N) → (w : ℕ) (xs : List Worker) → All (λ x. IsSoundWork I start least (map (λ m. m.node) nodes) x.seen x.done) xs → All (IsRightSegment I R start least done) (segments_from nodes w xs)
+segments-right I R start least nodes done made w xs all = All-from_recursion (IsRightSegment I R start least done) (segments_from nodes w xs) (by_list w xs (recursion_from_All (λ x. IsSoundWork I start least (map (λ m. m.node) nodes) x.seen x.done) xs all))
   where
-    by_list : (w : ℕ) (xs : List Worker) → AllByRecursion (λ x. IsSoundWork I start least (map (λ m. m.node) nodes) x.seen x.done) xs → AllByRecursion (IsRightSegment I gone start least done) (segments_from nodes w xs)
+    by_list : (w : ℕ) (xs : List Worker) → AllByRecursion (λ x. IsSoundWork I start least (map (λ m. m.node) nodes) x.seen x.done) xs → AllByRecursion (IsRightSegment I R start least done) (segments_from nodes w xs)
     by_list w [] h = tt
     by_list w (x ∷ xs) h = (
       record {
-        records = All-weaker (IsSoundRecord I start (map (λ m. m.node) nodes) x.seen) (IsRightRecord I gone start done x.seen) (record-right I gone start (map (λ m. m.node) nodes) done x.seen made) x.done h.0.records;
+        records = All-weaker (IsSoundRecord I start (map (λ m. m.node) nodes) x.seen) (IsRightRecord I R start done x.seen) (record-right I R start (map (λ m. m.node) nodes) done x.seen made) x.done h.0.records;
         seen = h.0.low;
       },
       by_list (w + 1) xs h.1,
@@ -189,8 +190,8 @@ pub gathered_of : (S : State) → IsKept S → IsGatheredOf S (gathered S)
 gathered_of S kept = record {
   apart = λ id. subst (λ (n : ℕ). n ≤ 1) (kept.recorded.ids id ∙ made_same id) (kept.recorded.apart id);
   once = λ id. standing id ∙ (places-once S kept.recorded id ∙ (kept.recorded.ids id ∙ made_same id));
-  segments = subst (λ (ds : List Done). All (IsRightSegment S.instance S.gone S.start S.least ds) (segments_from S.nodes 0 S.workers)) same (segments-right S.instance S.gone S.start S.least S.nodes (all_done S.workers) made 0 S.workers kept.sound.workers);
-  waiting = subst (λ (ds : List Done). All (IsRightNode S.instance S.gone ds) (waiting (gathered S))) same (waiting-all (IsRightNode S.instance S.gone (all_done S.workers)) S.nodes 0 S.workers right);
+  segments = subst (λ (ds : List Done). All (IsRightSegment S.instance S.branch S.start S.least ds) (segments_from S.nodes 0 S.workers)) same (segments-right S.instance S.branch S.start S.least S.nodes (all_done S.workers) made 0 S.workers kept.sound.workers);
+  waiting = subst (λ (ds : List Done). All (IsRightNode S.instance S.branch ds) (waiting (gathered S))) same (waiting-all (IsRightNode S.instance S.branch (all_done S.workers)) S.nodes 0 S.workers right);
   claimed = ap (λ (ds : List Done). length ds + claimed_in_hands S.nodes) (sym same) ∙ claims-went S kept.counted kept.recorded;
   allowed = kept.sound.claims;
 }
@@ -201,11 +202,11 @@ gathered_of S kept = record {
     made_same : (id : ℕ) → times id (made_ids (all_done S.workers)) ≡ times id (made_ids (records (gathered S)))
     made_same id = ap (λ (ds : List Done). times id (made_ids ds)) same
 
-    made : (N : Node) → Contains (made_nodes S) N → IsRecordedNode S.instance S.gone (all_done S.workers) N
-    made N there = All-contains (IsRecordedNode S.instance S.gone (all_done S.workers)) (made_nodes S) N (All-map (IsRecordedNode S.instance S.gone (all_done S.workers)) (λ (m : Made). m.node) S.nodes kept.recorded.made) there
+    made : (N : Node) → Contains (made_nodes S) N → IsRecordedNode S.instance S.branch (all_done S.workers) N
+    made N there = All-contains (IsRecordedNode S.instance S.branch (all_done S.workers)) (made_nodes S) N (All-map (IsRecordedNode S.instance S.branch (all_done S.workers)) (λ (m : Made). m.node) S.nodes kept.recorded.made) there
 
-    right : All (λ m. IsRightNode S.instance S.gone (all_done S.workers) m.node) S.nodes
-    right = All-weaker (λ m. IsRecordedNode S.instance S.gone (all_done S.workers) m.node × IsNode S.instance m.node) (λ m. IsRightNode S.instance S.gone (all_done S.workers) m.node) (λ m h. record { made = h.0.made; fits = h.1.fits; keeps = h.0.keeps }) S.nodes (All-both (λ m. IsRecordedNode S.instance S.gone (all_done S.workers) m.node) (λ m. IsNode S.instance m.node) S.nodes kept.recorded.made kept.sound.nodes)
+    right : All (λ m. IsRightNode S.instance S.branch (all_done S.workers) m.node) S.nodes
+    right = All-weaker (λ m. IsRecordedNode S.instance S.branch (all_done S.workers) m.node × IsNode S.instance m.node) (λ m. IsRightNode S.instance S.branch (all_done S.workers) m.node) (λ m h. record { made = h.0.made; fits = h.1.fits; keeps = h.0.keeps }) S.nodes (All-both (λ m. IsRecordedNode S.instance S.branch (all_done S.workers) m.node) (λ m. IsNode S.instance m.node) S.nodes kept.recorded.made kept.sound.nodes)
 
     by_parts : (l b r p q : ℕ) → l ≡ r + (p + q) → l + b ≡ r + (p + q) + b
     by_parts l b r p q e = omega arith
@@ -243,7 +244,7 @@ none_in_hand S settled = total-zero (λ m. (is_done m.place ≡ true) ⊎ (is_wa
     by_place _ b h = refl
 
 -- what is gathered of a settled state is complete
-pub settled_complete : (S : State) → IsKept S → IsSettled S → IsComplete (gathered S) S.instance S.gone S.start S.budget
+pub settled_complete : (S : State) → IsKept S → IsSettled S → IsComplete (gathered S) S.instance S.branch S.start S.budget
 settled_complete S kept settled =
     let h = gathered_of S kept in
     record {

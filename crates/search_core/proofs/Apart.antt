@@ -1,7 +1,7 @@
 -- No node stands twice in a tree that is read off: the halves of a split have branches that no node has both of.
 use Rattle.std.proofs.Common.{◌≡◌, ℕ, ◌≤◌, Bool, true, false, not, ◌&&◌, List, ◌++◌, map, refl, sym, ◌∙◌, subst, arith, inl, inr}
 use Rattle.std.specs.Prelude.{◌==◌, Contains, All, ◌⊎◌}
-use Rattle.std.proofs.lemmas.Bool.{or_left, or_right, or_cases, eqb-true, eq-eqb}
+use Rattle.std.proofs.lemmas.Bool.{or_left, or_right, or_cases, eqb-true, eq-eqb, false≢true}
 use Rattle.std.proofs.lemmas.List.Elements.{All-contains, All-weaker}
 use Rattle.st_model.specs.declared.branch.Branch.{Branch}
 use Rattle.st_model.specs.Branch.{is_undecided, with_inside, with_outside, with_vertex}
@@ -16,49 +16,49 @@ use Rattle.search_core.specs.declared.done.Done.{Done}
 use Rattle.search_core.specs.declared.done.Done.TheVariants.{Split, Close}
 use Rattle.search_core.specs.declared.gathered.Gathered.{Gathered}
 use Rattle.search_core.specs.Complete.{IsComplete, IsMade, root, inside_of, outside_of, IsRightRecord, IsRightNode, IsRightSegment, records, waiting, done_id, standing_ids, times}
-use Rattle.search_core.specs.ReadOff.{IsReadOff, closed, waits, was_split}
+use Rattle.search_core.specs.ReadOff.{SidesAreApart, IsReadOff, closed, waits, was_split}
 use Rattle.search_core.proofs.Ids.{one_branch}
 use Rattle.search_core.proofs.Times.{times-cases, times-either, times-single, times-single_le, times-node_le, at_id, All-flat_map}
 use Rattle.search_core.proofs.TreeIds.{ids_of}
 
 -- a record is right, beside what its worker saw
-abbrev pub IsRight : Network → List ℕ → ℕ → Gathered → Done → Type 0
-IsRight I gone start G d = (seen : ℕ) × (G.least ≤ seen) × IsRightRecord I gone start (records G) seen d
+abbrev pub IsRight : Network → Branch → ℕ → Gathered → Done → Type 0
+IsRight I R start G d = (seen : ℕ) × (G.least ≤ seen) × IsRightRecord I R start (records G) seen d
 
-pub right_records : (G : Gathered) (I : Network) (gone : List ℕ) (start budget : ℕ) → IsComplete G I gone start budget → All (IsRight I gone start G) (records G)
-right_records G I gone start budget complete =
-    All-flat_map (IsRight I gone start G) (λ s. s.done) G.segments
-    (All-weaker (IsRightSegment I gone start G.least (records G)) (λ s. All (IsRight I gone start G) s.done)
-    (λ s right. All-weaker (IsRightRecord I gone start (records G) s.seen) (IsRight I gone start G) (λ d is. (s.seen, right.seen, is)) s.done right.records)
+pub right_records : (G : Gathered) (I : Network) (R : Branch) (start budget : ℕ) → IsComplete G I R start budget → All (IsRight I R start G) (records G)
+right_records G I R start budget complete =
+    All-flat_map (IsRight I R start G) (λ s. s.done) G.segments
+    (All-weaker (IsRightSegment I R start G.least (records G)) (λ s. All (IsRight I R start G) s.done)
+    (λ s right. All-weaker (IsRightRecord I R start (records G) s.seen) (IsRight I R start G) (λ d is. (s.seen, right.seen, is)) s.done right.records)
     G.segments complete.segments)
 
 -- a node was made under the id
-abbrev pub WasMade : List ℕ → Gathered → ℕ → Type 0
-WasMade gone G id = (B : Branch) × IsMade gone (records G) id B
+abbrev pub WasMade : Branch → Gathered → ℕ → Type 0
+WasMade R G id = (B : Branch) × IsMade R (records G) id B
 
-right_made : (I : Network) (gone : List ℕ) (start : ℕ) (G : Gathered) (d : Done) → IsRight I gone start G d → WasMade gone G (done_id d)
-right_made I gone start G (Split id v i o P) (seen, low, (B, right)) = (B, right.made)
-right_made I gone start G (Close id P) (seen, low, (B, right)) = (B, right.made)
+right_made : (I : Network) (R : Branch) (start : ℕ) (G : Gathered) (d : Done) → IsRight I R start G d → WasMade R G (done_id d)
+right_made I R start G (Split id v i o P) (seen, low, (B, right)) = (B, right.made)
+right_made I R start G (Close id P) (seen, low, (B, right)) = (B, right.made)
 
 -- who was split or closed or waits was made
-pub standing_made : (G : Gathered) (I : Network) (gone : List ℕ) (start budget : ℕ) → IsComplete G I gone start budget → (x : ℕ) → 1 ≤ times x (standing_ids G) → WasMade gone G x
-standing_made G I gone start budget complete x h =
+pub standing_made : (G : Gathered) (I : Network) (R : Branch) (start budget : ℕ) → IsComplete G I R start budget → (x : ℕ) → 1 ≤ times x (standing_ids G) → WasMade R G x
+standing_made G I R start budget complete x h =
     elim (times-either x (map done_id (records G)) (map (λ (N : Node). N.id) (waiting G)) h) [
-      | inl d ↦ at_id done_id (WasMade gone G) (records G) x (All-weaker (IsRight I gone start G) (λ d. WasMade gone G (done_id d)) (right_made I gone start G) (records G) (right_records G I gone start budget complete)) d
-      | inr N ↦ at_id (λ (N : Node). N.id) (WasMade gone G) (waiting G) x (All-weaker (IsRightNode I gone (records G)) (λ N. WasMade gone G N.id) (λ N right. (N.branch, right.made)) (waiting G) complete.waiting) N
+      | inl d ↦ at_id done_id (WasMade R G) (records G) x (All-weaker (IsRight I R start G) (λ d. WasMade R G (done_id d)) (right_made I R start G) (records G) (right_records G I R start budget complete)) d
+      | inr N ↦ at_id (λ (N : Node). N.id) (WasMade R G) (waiting G) x (All-weaker (IsRightNode I R (records G)) (λ N. WasMade R G N.id) (λ N right. (N.branch, right.made)) (waiting G) complete.waiting) N
     ]
 
 -- a node that was made was split where its branch can be
-pub split_right : (G : Gathered) (I : Network) (gone : List ℕ) (start budget : ℕ) → IsComplete G I gone start budget → (id v i o : ℕ) (P : Packing) (B : Branch) → Contains (records G) (Split id v i o P) → IsMade gone (records G) id B → IsSplit I B v
-split_right G I gone start budget complete id v i o P B there made =
-    let right : IsRight I gone start G (Split id v i o P) = All-contains (IsRight I gone start G) (records G) (Split id v i o P) (right_records G I gone start budget complete) there in
-    subst (λ (C : Branch). IsSplit I C v) (one_branch gone (records G) complete.apart id id right.2.0 B right.2.1.made made refl) right.2.1.vertex
+pub split_right : (G : Gathered) (I : Network) (R : Branch) (start budget : ℕ) → IsComplete G I R start budget → (id v i o : ℕ) (P : Packing) (B : Branch) → Contains (records G) (Split id v i o P) → IsMade R (records G) id B → IsSplit I B v
+split_right G I R start budget complete id v i o P B there made =
+    let right : IsRight I R start G (Split id v i o P) = All-contains (IsRight I R start G) (records G) (Split id v i o P) (right_records G I R start budget complete) there in
+    subst (λ (C : Branch). IsSplit I C v) (one_branch R (records G) complete.apart id id right.2.0 B right.2.1.made made refl) right.2.1.vertex
 
 -- and closed by a packing that weighs the least value at least
-pub close_right : (G : Gathered) (I : Network) (gone : List ℕ) (start budget : ℕ) → IsComplete G I gone start budget → (id : ℕ) (P : Packing) (B : Branch) → Contains (records G) (Close id P) → IsMade gone (records G) id B → G.least ≤ weight I B P
-close_right G I gone start budget complete id P B there made =
-    let right : IsRight I gone start G (Close id P) = All-contains (IsRight I gone start G) (records G) (Close id P) (right_records G I gone start budget complete) there in
-    subst (λ (C : Branch). G.least ≤ weight I C P) (one_branch gone (records G) complete.apart id id right.2.0 B right.2.1.made made refl) (at_least _ _ _ right.1 right.2.1.packing.weighs)
+pub close_right : (G : Gathered) (I : Network) (R : Branch) (start budget : ℕ) → IsComplete G I R start budget → (id : ℕ) (P : Packing) (B : Branch) → Contains (records G) (Close id P) → IsMade R (records G) id B → G.least ≤ weight I B P
+close_right G I R start budget complete id P B there made =
+    let right : IsRight I R start G (Close id P) = All-contains (IsRight I R start G) (records G) (Close id P) (right_records G I R start budget complete) there in
+    subst (λ (C : Branch). G.least ≤ weight I C P) (one_branch R (records G) complete.apart id id right.2.0 B right.2.1.made made refl) (at_least _ _ _ right.1 right.2.1.packing.weighs)
   where
     at_least : (a b c : ℕ) → a ≤ b → b ≤ c → a ≤ c
     at_least a b c h k = omega arith
@@ -87,17 +87,17 @@ with_cases xs v w h =
     ]
 
 -- no vertex is inside and outside of the branch of a node that was made
-pub made_apart : (G : Gathered) (I : Network) (gone : List ℕ) (start budget : ℕ) → IsComplete G I gone start budget → (id : ℕ) (B : Branch) → IsMade gone (records G) id B → (w : ℕ) → has B.inside w ≡ true → has B.outside w ≡ true → ⊥
-made_apart G I gone start budget complete id B root w h k = absurd cc
-made_apart G I gone start budget complete id B (inside_of {id = a} {v} {i} {o} {P} {B = C} c m) w h k =
+pub made_apart : (G : Gathered) (I : Network) (R : Branch) (start budget : ℕ) → SidesAreApart R → IsComplete G I R start budget → (id : ℕ) (B : Branch) → IsMade R (records G) id B → (w : ℕ) → has B.inside w ≡ true → has B.outside w ≡ true → ⊥
+made_apart G I R start budget sides complete id B root w h k = absurd (false≢true (sym (sides w h) ∙ k))
+made_apart G I R start budget sides complete id B (inside_of {id = a} {v} {i} {o} {P} {B = C} c m) w h k =
     elim (with_cases C.inside v w h) [
-      | inl is ↦ not_outside C v (split_right G I gone start budget complete a v i o P C c m).undecided (subst (λ (x : ℕ). has C.outside x ≡ true) (sym is) k)
-      | inr old ↦ made_apart G I gone start budget complete a C m w old k
+      | inl is ↦ not_outside C v (split_right G I R start budget complete a v i o P C c m).undecided (subst (λ (x : ℕ). has C.outside x ≡ true) (sym is) k)
+      | inr old ↦ made_apart G I R start budget sides complete a C m w old k
     ]
-made_apart G I gone start budget complete id B (outside_of {id = a} {v} {i} {o} {P} {B = C} c m) w h k =
+made_apart G I R start budget sides complete id B (outside_of {id = a} {v} {i} {o} {P} {B = C} c m) w h k =
     elim (with_cases C.outside v w k) [
-      | inl is ↦ not_inside C v (split_right G I gone start budget complete a v i o P C c m).undecided (subst (λ (x : ℕ). has C.inside x ≡ true) (sym is) h)
-      | inr old ↦ made_apart G I gone start budget complete a C m w h old
+      | inl is ↦ not_inside C v (split_right G I R start budget complete a v i o P C c m).undecided (subst (λ (x : ℕ). has C.inside x ≡ true) (sym is) h)
+      | inr old ↦ made_apart G I R start budget sides complete a C m w h old
     ]
 
 -- what one branch decides another decides so too
@@ -118,56 +118,56 @@ extends_outside : (B C : Branch) (v : ℕ) → Extends (with_outside B v) C → 
 extends_outside B C v e = record { inside = e.inside; outside = λ w h. e.outside w (with_old B.outside v w h) }
 
 -- a node of a tree was made with a branch that extends that of the tree's root
-abbrev pub IsUnder : List ℕ → Gathered → Branch → ℕ → Type 0
-IsUnder gone G B x = (C : Branch) × IsMade gone (records G) x C × Extends B C
+abbrev pub IsUnder : Branch → Gathered → Branch → ℕ → Type 0
+IsUnder R G B x = (C : Branch) × IsMade R (records G) x C × Extends B C
 
-under_root : (G : Gathered) (gone : List ℕ) (id x : ℕ) (B : Branch) → IsMade gone (records G) id B → id ≡ x → IsUnder gone G B x
-under_root G gone id x B made is = (B, subst (λ (n : ℕ). IsMade gone (records G) n B) is made, record { inside = λ v h. h; outside = λ v h. h })
+under_root : (G : Gathered) (R : Branch) (id x : ℕ) (B : Branch) → IsMade R (records G) id B → id ≡ x → IsUnder R G B x
+under_root G R id x B made is = (B, subst (λ (n : ℕ). IsMade R (records G) n B) is made, record { inside = λ v h. h; outside = λ v h. h })
 
-pub under : (G : Gathered) (gone : List ℕ) (id : ℕ) (p : ProofTree) (read : IsReadOff G id p) (B : Branch) → IsMade gone (records G) id B → (x : ℕ) → 1 ≤ times x (ids_of G id p read) → IsUnder gone G B x
-under G gone id p (closed {id = a} c) B made x h = under_root G gone a x B made (times-single x a h)
-under G gone id p (waits {N} c) B made x h = under_root G gone N.id x B made (times-single x N.id h)
-under G gone id p (was_split {id = a} {v} {i} {o} {P} {inside} {outside} c l r) B made x h =
+pub under : (G : Gathered) (R : Branch) (id : ℕ) (p : ProofTree) (read : IsReadOff G id p) (B : Branch) → IsMade R (records G) id B → (x : ℕ) → 1 ≤ times x (ids_of G id p read) → IsUnder R G B x
+under G R id p (closed {id = a} c) B made x h = under_root G R a x B made (times-single x a h)
+under G R id p (waits {N} c) B made x h = under_root G R N.id x B made (times-single x N.id h)
+under G R id p (was_split {id = a} {v} {i} {o} {P} {inside} {outside} c l r) B made x h =
     elim (times-cases x a (ids_of G i inside l ++ ids_of G o outside r) h) [
-      | inl is ↦ under_root G gone a x B made is
+      | inl is ↦ under_root G R a x B made is
       | inr rest ↦ elim (times-either x (ids_of G i inside l) (ids_of G o outside r) rest) [
-        | inl m ↦ in_inside B v (under G gone i inside l (with_inside B v) (inside_of c made) x m)
-        | inr m ↦ in_outside B v (under G gone o outside r (with_outside B v) (outside_of c made) x m)
+        | inl m ↦ in_inside B v (under G R i inside l (with_inside B v) (inside_of c made) x m)
+        | inr m ↦ in_outside B v (under G R o outside r (with_outside B v) (outside_of c made) x m)
       ]
     ]
   where
-    in_inside : (B : Branch) (v : ℕ) → IsUnder gone G (with_inside B v) x → IsUnder gone G B x
+    in_inside : (B : Branch) (v : ℕ) → IsUnder R G (with_inside B v) x → IsUnder R G B x
     in_inside B v (C, m, e) = (C, m, extends_inside B C v e)
 
-    in_outside : (B : Branch) (v : ℕ) → IsUnder gone G (with_outside B v) x → IsUnder gone G B x
+    in_outside : (B : Branch) (v : ℕ) → IsUnder R G (with_outside B v) x → IsUnder R G B x
     in_outside B v (C, m, e) = (C, m, extends_outside B C v e)
 
 -- no id is under both halves of a split
-halves_apart : (G : Gathered) (I : Network) (gone : List ℕ) (start budget : ℕ) → IsComplete G I gone start budget → (B : Branch) (v x : ℕ) → IsUnder gone G (with_inside B v) x → IsUnder gone G (with_outside B v) x → ⊥
-halves_apart G I gone start budget complete B v x (C, m, e) (D, n, f) =
-    let same = one_branch gone (records G) complete.apart x x C D m n refl in
-    made_apart G I gone start budget complete x D n v (subst (λ (E : Branch). has E.inside v ≡ true) same (e.inside v (with_itself B.inside v))) (f.outside v (with_itself B.outside v))
+halves_apart : (G : Gathered) (I : Network) (R : Branch) (start budget : ℕ) → SidesAreApart R → IsComplete G I R start budget → (B : Branch) (v x : ℕ) → IsUnder R G (with_inside B v) x → IsUnder R G (with_outside B v) x → ⊥
+halves_apart G I R start budget sides complete B v x (C, m, e) (D, n, f) =
+    let same = one_branch R (records G) complete.apart x x C D m n refl in
+    made_apart G I R start budget sides complete x D n v (subst (λ (E : Branch). has E.inside v ≡ true) same (e.inside v (with_itself B.inside v))) (f.outside v (with_itself B.outside v))
 
 -- and the node that was split is under neither
-root_not_inside : (G : Gathered) (I : Network) (gone : List ℕ) (start budget : ℕ) → IsComplete G I gone start budget → (B : Branch) (v a x : ℕ) → IsSplit I B v → IsMade gone (records G) a B → a ≡ x → IsUnder gone G (with_inside B v) x → ⊥
-root_not_inside G I gone start budget complete B v a x may made is (C, m, e) =
-    let same = one_branch gone (records G) complete.apart x a C B m made (sym is) in
+root_not_inside : (G : Gathered) (I : Network) (R : Branch) (start budget : ℕ) → IsComplete G I R start budget → (B : Branch) (v a x : ℕ) → IsSplit I B v → IsMade R (records G) a B → a ≡ x → IsUnder R G (with_inside B v) x → ⊥
+root_not_inside G I R start budget complete B v a x may made is (C, m, e) =
+    let same = one_branch R (records G) complete.apart x a C B m made (sym is) in
     not_inside B v may.undecided (subst (λ (E : Branch). has E.inside v ≡ true) same (e.inside v (with_itself B.inside v)))
 
-root_not_outside : (G : Gathered) (I : Network) (gone : List ℕ) (start budget : ℕ) → IsComplete G I gone start budget → (B : Branch) (v a x : ℕ) → IsSplit I B v → IsMade gone (records G) a B → a ≡ x → IsUnder gone G (with_outside B v) x → ⊥
-root_not_outside G I gone start budget complete B v a x may made is (C, m, e) =
-    let same = one_branch gone (records G) complete.apart x a C B m made (sym is) in
+root_not_outside : (G : Gathered) (I : Network) (R : Branch) (start budget : ℕ) → IsComplete G I R start budget → (B : Branch) (v a x : ℕ) → IsSplit I B v → IsMade R (records G) a B → a ≡ x → IsUnder R G (with_outside B v) x → ⊥
+root_not_outside G I R start budget complete B v a x may made is (C, m, e) =
+    let same = one_branch R (records G) complete.apart x a C B m made (sym is) in
     not_outside B v may.undecided (subst (λ (E : Branch). has E.outside v ≡ true) same (e.outside v (with_itself B.outside v)))
 
 -- no node stands twice in a tree
-pub tree_once : (G : Gathered) (I : Network) (gone : List ℕ) (start budget : ℕ) → IsComplete G I gone start budget → (id : ℕ) (p : ProofTree) (read : IsReadOff G id p) (B : Branch) → IsMade gone (records G) id B → (x : ℕ) → times x (ids_of G id p read) ≤ 1
-tree_once G I gone start budget complete id p (closed {id = a} c) B made x = times-single_le x a
-tree_once G I gone start budget complete id p (waits {N} c) B made x = times-single_le x N.id
-tree_once G I gone start budget complete id p (was_split {id = a} {v} {i} {o} {P} {inside} {outside} c l r) B made x =
-    let may = split_right G I gone start budget complete a v i o P B c made in
+pub tree_once : (G : Gathered) (I : Network) (R : Branch) (start budget : ℕ) → SidesAreApart R → IsComplete G I R start budget → (id : ℕ) (p : ProofTree) (read : IsReadOff G id p) (B : Branch) → IsMade R (records G) id B → (x : ℕ) → times x (ids_of G id p read) ≤ 1
+tree_once G I R start budget sides complete id p (closed {id = a} c) B made x = times-single_le x a
+tree_once G I R start budget sides complete id p (waits {N} c) B made x = times-single_le x N.id
+tree_once G I R start budget sides complete id p (was_split {id = a} {v} {i} {o} {P} {inside} {outside} c l r) B made x =
+    let may = split_right G I R start budget complete a v i o P B c made in
     times-node_le x a (ids_of G i inside l) (ids_of G o outside r)
-    (tree_once G I gone start budget complete i inside l (with_inside B v) (inside_of c made) x)
-    (tree_once G I gone start budget complete o outside r (with_outside B v) (outside_of c made) x)
-    (λ is h. root_not_inside G I gone start budget complete B v a x may made is (under G gone i inside l (with_inside B v) (inside_of c made) x h))
-    (λ is h. root_not_outside G I gone start budget complete B v a x may made is (under G gone o outside r (with_outside B v) (outside_of c made) x h))
-    (λ h k. halves_apart G I gone start budget complete B v x (under G gone i inside l (with_inside B v) (inside_of c made) x h) (under G gone o outside r (with_outside B v) (outside_of c made) x k))
+    (tree_once G I R start budget sides complete i inside l (with_inside B v) (inside_of c made) x)
+    (tree_once G I R start budget sides complete o outside r (with_outside B v) (outside_of c made) x)
+    (λ is h. root_not_inside G I R start budget complete B v a x may made is (under G R i inside l (with_inside B v) (inside_of c made) x h))
+    (λ is h. root_not_outside G I R start budget complete B v a x may made is (under G R o outside r (with_outside B v) (outside_of c made) x h))
+    (λ h k. halves_apart G I R start budget sides complete B v x (under G R i inside l (with_inside B v) (inside_of c made) x h) (under G R o outside r (with_outside B v) (outside_of c made) x k))

@@ -1,5 +1,5 @@
 -- How large a tree is that is read off what is complete: each split leaves one vertex less to split at.
-use Rattle.std.proofs.Common.{◌≡◌, ℕ, suc, ◌+◌, ◌*◌, ◌^◌, ◌<◌, ◌≤◌, Bool, true, false, cond, List, not, ◌&&◌, ◌||◌, zero, refl, sym, ap, ◌∙◌, arith}
+use Rattle.std.proofs.Common.{◌≡◌, ℕ, suc, ◌+◌, ◌*◌, ◌^◌, ◌<◌, ◌≤◌, Bool, true, false, cond, not, ◌&&◌, ◌||◌, zero, refl, sym, ap, ◌∙◌, arith}
 use Rattle.std.specs.Prelude.{◌==◌, IsTrue}
 use Rattle.std.proofs.lemmas.Bool.{and_from, both_ways}
 use Rattle.std.proofs.Math.Nat.{pow-suc}
@@ -11,7 +11,7 @@ use Rattle.st_model.proofs.Sums.{sum_to_same, sum_to-add, sum_to_one}
 use Rattle.st_model.proofs.Halves.{has-with_vertex}
 use Rattle.cut_packing.specs.ProofTree.{ProofTree, IsSplit}
 use Rattle.search_core.specs.declared.gathered.Gathered.{Gathered}
-use Rattle.search_core.specs.Complete.{IsComplete, IsMade, root, inside_of, outside_of, records, without_gone}
+use Rattle.search_core.specs.Complete.{IsComplete, IsMade, root, inside_of, outside_of, records}
 use Rattle.search_core.specs.FreeVertices.{free_count}
 use Rattle.search_core.specs.ReadOff.{CompleteIsFew, IsReadOff, closed, waits, was_split, size}
 use Rattle.search_core.proofs.Apart.{split_right}
@@ -67,17 +67,17 @@ halves_fit k m n a b first second h l =
     let g : 2 ^ k ≡ 2 ^ (n + 1) = ap (λ j. 2 ^ j) second in
     omega (arith, e, f, g, h, l)
 
-few_nodes : (G : Gathered) (I : Network) (gone : List ℕ) (start budget : ℕ) → IsComplete G I gone start budget → (id : ℕ) (p : ProofTree) → IsReadOff G id p → (B : Branch) → IsMade gone (records G) id B → size p + 1 ≤ 2 ^ (free_count I B + 1)
-few_nodes G I gone start budget complete id p (closed c) B made = two_le (free_count I B)
-few_nodes G I gone start budget complete id p (waits c) B made = two_le (free_count I B)
-few_nodes G I gone start budget complete id p (was_split {id = a} {v} {i} {o} {P} {inside} {outside} c l r) B made =
-    let may = split_right G I gone start budget complete a v i o P B c made in
+few_nodes : (G : Gathered) (I : Network) (R : Branch) (start budget : ℕ) → IsComplete G I R start budget → (id : ℕ) (p : ProofTree) → IsReadOff G id p → (B : Branch) → IsMade R (records G) id B → size p + 1 ≤ 2 ^ (free_count I B + 1)
+few_nodes G I R start budget complete id p (closed c) B made = two_le (free_count I B)
+few_nodes G I R start budget complete id p (waits c) B made = two_le (free_count I B)
+few_nodes G I R start budget complete id p (was_split {id = a} {v} {i} {o} {P} {inside} {outside} c l r) B made =
+    let may = split_right G I R start budget complete a v i o P B c made in
     halves_fit (free_count I B) (free_count I (with_inside B v)) (free_count I (with_outside B v)) (size inside) (size outside) (less_inside I B v may) (less_outside I B v may)
-    (few_nodes G I gone start budget complete i inside l (with_inside B v) (inside_of c made))
-    (few_nodes G I gone start budget complete o outside r (with_outside B v) (outside_of c made))
+    (few_nodes G I R start budget complete i inside l (with_inside B v) (inside_of c made))
+    (few_nodes G I R start budget complete o outside r (with_outside B v) (outside_of c made))
 
 pub few_lem : CompleteIsFew
-few_lem G I gone start budget p complete read = below _ _ (few_nodes G I gone start budget complete 0 p read (without_gone gone) root)
+few_lem G I R start budget p complete read = below _ _ (few_nodes G I R start budget complete 0 p read R root)
   where
     below : (a b : ℕ) → a + 1 ≤ b → a < b
     below a b h = omega arith

@@ -116,44 +116,44 @@ twins_apart done id v i o P apart there is = too_many _ (halves_once done o apar
     too_many a h k l = omega arith
 
 -- under one id one branch was made
-pub one_branch : (gone : List ℕ) (done : List Done) → AreApart done → (a b : ℕ) (B C : Branch) → IsMade gone done a B → IsMade gone done b C → a ≡ b → B ≡ C
-one_branch gone done apart a b B C root root e = refl
-one_branch gone done apart a b B C root (inside_of {id} {v} {i} {o} {P} c m) e = absurd (zero_apart done (Split id v i o P) i apart c (inside_times id v i o P) e)
-one_branch gone done apart a b B C root (outside_of {id} {v} {i} {o} {P} c m) e = absurd (zero_apart done (Split id v i o P) o apart c (outside_times id v i o P) e)
-one_branch gone done apart a b B C (inside_of {id} {v} {i} {o} {P} c m) root e = absurd (zero_apart done (Split id v i o P) i apart c (inside_times id v i o P) (sym e))
-one_branch gone done apart a b B C (outside_of {id} {v} {i} {o} {P} c m) root e = absurd (zero_apart done (Split id v i o P) o apart c (outside_times id v i o P) (sym e))
-one_branch gone done apart a b B C (inside_of {id} {v} {i} {o} {P} {B = B'} c m) (inside_of {id = id'} {v = v'} {i = i'} {o = o'} {P = P'} {B = C'} c' m') e =
+pub one_branch : (R : Branch) (done : List Done) → AreApart done → (a b : ℕ) (B C : Branch) → IsMade R done a B → IsMade R done b C → a ≡ b → B ≡ C
+one_branch R done apart a b B C root root e = refl
+one_branch R done apart a b B C root (inside_of {id} {v} {i} {o} {P} c m) e = absurd (zero_apart done (Split id v i o P) i apart c (inside_times id v i o P) e)
+one_branch R done apart a b B C root (outside_of {id} {v} {i} {o} {P} c m) e = absurd (zero_apart done (Split id v i o P) o apart c (outside_times id v i o P) e)
+one_branch R done apart a b B C (inside_of {id} {v} {i} {o} {P} c m) root e = absurd (zero_apart done (Split id v i o P) i apart c (inside_times id v i o P) (sym e))
+one_branch R done apart a b B C (outside_of {id} {v} {i} {o} {P} c m) root e = absurd (zero_apart done (Split id v i o P) o apart c (outside_times id v i o P) (sym e))
+one_branch R done apart a b B C (inside_of {id} {v} {i} {o} {P} {B = B'} c m) (inside_of {id = id'} {v = v'} {i = i'} {o = o'} {P = P'} {B = C'} c' m') e =
     let same : Split id v i o P ≡ Split id' v' i' o' P' = same_record done (Split id v i o P) (Split id' v' i' o' P') i (halves_once done i apart) (among done _ c) (among done _ c') (inside_times id v i o P) (subst (λ (n : ℕ). 1 ≤ times n (half_ids (Split id' v' i' o' P'))) (sym e) (inside_times id' v' i' o' P')) in
     let ids : id ≡ id' = cc in
     let vertices : v ≡ v' = cc in
-    let branches = one_branch gone done apart id id' B' C' m m' ids in
+    let branches = one_branch R done apart id id' B' C' m m' ids in
     rw (branches, vertices) refl
-one_branch gone done apart a b B C (outside_of {id} {v} {i} {o} {P} {B = B'} c m) (outside_of {id = id'} {v = v'} {i = i'} {o = o'} {P = P'} {B = C'} c' m') e =
+one_branch R done apart a b B C (outside_of {id} {v} {i} {o} {P} {B = B'} c m) (outside_of {id = id'} {v = v'} {i = i'} {o = o'} {P = P'} {B = C'} c' m') e =
     let same : Split id v i o P ≡ Split id' v' i' o' P' = same_record done (Split id v i o P) (Split id' v' i' o' P') o (halves_once done o apart) (among done _ c) (among done _ c') (outside_times id v i o P) (subst (λ (n : ℕ). 1 ≤ times n (half_ids (Split id' v' i' o' P'))) (sym e) (outside_times id' v' i' o' P')) in
     let ids : id ≡ id' = cc in
     let vertices : v ≡ v' = cc in
-    let branches = one_branch gone done apart id id' B' C' m m' ids in
+    let branches = one_branch R done apart id id' B' C' m m' ids in
     rw (branches, vertices) refl
-one_branch gone done apart a b B C (inside_of {id} {v} {i} {o} {P} {B = B'} c m) (outside_of {id = id'} {v = v'} {i = i'} {o = o'} {P = P'} {B = C'} c' m') e =
+one_branch R done apart a b B C (inside_of {id} {v} {i} {o} {P} {B = B'} c m) (outside_of {id = id'} {v = v'} {i = i'} {o = o'} {P = P'} {B = C'} c' m') e =
     let same : Split id v i o P ≡ Split id' v' i' o' P' = same_record done (Split id v i o P) (Split id' v' i' o' P') i (halves_once done i apart) (among done _ c) (among done _ c') (inside_times id v i o P) (subst (λ (n : ℕ). 1 ≤ times n (half_ids (Split id' v' i' o' P'))) (sym e) (outside_times id' v' i' o' P')) in
     let insides : i ≡ i' = cc in
     absurd (twins_apart done id' v' i' o' P' apart c' (sym insides ∙ e))
-one_branch gone done apart a b B C (outside_of {id} {v} {i} {o} {P} {B = B'} c m) (inside_of {id = id'} {v = v'} {i = i'} {o = o'} {P = P'} {B = C'} c' m') e =
+one_branch R done apart a b B C (outside_of {id} {v} {i} {o} {P} {B = B'} c m) (inside_of {id = id'} {v = v'} {i = i'} {o = o'} {P = P'} {B = C'} c' m') e =
     let same : Split id v i o P ≡ Split id' v' i' o' P' = same_record done (Split id v i o P) (Split id' v' i' o' P') o (halves_once done o apart) (among done _ c) (among done _ c') (outside_times id v i o P) (subst (λ (n : ℕ). 1 ≤ times n (half_ids (Split id' v' i' o' P'))) (sym e) (inside_times id' v' i' o' P')) in
     let insides : i ≡ i' = cc in
     absurd (twins_apart done id v i o P apart c (insides ∙ sym e))
 
 -- what was made stands among the ids that were
-pub made_times : (gone : List ℕ) (done : List Done) (id : ℕ) (B : Branch) → IsMade gone done id B → 1 ≤ times id (made_ids done)
-made_times gone done id B root = at_first (times 0 (flat_map half_ids done))
+pub made_times : (R : Branch) (done : List Done) (id : ℕ) (B : Branch) → IsMade R done id B → 1 ≤ times id (made_ids done)
+made_times R done id B root = at_first (times 0 (flat_map half_ids done))
   where
     at_first : (n : ℕ) → 1 ≤ 1 + n
     at_first n = omega arith
-made_times gone done id B (inside_of {id = a} {v} {i} {o} {P} c m) = later _ _ _ (inside_times a v i o P) (half_times done (Split a v i o P) i (among done _ c))
+made_times R done id B (inside_of {id = a} {v} {i} {o} {P} c m) = later _ _ _ (inside_times a v i o P) (half_times done (Split a v i o P) i (among done _ c))
   where
     later : (a b c : ℕ) → 1 ≤ a → a ≤ b → 1 ≤ c + b
     later a b c h k = omega arith
-made_times gone done id B (outside_of {id = a} {v} {i} {o} {P} c m) = later _ _ _ (outside_times a v i o P) (half_times done (Split a v i o P) o (among done _ c))
+made_times R done id B (outside_of {id = a} {v} {i} {o} {P} c m) = later _ _ _ (outside_times a v i o P) (half_times done (Split a v i o P) o (among done _ c))
   where
     later : (a b c : ℕ) → 1 ≤ a → a ≤ b → 1 ≤ c + b
     later a b c h k = omega arith

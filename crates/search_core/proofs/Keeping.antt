@@ -1,5 +1,6 @@
 -- Each event keeps what a state keeps.
 use Rattle.std.proofs.Common.{◌≡◌, ℕ, true, false, List, refl}
+use Rattle.st_model.specs.declared.branch.Branch.{Branch}
 use Rattle.branching.specs.Node.{IsNode}
 use Rattle.st_model.specs.Network.{Network}
 use Rattle.search_core.specs.declared.done.End.{End}
@@ -18,12 +19,12 @@ use Rattle.search_core.proofs.Recording.{recorded_after, recorded_beginning, rec
 pub kept_after : (S : State) (e : Event) → IsKept S → IsAllowed S e → IsKept (after S e)
 kept_after S e kept allowed = record { sound = sound_after S e kept.sound allowed; counted = counted_after S e kept.counted allowed; recorded = recorded_after S e kept.sound kept.counted kept.recorded allowed }
 
-pub kept_beginning : (I : Network) (gone : List ℕ) (workers budget start : ℕ) → IsNode I (root_of gone) → IsKept (beginning I gone workers budget start)
-kept_beginning I gone workers budget start root = record { sound = sound_beginning I gone workers budget start root; counted = counted_beginning I gone workers budget start; recorded = recorded_beginning I gone workers budget start }
+pub kept_beginning : (I : Network) (R : Branch) (workers budget start : ℕ) → IsNode I (root_of R) → IsKept (beginning I R workers budget start)
+kept_beginning I R workers budget start root = record { sound = sound_beginning I R workers budget start root; counted = counted_beginning I R workers budget start; recorded = recorded_beginning I R workers budget start }
 
 -- the same where the parts are known by equations
-pub kept_begun : (I : Network) (gone : List ℕ) (count budget start : ℕ) (I' : Network) (gone' : List ℕ) (nodes : List Made) (workers : List Worker) → IsNode I (root_of gone) → I' ≡ I → gone' ≡ gone → nodes ≡ (beginning I gone count budget start).nodes → workers ≡ (beginning I gone count budget start).workers → IsKept (record { instance = I'; gone = gone'; start = start; budget = budget; nodes = nodes; workers = workers; least = start; claims = 0; opened = 1; halted = false })
-kept_begun I gone count budget start I' gone' nodes workers root a b d e = rw (a, b, d, e) (kept_beginning I gone count budget start root)
+pub kept_begun : (I : Network) (R : Branch) (count budget start : ℕ) (I' : Network) (R' : Branch) (nodes : List Made) (workers : List Worker) → IsNode I (root_of R) → I' ≡ I → R' ≡ R → nodes ≡ (beginning I R count budget start).nodes → workers ≡ (beginning I R count budget start).workers → IsKept (record { instance = I'; branch = R'; start = start; budget = budget; nodes = nodes; workers = workers; least = start; claims = 0; opened = 1; halted = false })
+kept_begun I R count budget start I' R' nodes workers root a b d e = rw (a, b, d, e) (kept_beginning I R count budget start root)
 
 -- the end of a worker
 pub kept_ended : (S : State) (w : ℕ) (why : End) → IsKept S → IsKept (ended S w why)

@@ -18,22 +18,22 @@ use Rattle.search_core.specs.State.{changed_at}
 abbrev pub AreMoreRecords : List Done → List Done → Type 0
 AreMoreRecords done more = (d : Done) → Contains done d → Contains more d
 
-pub made-more : (gone : List ℕ) (done more : List Done) → AreMoreRecords done more → (id : ℕ) (B : Branch) → IsMade gone done id B → IsMade gone more id B
-made-more gone done more grown id B root = root
-made-more gone done more grown id B (inside_of {id = a} {B = C} c m) = inside_of (grown _ c) (made-more gone done more grown a C m)
-made-more gone done more grown id B (outside_of {id = a} {B = C} c m) = outside_of (grown _ c) (made-more gone done more grown a C m)
+pub made-more : (R : Branch) (done more : List Done) → AreMoreRecords done more → (id : ℕ) (B : Branch) → IsMade R done id B → IsMade R more id B
+made-more R done more grown id B root = root
+made-more R done more grown id B (inside_of {id = a} {B = C} c m) = inside_of (grown _ c) (made-more R done more grown a C m)
+made-more R done more grown id B (outside_of {id = a} {B = C} c m) = outside_of (grown _ c) (made-more R done more grown a C m)
 
 half-more : (done more : List Done) → AreMoreRecords done more → (id : ℕ) (P : Packing) (half : ℕ) → IsHalf done id P half → IsHalf more id P half
 half-more done more grown id P half (inside c) = inside (grown _ c)
 half-more done more grown id P half (outside c) = outside (grown _ c)
 
-keeps-more : (I : Network) (gone : List ℕ) (done more : List Done) → AreMoreRecords done more → (N : Node) → KeepsWeight I gone done N → KeepsWeight I gone more N
-keeps-more I gone done more grown N (inl first) = inl first
-keeps-more I gone done more grown N (inr (id, P, B, h)) =
-    inr (id, P, B, record { half = half-more done more grown id P N.id h.half; made = made-more gone done more grown id B h.made; weight = h.weight })
+keeps-more : (I : Network) (R : Branch) (done more : List Done) → AreMoreRecords done more → (N : Node) → KeepsWeight I R done N → KeepsWeight I R more N
+keeps-more I R done more grown N (inl first) = inl first
+keeps-more I R done more grown N (inr (id, P, B, h)) =
+    inr (id, P, B, record { half = half-more done more grown id P N.id h.half; made = made-more R done more grown id B h.made; weight = h.weight })
 
-pub node-more : (I : Network) (gone : List ℕ) (done more : List Done) → AreMoreRecords done more → (N : Node) → IsRecordedNode I gone done N → IsRecordedNode I gone more N
-node-more I gone done more grown N h = record { made = made-more gone done more grown N.id N.branch h.made; keeps = keeps-more I gone done more grown N h.keeps }
+pub node-more : (I : Network) (R : Branch) (done more : List Done) → AreMoreRecords done more → (N : Node) → IsRecordedNode I R done N → IsRecordedNode I R more N
+node-more I R done more grown N h = record { made = made-more R done more grown N.id N.branch h.made; keeps = keeps-more I R done more grown N h.keeps }
 
 -- no worker joins or goes
 pub length-changed : {X : Type 0} (xs : List X) (k : ℕ) (f : X → X) → length (changed_at xs k f) ≡ length xs

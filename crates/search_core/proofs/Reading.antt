@@ -17,7 +17,7 @@ use Rattle.search_core.specs.declared.done.Done.{Done}
 use Rattle.search_core.specs.declared.done.Done.TheVariants.{Split, Close}
 use Rattle.search_core.specs.declared.gathered.Gathered.{Gathered}
 use Rattle.search_core.specs.declared.gathered.Segment.{Segment}
-use Rattle.search_core.specs.Complete.{IsComplete, IsMade, root, inside_of, outside_of, IsRightRecord, IsRightNode, IsRightSegment, records, waiting, done_id, times, without_gone}
+use Rattle.search_core.specs.Complete.{IsComplete, IsMade, root, inside_of, outside_of, IsRightRecord, IsRightNode, IsRightSegment, records, waiting, done_id, times}
 use Rattle.search_core.specs.ReadOff.{CompleteBounds, CompleteIsProof, IsReadOff, closed, waits, was_split, least_weight}
 use Rattle.cut_packing.proofs.Duality.{proof_tree_bounds_lem}
 use Rattle.search_core.proofs.Ids.{one_branch, made_times, times-append}
@@ -118,15 +118,15 @@ id_there {X} f (x ∷ xs) id h = by_case (f x == id) refl h (id_there f xs id)
     by_case false is h rest = later (rest (rest_of _ h))
 
 -- a record of all workers is right
-right_record : (I : Network) (gone : List ℕ) (start least : ℕ) (done : List Done) (ss : List Segment) (d : Done) → All (IsRightSegment I gone start least done) ss → Contains (flat_map (λ s. s.done) ss) d → (seen : ℕ) × (least ≤ seen) × IsRightRecord I gone start done seen d
-right_record I gone start least done [] d all (k, below, is) = absurd (none k below)
+right_record : (I : Network) (R : Branch) (start least : ℕ) (done : List Done) (ss : List Segment) (d : Done) → All (IsRightSegment I R start least done) ss → Contains (flat_map (λ s. s.done) ss) d → (seen : ℕ) × (least ≤ seen) × IsRightRecord I R start done seen d
+right_record I R start least done [] d all (k, below, is) = absurd (none k below)
   where
     none : (k : ℕ) → k < 0 → ⊥
     none k h = omega arith
-right_record I gone start least done (s ∷ ss) d all there =
+right_record I R start least done (s ∷ ss) d all there =
     elim (Contains-append_cases s.done (flat_map (λ s. s.done) ss) d there) [
-      | inl h ↦ (s.seen, (All-head (IsRightSegment I gone start least done) s ss all).seen, All-contains (IsRightRecord I gone start done s.seen) s.done d (All-head (IsRightSegment I gone start least done) s ss all).records h)
-      | inr h ↦ right_record I gone start least done ss d (All-tail (IsRightSegment I gone start least done) s ss all) h
+      | inl h ↦ (s.seen, (All-head (IsRightSegment I R start least done) s ss all).seen, All-contains (IsRightRecord I R start done s.seen) s.done d (All-head (IsRightSegment I R start least done) s ss all).records h)
+      | inr h ↦ right_record I R start least done ss d (All-tail (IsRightSegment I R start least done) s ss all) h
     ]
 
 -- a tree that is read off under an id, and proves the least weight of its closes for a branch
@@ -181,31 +181,31 @@ read_split G I id a v i o B P there is may (p, inside) (q, outside) = (
     right_min a b = omega arith
 
 -- the node of a record that was made, where what decides more has a tree
-read_record : (G : Gathered) (I : Network) (gone : List ℕ) (start budget : ℕ) → IsComplete G I gone start budget → (fuel id : ℕ) (B : Branch) → IsMade gone (records G) id B → free I B < suc fuel → ((j : ℕ) (C : Branch) → IsMade gone (records G) j C → free I C < fuel → (p : ProofTree) × Read G I j C p) → (d : Done) → Contains (records G) d → done_id d ≡ id → (seen : ℕ) × (G.least ≤ seen) × IsRightRecord I gone start (records G) seen d → (p : ProofTree) × Read G I id B p
-read_record G I gone start budget complete fuel id B made low go (Split a v i o P) there is (seen, low_seen, (C, right)) =
-    let same = one_branch gone (records G) complete.apart a id C B right.made made is in
+read_record : (G : Gathered) (I : Network) (R : Branch) (start budget : ℕ) → IsComplete G I R start budget → (fuel id : ℕ) (B : Branch) → IsMade R (records G) id B → free I B < suc fuel → ((j : ℕ) (C : Branch) → IsMade R (records G) j C → free I C < fuel → (p : ProofTree) × Read G I j C p) → (d : Done) → Contains (records G) d → done_id d ≡ id → (seen : ℕ) × (G.least ≤ seen) × IsRightRecord I R start (records G) seen d → (p : ProofTree) × Read G I id B p
+read_record G I R start budget complete fuel id B made low go (Split a v i o P) there is (seen, low_seen, (C, right)) =
+    let same = one_branch R (records G) complete.apart a id C B right.made made is in
     let may : IsSplit I B v = subst (λ (D : Branch). IsSplit I D v) same right.vertex in
-    let mine : IsMade gone (records G) a B = subst (λ (D : Branch). IsMade gone (records G) a D) same right.made in
+    let mine : IsMade R (records G) a B = subst (λ (D : Branch). IsMade R (records G) a D) same right.made in
     read_split G I id a v i o B P there is may (go i (with_inside B v) (inside_of there mine) (less _ _ fuel (free-inside I B v may) low)) (go o (with_outside B v) (outside_of there mine) (less _ _ fuel (free-outside I B v may) low))
   where
     less : (a b c : ℕ) → a + 1 ≤ b → b < suc c → a < c
     less a b c h k = omega arith
-read_record G I gone start budget complete fuel id B made low go (Close a P) there is (seen, low_seen, (C, right)) =
-    read_close G I id a B C P there is (one_branch gone (records G) complete.apart a id C B right.made made is) right.packing.fits (at_least _ _ _ low_seen right.packing.weighs)
+read_record G I R start budget complete fuel id B made low go (Close a P) there is (seen, low_seen, (C, right)) =
+    read_close G I id a B C P there is (one_branch R (records G) complete.apart a id C B right.made made is) right.packing.fits (at_least _ _ _ low_seen right.packing.weighs)
   where
     at_least : (a b c : ℕ) → a ≤ b → b ≤ c → a ≤ c
     at_least a b c h k = omega arith
 
 -- a node that waits and was made
-read_waiting : (G : Gathered) (I : Network) (gone : List ℕ) (start budget : ℕ) → IsComplete G I gone start budget → (id : ℕ) (B : Branch) → IsMade gone (records G) id B → (N : Node) × Contains (waiting G) N × (N.id ≡ id) → (p : ProofTree) × Read G I id B p
-read_waiting G I gone start budget complete id B made (N, there, is) =
-    let right = All-contains (IsRightNode I gone (records G)) (waiting G) N complete.waiting there in
-    read_node G I id B N there is (one_branch gone (records G) complete.apart N.id id N.branch B right.made made is) right.fits
+read_waiting : (G : Gathered) (I : Network) (R : Branch) (start budget : ℕ) → IsComplete G I R start budget → (id : ℕ) (B : Branch) → IsMade R (records G) id B → (N : Node) × Contains (waiting G) N × (N.id ≡ id) → (p : ProofTree) × Read G I id B p
+read_waiting G I R start budget complete id B made (N, there, is) =
+    let right = All-contains (IsRightNode I R (records G)) (waiting G) N complete.waiting there in
+    read_node G I id B N there is (one_branch R (records G) complete.apart N.id id N.branch B right.made made is) right.fits
 
 -- where an id that was made stands
-stands_where : (G : Gathered) (I : Network) (gone : List ℕ) (start budget : ℕ) → IsComplete G I gone start budget → (id : ℕ) (B : Branch) → IsMade gone (records G) id B → ((d : Done) × Contains (records G) d × (done_id d ≡ id)) ⊎ ((N : Node) × Contains (waiting G) N × (N.id ≡ id))
-stands_where G I gone start budget complete id B made =
-    elim (one_of_both _ _ (subst (λ (n : ℕ). 1 ≤ n) (sym (complete.once id) ∙ times-append id (map done_id (records G)) (map (λ (N : Node). N.id) (waiting G))) (made_times gone (records G) id B made))) [
+stands_where : (G : Gathered) (I : Network) (R : Branch) (start budget : ℕ) → IsComplete G I R start budget → (id : ℕ) (B : Branch) → IsMade R (records G) id B → ((d : Done) × Contains (records G) d × (done_id d ≡ id)) ⊎ ((N : Node) × Contains (waiting G) N × (N.id ≡ id))
+stands_where G I R start budget complete id B made =
+    elim (one_of_both _ _ (subst (λ (n : ℕ). 1 ≤ n) (sym (complete.once id) ∙ times-append id (map done_id (records G)) (map (λ (N : Node). N.id) (waiting G))) (made_times R (records G) id B made))) [
       | inl h ↦ inl (id_there done_id (records G) id h)
       | inr h ↦ inr (id_there (λ (N : Node). N.id) (waiting G) id h)
     ]
@@ -215,23 +215,23 @@ stands_where G I gone start budget complete id B made =
     one_of_both (suc a) b h = inl (omega arith)
 
 -- each node that was made has a tree
-read_off : (G : Gathered) (I : Network) (gone : List ℕ) (start budget : ℕ) → IsComplete G I gone start budget → (fuel id : ℕ) (B : Branch) → IsMade gone (records G) id B → free I B < fuel → (p : ProofTree) × Read G I id B p
-read_off G I gone start budget complete zero id B made low = absurd (none (free I B) low)
+read_off : (G : Gathered) (I : Network) (R : Branch) (start budget : ℕ) → IsComplete G I R start budget → (fuel id : ℕ) (B : Branch) → IsMade R (records G) id B → free I B < fuel → (p : ProofTree) × Read G I id B p
+read_off G I R start budget complete zero id B made low = absurd (none (free I B) low)
   where
     none : (k : ℕ) → k < 0 → ⊥
     none k h = omega arith
-read_off G I gone start budget complete (suc fuel) id B made low =
-    elim (stands_where G I gone start budget complete id B made) [
-      | inl d ↦ read_record G I gone start budget complete fuel id B made low (λ j C m l. read_off G I gone start budget complete fuel j C m l) d.0 d.1 d.2 (right_record I gone start G.least (records G) G.segments d.0 complete.segments d.1)
-      | inr N ↦ read_waiting G I gone start budget complete id B made N
+read_off G I R start budget complete (suc fuel) id B made low =
+    elim (stands_where G I R start budget complete id B made) [
+      | inl d ↦ read_record G I R start budget complete fuel id B made low (λ j C m l. read_off G I R start budget complete fuel j C m l) d.0 d.1 d.2 (right_record I R start G.least (records G) G.segments d.0 complete.segments d.1)
+      | inr N ↦ read_waiting G I R start budget complete id B made N
     ]
 
 pub complete_lem : CompleteIsProof
-complete_lem G I gone start budget complete =
-    let read = read_off G I gone start budget complete (free I (without_gone gone) + 1) 0 (without_gone gone) root (omega arith) in
+complete_lem G I R start budget complete =
+    let read = read_off G I R start budget complete (free I R + 1) 0 R root (omega arith) in
     (read.0, record { read = read.1.read; proves = read.1.proves })
 
 pub bounds_lem : CompleteBounds
-bounds_lem G I gone start budget t complete none tree belongs =
-    let read = read_off G I gone start budget complete (free I (without_gone gone) + 1) 0 (without_gone gone) root (omega arith) in
-    proof_tree_bounds_lem I (without_gone gone) G.least read.0 t (proves-lower I (without_gone gone) G.least (least_weight I (without_gone gone) read.0) read.0 (read.1.least none) read.1.proves) tree belongs
+bounds_lem G I R start budget t complete none tree belongs =
+    let read = read_off G I R start budget complete (free I R + 1) 0 R root (omega arith) in
+    proof_tree_bounds_lem I R G.least read.0 t (proves-lower I R G.least (least_weight I R read.0) read.0 (read.1.least none) read.1.proves) tree belongs

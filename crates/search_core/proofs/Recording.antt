@@ -6,6 +6,7 @@ use Rattle.std.proofs.lemmas.Bool.{false≢true}
 use Rattle.std.proofs.lemmas.Bool.Decides.{nat_tests}
 use Rattle.std.proofs.lemmas.List.{append-nil}
 use Rattle.std.proofs.lemmas.List.Elements.{All-append, All-from_recursion, All-nil, All-weaker}
+use Rattle.st_model.specs.declared.branch.Branch.{Branch}
 use Rattle.st_model.specs.Lists.{total}
 use Rattle.st_model.specs.Network.{Network}
 use Rattle.st_model.proofs.Sums.{total-append}
@@ -55,9 +56,9 @@ ids-with_made j nodes id f same =
     times-node_ids j (with_made nodes id f) ∙ (total-with_made_same (λ m. cond (m.node.id == j) 1 0) nodes id f (λ m. ap (λ (N : Node). cond (N.id == j) 1 0) (same m)) ∙ sym (times-node_ids j nodes))
 
 -- a node goes from place to place, and is as done as it was
-recorded_moved : (I : Network) (gone : List ℕ) (count : ℕ) (nodes : List Made) (done : List Done) (id : ℕ) (m : Made) (f : Made → Made) → find (has_id id) nodes ≡ Some m → ((m : Made) → (f m).node ≡ m.node) → is_done (f m).place ≡ is_done m.place → IsOfWorker count (f m).place → AreRecorded I gone count nodes done → AreRecorded I gone count (with_made nodes id f) done
-recorded_moved I gone count nodes done id m f found same as_done there h = record {
-  made = all-with_made (λ m. IsRecordedNode I gone done m.node) nodes id f (λ m k. rw (same m) k) h.made;
+recorded_moved : (I : Network) (R : Branch) (count : ℕ) (nodes : List Made) (done : List Done) (id : ℕ) (m : Made) (f : Made → Made) → find (has_id id) nodes ≡ Some m → ((m : Made) → (f m).node ≡ m.node) → is_done (f m).place ≡ is_done m.place → IsOfWorker count (f m).place → AreRecorded I R count nodes done → AreRecorded I R count (with_made nodes id f) done
+recorded_moved I R count nodes done id m f found same as_done there h = record {
+  made = all-with_made (λ m. IsRecordedNode I R done m.node) nodes id f (λ m k. rw (same m) k) h.made;
   apart = λ j. subst (λ (n : ℕ). n ≤ 1) (sym (ids-with_made j nodes id f same)) (h.apart j);
   ids = λ j. ids-with_made j nodes id f same ∙ h.ids j;
   ended = λ j. h.ended j ∙ (times-ended_ids j nodes ∙ (sym (unchanged (if_ended j) (if_same j)) ∙ sym (times-ended_ids j (with_made nodes id f))));
@@ -75,18 +76,18 @@ recorded_moved I gone count nodes done id m f found same as_done there h = recor
     if_same j = rw (as_done, same m) refl
 
 -- one thing more is recorded, of a node that wasn't done, and the nodes that it makes join
-record IsOneMore (I : Network) (gone : List ℕ) (count : ℕ) (nodes new : List Made) (done more : List Done) (d : Done) : Type 0 where
+record IsOneMore (I : Network) (R : Branch) (count : ℕ) (nodes new : List Made) (done more : List Done) (d : Done) : Type 0 where
   pub grown : AreMoreRecords done more
   pub sums : (h : Done → ℕ) → total h more ≡ total h done + h d
-  pub made : All (λ m. IsRecordedNode I gone more m.node) new
+  pub made : All (λ m. IsRecordedNode I R more m.node) new
   pub undone : All (λ m. is_done m.place ≡ false) new
   pub places : All (λ m. IsOfWorker count m.place) new
   pub ids : (id : ℕ) → times id (node_ids new) ≡ times id (half_ids d)
   pub apart : (id : ℕ) → times id (node_ids nodes) + times id (half_ids d) ≤ 1
 
-recorded_done : (I : Network) (gone : List ℕ) (count : ℕ) (nodes new : List Made) (done more : List Done) (d : Done) (m : Made) (to : Place) → find (has_id (done_id d)) nodes ≡ Some m → is_done m.place ≡ false → is_done to ≡ true → IsOfWorker count to → IsOneMore I gone count nodes new done more d → AreRecorded I gone count nodes done → AreRecorded I gone count (with_made (nodes ++ new) (done_id d) (λ m. record m { place = to })) more
-recorded_done I gone count nodes new done more d m to found waits ends there one h = record {
-  made = all-with_made (λ m. IsRecordedNode I gone more m.node) (nodes ++ new) (done_id d) (λ m. record m { place = to }) (λ m k. k) (All-append (λ m. IsRecordedNode I gone more m.node) nodes new (All-weaker (λ m. IsRecordedNode I gone done m.node) (λ m. IsRecordedNode I gone more m.node) (λ m k. node-more I gone done more one.grown m.node k) nodes h.made) one.made);
+recorded_done : (I : Network) (R : Branch) (count : ℕ) (nodes new : List Made) (done more : List Done) (d : Done) (m : Made) (to : Place) → find (has_id (done_id d)) nodes ≡ Some m → is_done m.place ≡ false → is_done to ≡ true → IsOfWorker count to → IsOneMore I R count nodes new done more d → AreRecorded I R count nodes done → AreRecorded I R count (with_made (nodes ++ new) (done_id d) (λ m. record m { place = to })) more
+recorded_done I R count nodes new done more d m to found waits ends there one h = record {
+  made = all-with_made (λ m. IsRecordedNode I R more m.node) (nodes ++ new) (done_id d) (λ m. record m { place = to }) (λ m k. k) (All-append (λ m. IsRecordedNode I R more m.node) nodes new (All-weaker (λ m. IsRecordedNode I R done m.node) (λ m. IsRecordedNode I R more m.node) (λ m k. node-more I R done more one.grown m.node k) nodes h.made) one.made);
   apart = λ j. subst (λ (n : ℕ). n ≤ 1) (sym (ids_are j)) (one.apart j);
   ids = λ j. ids_are j ∙ (ap (λ (n : ℕ). n + times j (half_ids d)) (h.ids j) ∙ sym (made_are j));
   ended = λ j. total-map (λ id. cond (id == j) 1 0) done_id more ∙ (one.sums (λ e. cond (done_id e == j) 1 0) ∙ (ap (λ (n : ℕ). n + cond (done_id d == j) 1 0) (sym (total-map (λ id. cond (id == j) 1 0) done_id done) ∙ (h.ended j ∙ times-ended_ids j nodes)) ∙ (sym (one_more (if_ended j) (cond (done_id d == j) 1 0) (rw waits refl) (rw (ends, found-id nodes (done_id d) m found) refl) (λ x e. rw e refl)) ∙ sym (times-ended_ids j (with_made (nodes ++ new) (done_id d) (λ m. record m { place = to }))))));
@@ -119,13 +120,13 @@ recorded_done I gone count nodes new done more d m to found waits ends there one
         sum_of _ (total t nodes) (total t new) _ _ _ n (total-with_made t (nodes ++ new) (done_id d) (λ m. record m { place = to }) m found2) (total-append t nodes new) before later (total-zero (λ x. is_done x.place ≡ false) t new none one.undone)
 
 -- a change of one worker that records nothing
-pub recorded_idle : (S : State) (w : ℕ) (f : Worker → Worker) (nodes : List Made) → ((x : Worker) → (f x).done ≡ x.done) → AreRecorded S.instance S.gone (length S.workers) nodes (all_done S.workers) → AreRecorded S.instance S.gone (length (changed_at S.workers w f)) nodes (all_done (changed_at S.workers w f))
+pub recorded_idle : (S : State) (w : ℕ) (f : Worker → Worker) (nodes : List Made) → ((x : Worker) → (f x).done ≡ x.done) → AreRecorded S.instance S.branch (length S.workers) nodes (all_done S.workers) → AreRecorded S.instance S.branch (length (changed_at S.workers w f)) nodes (all_done (changed_at S.workers w f))
 recorded_idle S w f nodes same h = rw (length-changed S.workers w f, all_done-same S.workers w f same) h
 
 -- a node comes into a hand
 recorded_taken : (S : State) (w id : ℕ) (m : Made) → w < length S.workers → made_as S id ≡ Some m → is_done m.place ≡ false → IsRecorded S → IsRecorded (handed (moved S id (place.Hand w)) w (Some id))
 recorded_taken S w id m there found waits h =
-    recorded_idle S w (λ x. record x { hand = Some id }) _ (λ x. refl) (recorded_moved S.instance S.gone (length S.workers) S.nodes (all_done S.workers) id m (λ m. record m { place = place.Hand w }) found (λ m. refl) (sym waits) there h)
+    recorded_idle S w (λ x. record x { hand = Some id }) _ (λ x. refl) (recorded_moved S.instance S.branch (length S.workers) S.nodes (all_done S.workers) id m (λ m. record m { place = place.Hand w }) found (λ m. refl) (sym waits) there h)
 
 recorded_take : (S : State) (w id : ℕ) → IsAllowed S (Take w id) → IsRecorded S → IsRecorded (after S (Take w id))
 recorded_take S w id allowed h =
@@ -143,12 +144,12 @@ recorded_give : (S : State) (w id : ℕ) → IsAllowed S (Give w id) → IsRecor
 recorded_give S w id allowed h =
     let early = give_early S w id allowed.early in
     let m = asked (λ m. is_fresh_of w m.place) (made_as S id) early.fresh in
-    recorded_moved S.instance S.gone (length S.workers) S.nodes (all_done S.workers) id m.0 (λ m. record m { place = place.Queue w }) m.1 (λ m. refl) (sym (fresh_waits w m.0.place m.2)) tt h
+    recorded_moved S.instance S.branch (length S.workers) S.nodes (all_done S.workers) id m.0 (λ m. record m { place = place.Queue w }) m.1 (λ m. refl) (sym (fresh_waits w m.0.place m.2)) tt h
 
 -- a node is left
 recorded_left : (S : State) (w id : ℕ) (m : Made) → w < length S.workers → made_as S id ≡ Some m → is_done m.place ≡ false → IsRecorded S → IsRecorded (after S (Keep w id))
 recorded_left S w id m there found waits h =
-    recorded_idle S w (λ x. record x { hand = put_down x.hand id }) _ (λ x. refl) (recorded_moved S.instance S.gone (length S.workers) S.nodes (all_done S.workers) id m (λ m. record m { place = place.Left w }) found (λ m. refl) (sym waits) there h)
+    recorded_idle S w (λ x. record x { hand = put_down x.hand id }) _ (λ x. refl) (recorded_moved S.instance S.branch (length S.workers) S.nodes (all_done S.workers) id m (λ m. record m { place = place.Left w }) found (λ m. refl) (sym waits) there h)
 
 recorded_keep : (S : State) (w id : ℕ) → IsAllowed S (Keep w id) → IsCounted S → IsRecorded S → IsRecorded (after S (Keep w id))
 recorded_keep S w id allowed counted h = by_case (is_fresh S w id) refl early.there
@@ -176,7 +177,7 @@ recorded_claim S w allowed h = by_test (nat_lt S.claims S.budget)
         let early = claim_early S w allowed.early in
         let at = held_node S w early.made early.held in
         let found = held_found S w early.made at in
-        recorded_moved S.instance S.gone (length S.workers) S.nodes (all_done S.workers) (id_in_hand S w) early.made (λ m. record m { claimed = true }) found (λ m. refl) refl (all-found (λ m. IsOfWorker (length S.workers) m.place) S.nodes (id_in_hand S w) early.made h.places found) h
+        recorded_moved S.instance S.branch (length S.workers) S.nodes (all_done S.workers) (id_in_hand S w) early.made (λ m. record m { claimed = true }) found (λ m. refl) refl (all-found (λ m. IsOfWorker (length S.workers) m.place) S.nodes (id_in_hand S w) early.made h.places found) h
 
     by_test : (b : Bool) → IsRecorded (cond b (granted S w) (refused S w))
     by_test true = grant
@@ -192,16 +193,16 @@ recorded_close S w P allowed counted h =
     let m = early.made in
     let at = held_node S w m early.held in
     let waits : is_done m.place ≡ false = ap is_done (held_place S w m at counted) in
-    rw (length-changed S.workers w (closing d)) (subst (λ (ns : List Made). AreRecorded S.instance S.gone (length S.workers) (with_made ns (id_in_hand S w) (λ m. record m { place = place.Closed })) (all_done (changed_at S.workers w (closing d)))) (append-nil S.nodes) (recorded_done S.instance S.gone (length S.workers) S.nodes [] (all_done S.workers) (all_done (changed_at S.workers w (closing d))) d m place.Closed (held_found S w m at) waits refl tt (one early.worker) h))
+    rw (length-changed S.workers w (closing d)) (subst (λ (ns : List Made). AreRecorded S.instance S.branch (length S.workers) (with_made ns (id_in_hand S w) (λ m. record m { place = place.Closed })) (all_done (changed_at S.workers w (closing d)))) (append-nil S.nodes) (recorded_done S.instance S.branch (length S.workers) S.nodes [] (all_done S.workers) (all_done (changed_at S.workers w (closing d))) d m place.Closed (held_found S w m at) waits refl tt (one early.worker) h))
   where
     d : Done
     d = done.Close (id_in_hand S w) P
 
-    one : w < length S.workers → IsOneMore S.instance S.gone (length S.workers) S.nodes [] (all_done S.workers) (all_done (changed_at S.workers w (closing d))) d
+    one : w < length S.workers → IsOneMore S.instance S.branch (length S.workers) S.nodes [] (all_done S.workers) (all_done (changed_at S.workers w (closing d))) d
     one there = record {
       grown = all_done-more S.workers w (closing d) d (λ x. refl);
       sums = λ t. total-all_done t S.workers w (closing d) d (λ x. refl) there;
-      made = All-nil (λ m. IsRecordedNode S.instance S.gone (all_done (changed_at S.workers w (closing d))) m.node);
+      made = All-nil (λ m. IsRecordedNode S.instance S.branch (all_done (changed_at S.workers w (closing d))) m.node);
       undone = All-nil (λ (m : Made). is_done m.place ≡ false);
       places = All-nil (λ (m : Made). IsOfWorker (length S.workers) m.place);
       ids = λ id. refl;
@@ -251,7 +252,7 @@ splitting i d x = record x { hand = Some i; up = false; done = x.done ++ d ∷ [
 -- a split is recorded, and both halves are made by it
 recorded_halves : (S : State) (w v i o : ℕ) (P : Packing) (id : ℕ) (m : Made) → SplitEarly S w v i o → made_as S id ≡ Some m → is_done m.place ≡ false → IsNode S.instance (record m.node { packing = P }) → IsSplit S.instance m.node.branch v → IsRecorded S → IsRecorded (split_state S w v i o P id m)
 recorded_halves S w v i o P id m early found waits node vertex h =
-    rw (length-changed S.workers w (splitting i d)) (recorded_done S.instance S.gone (length S.workers) S.nodes (Y ∷ N ∷ []) (all_done S.workers) more d m place.Split found waits refl tt one h)
+    rw (length-changed S.workers w (splitting i d)) (recorded_done S.instance S.branch (length S.workers) S.nodes (Y ∷ N ∷ []) (all_done S.workers) more d m place.Split found waits refl tt one h)
   where
     d : Done
     d = done.Split id v i o P
@@ -271,26 +272,26 @@ recorded_halves S w v i o P id m early found waits node vertex h =
     recorded : Contains more d
     recorded = all_done-new S.workers w (splitting i d) d (λ x. refl) early.worker
 
-    parent : IsMade S.gone more id m.node.branch
-    parent = subst (λ (k : ℕ). IsMade S.gone more k m.node.branch) (found-id S.nodes id m found) (made-more S.gone (all_done S.workers) more grown m.node.id m.node.branch (all-found (λ m. IsRecordedNode S.instance S.gone (all_done S.workers) m.node) S.nodes id m h.made found).made)
+    parent : IsMade S.branch more id m.node.branch
+    parent = subst (λ (k : ℕ). IsMade S.branch more k m.node.branch) (found-id S.nodes id m found) (made-more S.branch (all_done S.workers) more grown m.node.id m.node.branch (all-found (λ m. IsRecordedNode S.instance S.branch (all_done S.workers) m.node) S.nodes id m h.made found).made)
 
-    made_inside : IsRecordedNode S.instance S.gone more Y.node
+    made_inside : IsRecordedNode S.instance S.branch more Y.node
     made_inside = record {
       made = inside_of recorded parent;
       keeps = inr (id, P, m.node.branch, record { half = inside recorded; made = parent; weight = (halves_are_no_lighter_lem S.instance (record m.node { packing = P }) v i o node vertex).0.no_lighter });
     }
 
-    made_outside : IsRecordedNode S.instance S.gone more N.node
+    made_outside : IsRecordedNode S.instance S.branch more N.node
     made_outside = record {
       made = outside_of recorded parent;
       keeps = inr (id, P, m.node.branch, record { half = outside recorded; made = parent; weight = (halves_are_no_lighter_lem S.instance (record m.node { packing = P }) v i o node vertex).1.no_lighter });
     }
 
-    one : IsOneMore S.instance S.gone (length S.workers) S.nodes (Y ∷ N ∷ []) (all_done S.workers) more d
+    one : IsOneMore S.instance S.branch (length S.workers) S.nodes (Y ∷ N ∷ []) (all_done S.workers) more d
     one = record {
       grown = grown;
       sums = λ t. total-all_done t S.workers w (splitting i d) d (λ x. refl) early.worker;
-      made = All-from_recursion (λ m. IsRecordedNode S.instance S.gone more m.node) (Y ∷ N ∷ []) (made_inside, (made_outside, tt));
+      made = All-from_recursion (λ m. IsRecordedNode S.instance S.branch more m.node) (Y ∷ N ∷ []) (made_inside, (made_outside, tt));
       undone = All-from_recursion (λ (m : Made). is_done m.place ≡ false) (Y ∷ N ∷ []) (refl, (refl, tt));
       places = All-from_recursion (λ (m : Made). IsOfWorker (length S.workers) m.place) (Y ∷ N ∷ []) (early.worker, (early.worker, tt));
       ids = λ j. refl;
@@ -333,9 +334,9 @@ recorded_after S (SeeHalt w) sound counted h allowed = by_test S.halted
 recorded_after S (Halt w) sound counted h allowed = h
 
 -- the beginning
-pub recorded_beginning : (I : Network) (gone : List ℕ) (workers budget start : ℕ) → IsRecorded (beginning I gone workers budget start)
-recorded_beginning I gone workers budget start =
-    subst (λ (ds : List Done). AreRecorded I gone (length (beginning I gone workers budget start).workers) (beginning I gone workers budget start).nodes ds) (nothing_done workers) first
+pub recorded_beginning : (I : Network) (R : Branch) (workers budget start : ℕ) → IsRecorded (beginning I R workers budget start)
+recorded_beginning I R workers budget start =
+    subst (λ (ds : List Done). AreRecorded I R (length (beginning I R workers budget start).workers) (beginning I R workers budget start).nodes ds) (nothing_done workers) first
   where
     nothing_done : (n : ℕ) → [] ≡ all_done (replicate n (new_worker start))
     nothing_done zero = refl
@@ -345,12 +346,12 @@ recorded_beginning I gone workers budget start =
     at_most true = omega arith
     at_most false = omega arith
 
-    first : AreRecorded I gone (length (beginning I gone workers budget start).workers) (beginning I gone workers budget start).nodes []
+    first : AreRecorded I R (length (beginning I R workers budget start).workers) (beginning I R workers budget start).nodes []
     first = record {
-      made = All-from_recursion (λ m. IsRecordedNode I gone [] m.node) (beginning I gone workers budget start).nodes (record { made = root; keeps = inl refl }, tt);
+      made = All-from_recursion (λ m. IsRecordedNode I R [] m.node) (beginning I R workers budget start).nodes (record { made = root; keeps = inl refl }, tt);
       apart = λ id. at_most (0 == id);
       ids = λ id. refl;
       ended = λ id. refl;
       ended_once = refl;
-      places = All-from_recursion (λ (m : Made). IsOfWorker (length (beginning I gone workers budget start).workers) m.place) (beginning I gone workers budget start).nodes (tt, tt);
+      places = All-from_recursion (λ (m : Made). IsOfWorker (length (beginning I R workers budget start).workers) m.place) (beginning I R workers budget start).nodes (tt, tt);
     }

@@ -16,7 +16,6 @@ use Rattle.search_core.specs.declared.event.EventFault.TheVariants.{BadPacking, 
 use Rattle.search_core.specs.State.{State, beginning, held, seen}
 use Rattle.search_core.specs.Needs.{IsPackingFault, IsSplitFault, IsCloseFault, early_fault}
 use Rattle.search_core.specs.Steps.{Step, Run}
-use Rattle.search_core.specs.Complete.{without_gone}
 use Rattle.search_core.specs.Effects.{after, ended, granted, refused}
 use Rattle.search_core.specs.Kept.{IsKept}
 use Rattle.search_core.specs.Laws.{EventsKeep, AllowedHasNoFault, FaultIsOne, SettledBounds}
@@ -36,50 +35,50 @@ run_kept S (e ∷ es) T kept (M, step, run) = run_kept M es T (step_kept step) r
     step_kept (inr (f, fault, is)) = subst (λ (U : State). IsKept U) (sym is) kept
 
 pub events_keep_lem : EventsKeep
-events_keep_lem I gone workers budget start es S may run =
-    run_kept (beginning I gone workers budget start) es S (kept_beginning I gone workers budget start (root_node I gone may.set may.required)) run
+events_keep_lem I R workers budget start es S may run =
+    run_kept (beginning I R workers budget start) es S (kept_beginning I R workers budget start (root_node I R may.branch may.required)) run
 
--- of one instance, and of the same vertices that are gone
+-- of one instance, and of the same branch
 record AreAlike (S T : State) : Type 0 where
   pub instance : T.instance ≡ S.instance
-  pub gone : T.gone ≡ S.gone
+  pub branch : T.branch ≡ S.branch
 
 after_alike : (S : State) (e : Event) → AreAlike S (after S e)
 after_alike S (Claim w) = by_test (nat_lt S.claims S.budget)
   where
     by_test : (b : Bool) → AreAlike S (cond b (granted S w) (refused S w))
-    by_test true = record { instance = refl; gone = refl }
-    by_test false = record { instance = refl; gone = refl }
+    by_test true = record { instance = refl; branch = refl }
+    by_test false = record { instance = refl; branch = refl }
 after_alike S (SeeOpen w) = by_test (S.opened == 0)
   where
     by_test : (b : Bool) → AreAlike S (cond b (ended S w OpenZero) S)
-    by_test true = record { instance = refl; gone = refl }
-    by_test false = record { instance = refl; gone = refl }
+    by_test true = record { instance = refl; branch = refl }
+    by_test false = record { instance = refl; branch = refl }
 after_alike S (SeeHalt w) = by_test S.halted
   where
     by_test : (b : Bool) → AreAlike S (cond b (ended S w HaltSeen) S)
-    by_test true = record { instance = refl; gone = refl }
-    by_test false = record { instance = refl; gone = refl }
-after_alike S _ = record { instance = refl; gone = refl }
+    by_test true = record { instance = refl; branch = refl }
+    by_test false = record { instance = refl; branch = refl }
+after_alike S _ = record { instance = refl; branch = refl }
 
 run_alike : (S : State) (es : List Event) (T : State) → Run S es T → AreAlike S T
-run_alike S [] T run = subst (λ (U : State). AreAlike S U) (sym run) (record { instance = refl; gone = refl })
+run_alike S [] T run = subst (λ (U : State). AreAlike S U) (sym run) (record { instance = refl; branch = refl })
 run_alike S (e ∷ es) T (M, step, run) =
     let first = step_alike step in
     let rest = run_alike M es T run in
-    record { instance = rest.instance ∙ first.instance; gone = rest.gone ∙ first.gone }
+    record { instance = rest.instance ∙ first.instance; branch = rest.branch ∙ first.branch }
   where
     step_alike : Step S e M → AreAlike S M
     step_alike (inl (allowed, is)) = subst (λ (U : State). AreAlike S U) (sym is) (after_alike S e)
-    step_alike (inr (f, fault, is)) = subst (λ (U : State). AreAlike S U) (sym is) (record { instance = refl; gone = refl })
+    step_alike (inr (f, fault, is)) = subst (λ (U : State). AreAlike S U) (sym is) (record { instance = refl; branch = refl })
 
 pub settled_bounds_lem : SettledBounds
-settled_bounds_lem I gone workers budget start es S t may run done tree belongs =
-    let kept = events_keep_lem I gone workers budget start es S may run in
-    let alike = run_alike (beginning I gone workers budget start) es S run in
+settled_bounds_lem I R workers budget start es S t may run done tree belongs =
+    let kept = events_keep_lem I R workers budget start es S may run in
+    let alike = run_alike (beginning I R workers budget start) es S run in
     let mine : IsTree S.instance t = subst (λ (J : Network). IsTree J t) (sym alike.instance) tree in
-    let reaches : Belongs (without_gone S.gone) t = subst (λ (vs : List ℕ). Belongs (without_gone vs) t) (sym alike.gone) belongs in
-    subst (λ (J : Network). S.least ≤ cost J t) alike.instance (bounds_lem (gathered S) S.instance S.gone S.start S.budget t (settled_complete S kept done.settled) (nothing-waits S done.none_waits) mine reaches)
+    let member : Belongs S.branch t = subst (λ (B : Branch). Belongs B t) (sym alike.branch) belongs in
+    subst (λ (J : Network). S.least ≤ cost J t) alike.instance (bounds_lem (gathered S) S.instance S.branch S.start S.budget t (settled_complete S kept done.settled) (nothing-waits S done.none_waits) mine member)
 
 -- a packing that allows a split has no fault, and another has one
 split_serves : (I : Network) (B : Branch) (P : Packing) (x : ℕ) (f : EventFault) → IsSplitFault I B P x None → IsSplitFault I B P x (Some f) → ⊥

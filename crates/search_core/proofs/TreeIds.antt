@@ -85,7 +85,7 @@ goes_on G once a v i o P there id p (was_split {id = b} {v = w} {i = j} {o = k} 
     ]
 
 -- each node that was made is one of the tree's
-pub made_in_tree : (G : Gathered) (gone : List ℕ) → AreOnce G → (p : ProofTree) (read : IsReadOff G 0 p) (id : ℕ) (B : Branch) → IsMade gone (records G) id B → 1 ≤ times id (ids_of G 0 p read)
-made_in_tree G gone once p read id B root = root_there G 0 p read
-made_in_tree G gone once p read id B (inside_of {id = a} {v} {i} {o} {P} {B = C} c m) = (goes_on G once a v i o P c 0 p read (made_in_tree G gone once p read a C m)).0
-made_in_tree G gone once p read id B (outside_of {id = a} {v} {i} {o} {P} {B = C} c m) = (goes_on G once a v i o P c 0 p read (made_in_tree G gone once p read a C m)).1
+pub made_in_tree : (G : Gathered) (R : Branch) → AreOnce G → (p : ProofTree) (read : IsReadOff G 0 p) (id : ℕ) (B : Branch) → IsMade R (records G) id B → 1 ≤ times id (ids_of G 0 p read)
+made_in_tree G R once p read id B root = root_there G 0 p read
+made_in_tree G R once p read id B (inside_of {id = a} {v} {i} {o} {P} {B = C} c m) = (goes_on G once a v i o P c 0 p read (made_in_tree G R once p read a C m)).0
+made_in_tree G R once p read id B (outside_of {id = a} {v} {i} {o} {P} {B = C} c m) = (goes_on G once a v i o P c 0 p read (made_in_tree G R once p read a C m)).1

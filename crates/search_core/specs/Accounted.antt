@@ -35,9 +35,9 @@ pub record IsGatheredOf (S : State) (G : Gathered) : Type 0 where
   -- each node that was made was split or closed once, or is to be gone on with, or is being worked on
   pub once : (id : ℕ) → times id (standing_ids G) + times id (busy_ids S.nodes) ≡ times id (made_ids (records G))
   -- what each worker did is right
-  pub segments : All (IsRightSegment S.instance S.gone S.start G.least (records G)) G.segments
+  pub segments : All (IsRightSegment S.instance S.branch S.start G.least (records G)) G.segments
   -- and so is what is left to do
-  pub waiting : All (IsRightNode S.instance S.gone (records G)) (waiting G)
+  pub waiting : All (IsRightNode S.instance S.branch (records G)) (waiting G)
   -- each claim went to a record, or to a node in a hand
   pub claimed : length (records G) + claimed_in_hands S.nodes ≡ G.claimed
   -- and the budget allows them

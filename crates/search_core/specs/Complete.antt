@@ -17,10 +17,6 @@ use Rattle.search_core.specs.declared.gathered.Gathered.{Gathered}
 use Rattle.search_core.specs.declared.gathered.Segment.{Segment}
 use Rattle.search_core.specs.Needs.{AllowsSplit}
 
--- the branch of the trees that reach nobody gone
-abbrev pub without_gone : List ℕ → Branch
-without_gone gone = record { inside = []; outside = gone }
-
 -- what was done with nodes, by all workers
 abbrev pub records : Gathered → List Done
 records G = flat_map (λ s. s.done) G.segments
@@ -60,27 +56,28 @@ standing_ids G = map done_id (records G) ++ map (λ N. N.id) (waiting G)
 abbrev pub times : ℕ → List ℕ → ℕ
 times id ids = total (λ other. if other == id then 1 else 0) ids
 
--- a node was made under this id with this branch: id 0 at the beginning, and each half of one that was made and split
-pub data IsMade (gone : List ℕ) (done : List Done) : ℕ → Branch → Type 0 where
-  root : IsMade gone done 0 (without_gone gone)
-  inside_of : {id v i o : ℕ} {P : Packing} {B : Branch} → Contains done (Split id v i o P) → IsMade gone done id B → IsMade gone done i (with_inside B v)
-  outside_of : {id v i o : ℕ} {P : Packing} {B : Branch} → Contains done (Split id v i o P) → IsMade gone done id B → IsMade gone done o (with_outside B v)
+-- a node was made under this id with this branch: id 0 with the branch that the search began with, and each half of one
+-- that was made and split
+pub data IsMade (R : Branch) (done : List Done) : ℕ → Branch → Type 0 where
+  root : IsMade R done 0 R
+  inside_of : {id v i o : ℕ} {P : Packing} {B : Branch} → Contains done (Split id v i o P) → IsMade R done id B → IsMade R done i (with_inside B v)
+  outside_of : {id v i o : ℕ} {P : Packing} {B : Branch} → Contains done (Split id v i o P) → IsMade R done id B → IsMade R done o (with_outside B v)
 
 -- a node was split at a vertex where its branch can be split, on a packing that allows it below the start cost
-pub record IsRightSplit (I : Network) (gone : List ℕ) (start : ℕ) (done : List Done) (id v : ℕ) (P : Packing) (B : Branch) : Type 0 where
-  pub made : IsMade gone done id B
+pub record IsRightSplit (I : Network) (R : Branch) (start : ℕ) (done : List Done) (id v : ℕ) (P : Packing) (B : Branch) : Type 0 where
+  pub made : IsMade R done id B
   pub vertex : IsSplit I B v
   pub packing : AllowsSplit I B P start
 
 -- a node was closed by a packing that fits its branch and weighs at least what the worker saw last
-pub record IsRightClose (I : Network) (gone : List ℕ) (seen : ℕ) (done : List Done) (id : ℕ) (P : Packing) (B : Branch) : Type 0 where
-  pub made : IsMade gone done id B
+pub record IsRightClose (I : Network) (R : Branch) (seen : ℕ) (done : List Done) (id : ℕ) (P : Packing) (B : Branch) : Type 0 where
+  pub made : IsMade R done id B
   pub packing : Closes I B seen P
 
 -- what was done with a node that was made
-abbrev pub IsRightRecord : Network → List ℕ → ℕ → List Done → ℕ → Done → Type 0
-IsRightRecord I gone start done seen (Split id v i o P) = (B : Branch) × IsRightSplit I gone start done id v P B
-IsRightRecord I gone start done seen (Close id P) = (B : Branch) × IsRightClose I gone seen done id P B
+abbrev pub IsRightRecord : Network → Branch → ℕ → List Done → ℕ → Done → Type 0
+IsRightRecord I R start done seen (Split id v i o P) = (B : Branch) × IsRightSplit I R start done id v P B
+IsRightRecord I R start done seen (Close id P) = (B : Branch) × IsRightClose I R seen done id P B
 
 -- the id is that of a half of a split, on this packing, of the node under the other id
 pub data IsHalf (done : List Done) (id : ℕ) (P : Packing) : ℕ → Type 0 where
@@ -88,35 +85,35 @@ pub data IsHalf (done : List Done) (id : ℕ) (P : Packing) : ℕ → Type 0 whe
   outside : {v i o : ℕ} → Contains done (Split id v i o P) → IsHalf done id P o
 
 -- a node weighs at least what the split weighs that made it
-pub record WeighsAsSplit (I : Network) (gone : List ℕ) (done : List Done) (N : Node) (id : ℕ) (P : Packing) (B : Branch) : Type 0 where
+pub record WeighsAsSplit (I : Network) (R : Branch) (done : List Done) (N : Node) (id : ℕ) (P : Packing) (B : Branch) : Type 0 where
   pub half : IsHalf done id P N.id
-  pub made : IsMade gone done id B
+  pub made : IsMade R done id B
   pub weight : weight I B P ≤ weight I N.branch N.packing
 
 -- no split made the node, or it weighs at least what that split weighs
-abbrev pub KeepsWeight : Network → List ℕ → List Done → Node → Type 0
-KeepsWeight I gone done N = (N.id ≡ 0) ⊎ ((id : ℕ) × (P : Packing) × (B : Branch) × WeighsAsSplit I gone done N id P B)
+abbrev pub KeepsWeight : Network → Branch → List Done → Node → Type 0
+KeepsWeight I R done N = (N.id ≡ 0) ⊎ ((id : ℕ) × (P : Packing) × (B : Branch) × WeighsAsSplit I R done N id P B)
 
 -- a node that is to be gone on with was made with its branch, and its packing fits
-pub record IsRightNode (I : Network) (gone : List ℕ) (done : List Done) (N : Node) : Type 0 where
-  pub made : IsMade gone done N.id N.branch
+pub record IsRightNode (I : Network) (R : Branch) (done : List Done) (N : Node) : Type 0 where
+  pub made : IsMade R done N.id N.branch
   pub fits : Fits I N.branch N.packing
-  pub keeps : KeepsWeight I gone done N
+  pub keeps : KeepsWeight I R done N
 
 -- a worker's records are right, and it saw no less than the least value
-pub record IsRightSegment (I : Network) (gone : List ℕ) (start least : ℕ) (done : List Done) (s : Segment) : Type 0 where
-  pub records : All (IsRightRecord I gone start done s.seen) s.done
+pub record IsRightSegment (I : Network) (R : Branch) (start least : ℕ) (done : List Done) (s : Segment) : Type 0 where
+  pub records : All (IsRightRecord I R start done s.seen) s.done
   pub seen : least ≤ s.seen
 
-pub record IsComplete (G : Gathered) (I : Network) (gone : List ℕ) (start budget : ℕ) : Type 0 where
+pub record IsComplete (G : Gathered) (I : Network) (R : Branch) (start budget : ℕ) : Type 0 where
   -- no two nodes were made under one id
   pub apart : (id : ℕ) → times id (made_ids (records G)) ≤ 1
   -- each node that was made was split or closed once, or is to be gone on with
   pub once : (id : ℕ) → times id (standing_ids G) ≡ times id (made_ids (records G))
   -- what each worker did is right
-  pub segments : All (IsRightSegment I gone start G.least (records G)) G.segments
+  pub segments : All (IsRightSegment I R start G.least (records G)) G.segments
   -- and so is what is left to do
-  pub waiting : All (IsRightNode I gone (records G)) (waiting G)
+  pub waiting : All (IsRightNode I R (records G)) (waiting G)
   -- each claim went to a record
   pub claimed : length (records G) ≡ G.claimed
   -- and the budget allows them
@@ -132,9 +129,9 @@ abbrev pub least_found : Network → ℕ → List Segment → ℕ
 least_found I x [] = x
 least_found I x (s ∷ ss) = less_found I s.best (least_found I x ss)
 
-pub record IsFinished (G : Gathered) (I : Network) (gone : List ℕ) (start budget : ℕ) : Type 0 where
-  -- each tree that was found is one of the instance, and reaches nobody gone
-  pub trees : All (λ s. IfSome s.best (λ t. IsTree I t × Belongs (without_gone gone) t)) G.segments
+pub record IsFinished (G : Gathered) (I : Network) (R : Branch) (start budget : ℕ) : Type 0 where
+  -- each tree that was found is one of the instance and of the branch that the search began with
+  pub trees : All (λ s. IfSome s.best (λ t. IsTree I t × Belongs R t)) G.segments
   -- the least value is the least of the start cost and of what they cost
   pub least : G.least ≡ least_found I start G.segments
   -- nodes wait only where the whole budget was spent

@@ -1,6 +1,7 @@
 -- What every state keeps that a search reaches from its beginning.
 use Rattle.std.specs.Prelude.{◌≡◌, ℕ, ◌+◌, ◌<◌, ◌≤◌, min, Bool, true, not, if◌then◌else◌, Some, List, [], ◌∷◌, length, map, filter, find, All, Contains}
 use Rattle.std.specs.List.{flat_map}
+use Rattle.st_model.specs.declared.branch.Branch.{Branch}
 use Rattle.st_model.specs.Lists.{total}
 use Rattle.st_model.specs.Network.{Network}
 use Rattle.cut_packing.specs.declared.packing.Packing.{Packing}
@@ -137,14 +138,14 @@ IsOfWorker count (Left w) = w < count
 IsOfWorker count _ = Unit {0}
 
 -- a node was made with its branch, and weighs at least what the split weighs that made it
-pub record IsRecordedNode (I : Network) (gone : List ℕ) (done : List Done) (N : Node) : Type 0 where
-  pub made : IsMade gone done N.id N.branch
-  pub keeps : KeepsWeight I gone done N
+pub record IsRecordedNode (I : Network) (R : Branch) (done : List Done) (N : Node) : Type 0 where
+  pub made : IsMade R done N.id N.branch
+  pub keeps : KeepsWeight I R done N
 
 -- what is said of the nodes of so many workers, and of the records of all
-pub record AreRecorded (I : Network) (gone : List ℕ) (count : ℕ) (nodes : List Made) (done : List Done) : Type 0 where
+pub record AreRecorded (I : Network) (R : Branch) (count : ℕ) (nodes : List Made) (done : List Done) : Type 0 where
   -- each node was made by a split that is recorded, or at first
-  pub made : All (λ m. IsRecordedNode I gone done m.node) nodes
+  pub made : All (λ m. IsRecordedNode I R done m.node) nodes
   -- no two nodes have one id
   pub apart : (id : ℕ) → times id (node_ids nodes) ≤ 1
   -- the nodes are those that were made at first and by the splits that are recorded
@@ -157,7 +158,7 @@ pub record AreRecorded (I : Network) (gone : List ℕ) (count : ℕ) (nodes : Li
 
 -- what is said of nodes and records
 abbrev pub IsRecorded : State → Type 0
-IsRecorded S = AreRecorded S.instance S.gone (length S.workers) S.nodes (all_done S.workers)
+IsRecorded S = AreRecorded S.instance S.branch (length S.workers) S.nodes (all_done S.workers)
 
 pub record IsKept (S : State) : Type 0 where
   pub sound : IsSound S

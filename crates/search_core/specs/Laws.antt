@@ -1,27 +1,26 @@
 -- The laws of searches: what every list of events keeps, that faults are exact, and what a search that is done bounds.
-use Rattle.std.specs.Prelude.{◌≡◌, ℕ, ◌≤◌, false, IsTrue, IsFalse, List, All}
+use Rattle.std.specs.Prelude.{◌≡◌, ℕ, ◌≤◌, false, List, All}
+use Rattle.st_model.specs.declared.branch.Branch.{Branch}
 use Rattle.st_model.specs.declared.tree.Tree.{Tree}
 use Rattle.st_model.specs.Arborescence.{IsTree, cost}
-use Rattle.st_model.specs.Branch.{Belongs, IsVertexSet}
-use Rattle.st_model.specs.Lists.{has}
-use Rattle.st_model.specs.Network.{Network, is_required}
+use Rattle.st_model.specs.Branch.{Belongs, IsBranch, LeavesRequired}
+use Rattle.st_model.specs.Network.{Network}
 use Rattle.search_core.specs.declared.event.Event.{Event}
 use Rattle.search_core.specs.declared.event.EventFault.{EventFault}
 use Rattle.search_core.specs.State.{State, beginning}
-use Rattle.search_core.specs.Complete.{without_gone}
 use Rattle.search_core.specs.Settled.{IsSettled, is_waiting}
 use Rattle.search_core.specs.Needs.{IsAllowed, IsFault}
 use Rattle.search_core.specs.Steps.{Run}
 use Rattle.search_core.specs.Kept.{IsKept}
 
--- a search may begin where the gone vertices are a set of vertices, none of them required
-pub record MayBegin (I : Network) (gone : List ℕ) : Type 0 where
-  pub set : IsVertexSet I.n gone
-  pub required : (v : ℕ) → IsTrue (has gone v) → IsFalse (is_required I v)
+-- a search may begin with a branch of the instance that leaves no required vertex outside
+pub record MayBegin (I : Network) (R : Branch) : Type 0 where
+  pub branch : IsBranch I R
+  pub required : LeavesRequired I R
 
 -- what any list of events leads to from a beginning keeps what every state keeps
 abbrev pub EventsKeep : Type 0
-EventsKeep = (I : Network) (gone : List ℕ) (workers budget start : ℕ) (events : List Event) (S : State) → MayBegin I gone → Run (beginning I gone workers budget start) events S → IsKept S
+EventsKeep = (I : Network) (R : Branch) (workers budget start : ℕ) (events : List Event) (S : State) → MayBegin I R → Run (beginning I R workers budget start) events S → IsKept S
 
 -- no event that may happen has a fault
 abbrev pub AllowedHasNoFault : Type 0
@@ -36,6 +35,7 @@ pub record IsExhausted (S : State) : Type 0 where
   pub settled : IsSettled S
   pub none_waits : All (λ m. is_waiting m.place ≡ false) S.nodes
 
--- where events lead from a beginning to a state that is done, each tree that reaches nobody gone costs at least the least value
+-- where events lead from a beginning to a state that is done, each tree of the branch that the search began with costs at
+-- least the least value
 abbrev pub SettledBounds : Type 0
-SettledBounds = (I : Network) (gone : List ℕ) (workers budget start : ℕ) (events : List Event) (S : State) (t : Tree) → MayBegin I gone → Run (beginning I gone workers budget start) events S → IsExhausted S → IsTree I t → Belongs (without_gone gone) t → S.least ≤ cost I t
+SettledBounds = (I : Network) (R : Branch) (workers budget start : ℕ) (events : List Event) (S : State) (t : Tree) → MayBegin I R → Run (beginning I R workers budget start) events S → IsExhausted S → IsTree I t → Belongs R t → S.least ≤ cost I t

@@ -1,10 +1,11 @@
 -- The proof tree that is read off what was gathered.
-use Rattle.std.specs.Prelude.{◌≡◌, ℕ, ◌≤◌, min, List, [], Contains}
+use Rattle.std.specs.Prelude.{◌≡◌, ℕ, ◌≤◌, min, IsTrue, IsFalse, [], Contains}
 use Rattle.std.specs.Prelude.{◌+◌, ◌^◌, ◌<◌, length, nat_lt, if◌then◌else◌}
 use Rattle.st_model.specs.declared.branch.Branch.{Branch}
 use Rattle.st_model.specs.Branch.{Belongs, with_inside, with_outside}
 use Rattle.st_model.specs.declared.tree.Tree.{Tree}
 use Rattle.st_model.specs.Arborescence.{IsTree, cost}
+use Rattle.st_model.specs.Lists.{has}
 use Rattle.st_model.specs.Network.{Network}
 use Rattle.cut_packing.specs.declared.packing.Packing.{Packing}
 use Rattle.cut_packing.specs.Packing.{weight}
@@ -12,7 +13,7 @@ use Rattle.cut_packing.specs.ProofTree.{ProofTree, close, split, Proves}
 use Rattle.branching.specs.declared.node.Node.{Node}
 use Rattle.search_core.specs.declared.done.Done.TheVariants.{Split, Close}
 use Rattle.search_core.specs.declared.gathered.Gathered.{Gathered}
-use Rattle.search_core.specs.Complete.{IsComplete, records, waiting, without_gone}
+use Rattle.search_core.specs.Complete.{IsComplete, records, waiting}
 use Rattle.search_core.specs.FreeVertices.{free_count}
 
 -- the tree of the node under an id: where it was split, the trees of both halves, and else a close by its packing
@@ -26,18 +27,18 @@ abbrev pub least_weight : Network → Branch → ProofTree → ℕ
 least_weight I B (close P) = weight I B P
 least_weight I B (split v inside outside) = min (least_weight I (with_inside B v) inside) (least_weight I (with_outside B v) outside)
 
--- a tree is read off the whole, and proves the least weight of its closes for all trees that reach nobody gone
-pub record ProvesItsLeast (G : Gathered) (I : Network) (gone : List ℕ) (p : ProofTree) : Type 0 where
+-- a tree is read off the whole, and proves the least weight of its closes for the branch of the node with id 0
+pub record ProvesItsLeast (G : Gathered) (I : Network) (R : Branch) (p : ProofTree) : Type 0 where
   pub read : IsReadOff G 0 p
-  pub proves : Proves I (without_gone gone) (least_weight I (without_gone gone) p) p
+  pub proves : Proves I R (least_weight I R p) p
 
 -- what is complete is a proof tree
 abbrev pub CompleteIsProof : Type 0
-CompleteIsProof = (G : Gathered) (I : Network) (gone : List ℕ) (start budget : ℕ) → IsComplete G I gone start budget → (p : ProofTree) × ProvesItsLeast G I gone p
+CompleteIsProof = (G : Gathered) (I : Network) (R : Branch) (start budget : ℕ) → IsComplete G I R start budget → (p : ProofTree) × ProvesItsLeast G I R p
 
--- where nothing is left to do, every tree that reaches nobody gone costs at least the least value
+-- where nothing is left to do, every tree of that branch costs at least the least value
 abbrev pub CompleteBounds : Type 0
-CompleteBounds = (G : Gathered) (I : Network) (gone : List ℕ) (start budget : ℕ) (t : Tree) → IsComplete G I gone start budget → waiting G ≡ [] → IsTree I t → Belongs (without_gone gone) t → G.least ≤ cost I t
+CompleteBounds = (G : Gathered) (I : Network) (R : Branch) (start budget : ℕ) (t : Tree) → IsComplete G I R start budget → waiting G ≡ [] → IsTree I t → Belongs R t → G.least ≤ cost I t
 
 -- how many splits and closes a tree has
 abbrev pub size : ProofTree → ℕ
@@ -49,13 +50,17 @@ abbrev pub light_closes : Network → Branch → ℕ → ProofTree → ℕ
 light_closes I B x (close P) = if nat_lt (weight I B P) x then 1 else 0
 light_closes I B x (split v inside outside) = light_closes I (with_inside B v) x inside + light_closes I (with_outside B v) x outside
 
+-- no vertex is both inside and outside
+abbrev pub SidesAreApart : Branch → Type 0
+SidesAreApart B = (v : ℕ) → IsTrue (has B.inside v) → IsFalse (has B.outside v)
+
 -- a tree that is read off what is complete has a split or a close for each record and each node that waits, and of its
 -- closes no more weigh less than the least value than nodes wait
 abbrev pub CompleteCounts : Type 0
-CompleteCounts = (G : Gathered) (I : Network) (gone : List ℕ) (start budget : ℕ) (p : ProofTree) → IsComplete G I gone start budget → IsReadOff G 0 p
-    → (size p ≡ length (records G) + length (waiting G)) × (light_closes I (without_gone gone) G.least p ≤ length (waiting G))
+CompleteCounts = (G : Gathered) (I : Network) (R : Branch) (start budget : ℕ) (p : ProofTree) → SidesAreApart R → IsComplete G I R start budget → IsReadOff G 0 p
+    → (size p ≡ length (records G) + length (waiting G)) × (light_closes I R G.least p ≤ length (waiting G))
 
 -- a tree that is read off what is complete has fewer splits and closes than two to the power of one more than the
--- vertices that are neither required nor gone
+-- vertices that the branch of the node with id 0 leaves free
 abbrev pub CompleteIsFew : Type 0
-CompleteIsFew = (G : Gathered) (I : Network) (gone : List ℕ) (start budget : ℕ) (p : ProofTree) → IsComplete G I gone start budget → IsReadOff G 0 p → size p < 2 ^ (free_count I (without_gone gone) + 1)
+CompleteIsFew = (G : Gathered) (I : Network) (R : Branch) (start budget : ℕ) (p : ProofTree) → IsComplete G I R start budget → IsReadOff G 0 p → size p < 2 ^ (free_count I R + 1)

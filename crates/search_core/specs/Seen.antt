@@ -7,7 +7,7 @@ abbrev pub state_of : Inside → State
 state_of s =
     record {
       instance = s.instance;
-      gone = s.gone;
+      branch = s.branch;
       start = s.start;
       budget = s.budget;
       nodes = s.nodes;

@@ -1,6 +1,7 @@
 -- The state of a search by several workers: the nodes that were made, and what each worker holds and saw.
 use Rattle.std.specs.Prelude.{ℕ, zero, suc, ◌==◌, Bool, false, List, [], ◌∷◌, Option, None, find, option_and_then, slice_get, replicate, if◌then◌else◌}
 use Rattle.std.specs.Option.{option_map_or}
+use Rattle.st_model.specs.declared.branch.Branch.{Branch}
 use Rattle.st_model.specs.Network.{Network}
 use Rattle.branching.specs.declared.node.Node.{Node}
 use Rattle.search_core.specs.declared.done.End.TheVariants.{OpenZero}
@@ -10,8 +11,8 @@ use Rattle.search_core.specs.declared.worker.Worker.{Worker}
 
 pub record State : Type 0 where
   pub instance : Network
-  -- no tree is asked for that reaches one of these vertices
-  pub gone : List ℕ
+  -- the branch that the search began with: only its trees are asked for
+  pub branch : Branch
   -- the cost that the search started with
   pub start : ℕ
   -- how many claims may be granted
@@ -71,19 +72,19 @@ with_worker S w f = record S { workers = changed_at S.workers w f }
 abbrev pub new_worker : ℕ → Worker
 new_worker start = record { hand = None; seen = start; offered = start; refused = false; up = false; closes = 0; done = []; end = OpenZero }
 
--- the node that a search starts from: no tree reaches who is gone
-abbrev pub root_of : List ℕ → Node
-root_of gone = record { id = 0; branch = record { inside = []; outside = gone }; packing = record { root = None; cuts = [] } }
+-- the node that a search starts from, of the whole branch
+abbrev pub root_of : Branch → Node
+root_of R = record { id = 0; branch = R; packing = record { root = None; cuts = [] } }
 
--- the state before any event, of so many workers
-abbrev pub beginning : Network → List ℕ → ℕ → ℕ → ℕ → State
-beginning I gone workers budget start =
+-- the state before any event, of so many workers who search a branch
+abbrev pub beginning : Network → Branch → ℕ → ℕ → ℕ → State
+beginning I R workers budget start =
     record {
       instance = I;
-      gone = gone;
+      branch = R;
       start = start;
       budget = budget;
-      nodes = record { node = root_of gone; place = Queue 0; claimed = false } ∷ [];
+      nodes = record { node = root_of R; place = Queue 0; claimed = false } ∷ [];
       workers = replicate workers (new_worker start);
       least = start;
       claims = 0;

@@ -18,7 +18,7 @@ impl Search {
         ensures gathered { IfOk result (λ all. all ≡ gathered self.now) }
         ensures accounts { IfOk result (IsGatheredOf self.now) }
         ensures complete { IsSettled self.now
-            → IfOk result (λ all. IsComplete all self.now.instance self.now.gone self.now.start self.now.budget) }
+            → IfOk result (λ all. IsComplete all self.now.instance self.now.branch self.now.start self.now.budget) }
     {
         let alloc = self.alloc();
         let nodes = self.nodes.as_slice();

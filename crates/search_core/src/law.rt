@@ -15,32 +15,33 @@ pub fn faults_are_exact()
 
 /// What was gathered, where it is complete, is a proof tree: of the splits and closes that were
 /// recorded, and of the nodes that wait, closed by their packings. It proves the least weight of
-/// its closes for all trees that reach nobody gone.
+/// its closes for the branch of the node with id 0.
 pub fn complete_is_proof()
     ensures { CompleteIsProof }
 {}
 
-/// What was gathered, where it is complete and no node waits, bounds every tree that reaches nobody
-/// gone from below, by the least value.
+/// What was gathered, where it is complete and no node waits, bounds every tree of that branch from
+/// below, by the least value.
 pub fn complete_bounds()
     ensures { CompleteBounds }
 {}
 
 /// Each proof tree that is read off what was gathered, where that is complete, has one split or
 /// close for each record and for each node that waits. At most as many of its closes as there are
-/// nodes that wait weigh less than the least value.
+/// nodes that wait weigh less than the least value. The branch of the node with id 0 has to have no
+/// vertex on both sides.
 pub fn complete_counts()
     ensures { CompleteCounts }
 {}
 
 /// Each such tree has fewer splits and closes than two to the power of one more than the vertices
-/// that are neither required nor gone.
+/// that the branch of the node with id 0 leaves free: they are neither required nor decided by it.
 pub fn complete_is_few()
     ensures { CompleteIsFew }
 {}
 
 /// Whatever list of events leads from a beginning to a settled state in which no node is left or
-/// queued, every tree that reaches nobody gone costs at least the least value.
+/// queued, every tree of the branch that the search began with costs at least the least value.
 pub fn settled_bounds()
     ensures { SettledBounds }
 {}

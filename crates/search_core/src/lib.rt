@@ -8,7 +8,8 @@
 //! open nodes are counted exactly. What is gathered (`Search::segments`) accounts for all nodes but
 //! those in hands and the fresh ones, so it is *complete* where the state is settled. Where it is, a
 //! proof tree can be read off it (`complete_is_proof`), and where no node waits as well, it bounds
-//! every tree (`complete_bounds`): so does any list of events that leads there (`settled_bounds`).
+//! every tree of the branch that the search began with (`complete_bounds`): so does any list of
+//! events that leads there (`settled_bounds`).
 #![tactic(auto)]
 
 mod copies;
@@ -25,8 +26,6 @@ mod nodes;
 mod records;
 mod search;
 mod step;
-#[cfg(test)]
-mod tests;
 mod worker;
 mod workers;
 

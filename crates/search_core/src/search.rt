@@ -1,8 +1,6 @@
-ghost use Rattle.std.specs.Prelude.{◌≡◌, ℕ, IsTrue, IsFalse, IfOk, IfSome, false, replicate};
+ghost use Rattle.std.specs.Prelude.{◌≡◌, IfOk, IfSome, false, replicate};
 ghost use Rattle.std.specs.Option.{option_copied};
-ghost use Rattle.st_model.specs.Branch.{IsVertexSet};
-ghost use Rattle.st_model.specs.Lists.{has};
-ghost use Rattle.st_model.specs.Network.{is_required};
+ghost use Rattle.st_model.specs.Branch.{IsBranch, LeavesRequired};
 ghost use Rattle.branching.specs.Node.{IsNode};
 ghost use Rattle.search_core.specs.Kept.{IsKept};
 ghost use Rattle.search_core.specs.State.{beginning, hand, held, made_as, new_worker, root_of, seen};
@@ -19,7 +17,7 @@ use std::marker::Model;
 #[derive(Drop)]
 pub struct Search {
     instance: Instance,
-    gone: Listed<u32>,
+    branch: Branch,
     pub(crate) start: u64,
     pub(crate) budget: u64,
     pub(crate) nodes: Nodes,
@@ -44,25 +42,25 @@ impl Model for Search {
 }
 
 impl Search {
-    /// A search before any event: its one node is the branch of the trees that reach nobody gone,
-    /// and stands in the queue of worker 0.
+    /// A search of a branch before any event: its one node has the whole branch, and stands in the
+    /// queue of worker 0.
     pub fn begin(
         alloc: Global,
         instance: &Instance,
-        gone: &[u32],
+        branch: &Branch,
         workers: u32,
         budget: u64,
         start_cost: u64,
     ) -> Result<Search, AllocError>
-        requires gone { IsVertexSet instance.now.n gone.now }
-        requires required { (v : ℕ) → IsTrue (has gone.now v) → IsFalse (is_required instance.now v) }
-        ensures { IfOk result (λ search. search ≡ beginning instance.now gone.now workers budget start_cost) }
+        requires branch { IsBranch instance.now branch.now }
+        requires required { LeavesRequired instance.now branch.now }
+        ensures { IfOk result (λ search. search ≡ beginning instance.now branch.now workers budget start_cost) }
     {
         let mut nodes = Nodes::new(alloc);
-        nodes.add(root(alloc, gone)?)?;
+        nodes.add(root(alloc, branch)?)?;
         Ok(Search {
             instance: copied(alloc, instance)?,
-            gone: Listed::of(Vec::from_slice(alloc, gone)?),
+            branch: branch.copied(alloc)?,
             start: start_cost,
             budget,
             nodes,
@@ -152,14 +150,10 @@ fn copied(alloc: Global, instance: &Instance) -> Result<Instance, AllocError>
 }
 
 // The node that a search starts from.
-fn root(alloc: Global, gone: &[u32]) -> Result<Made, AllocError>
+fn root(alloc: Global, branch: &Branch) -> Result<Made, AllocError>
     ensures { IfOk result
-        (λ made. made ≡ record { node = root_of gone.now; place = Place.Queue 0; claimed = false }) }
+        (λ made. made ≡ record { node = root_of branch.now; place = Place.Queue 0; claimed = false }) }
 {
-    let branch = Branch {
-        inside: Listed::of(Vec::new(alloc)),
-        outside: Listed::of(Vec::from_slice(alloc, gone)?),
-    };
     let packing = Packing {
         root: None,
         cuts: Listed::of(Vec::new(alloc)),
@@ -167,7 +161,7 @@ fn root(alloc: Global, gone: &[u32]) -> Result<Made, AllocError>
     Ok(Made {
         node: Node {
             id: 0,
-            branch,
+            branch: branch.copied(alloc)?,
             packing,
         },
         place: Place::Queue(0),

@@ -4,19 +4,20 @@ use Rattle.st_model.specs.declared.tree.Tree.{Tree}
 use Rattle.st_model.specs.Arborescence.{IsTree, cost}
 use Rattle.st_model.specs.Branch.{Belongs}
 use Rattle.lift_back.specs.State.{State, IsTreeOf}
+use Rattle.log_format.specs.Accepts.{left_over}
 use Rattle.log_format.specs.Text.{IsWritablePacking}
 use Rattle.search_core.specs.declared.gathered.Gathered.{Gathered}
 use Rattle.search_core.specs.declared.gathered.Segment.{Segment}
-use Rattle.search_core.specs.Complete.{AllPackings, IsComplete, IsFinished, least_found, without_gone}
+use Rattle.search_core.specs.Complete.{AllPackings, IsComplete, IsFinished, least_found}
 use Rattle.steiner_top.specs.Left.{IsBestOf}
 
-left_tree : (s : State) (t : Tree) → IsTree s.instance t → Belongs (without_gone s.gone) t → IsTreeOf s t
+left_tree : (s : State) (t : Tree) → IsTree s.instance t → Belongs (left_over s) t → IsTreeOf s t
 left_tree s t is_tree belongs = record { tree = is_tree; avoids = belongs.outside }
 
 -- a search that began with the cost of a tree that is left, and the cheapest of this tree and those that it found
 pub best_of_search : (s : State) (start tree : Tree) (nodes : ℕ) (G : Gathered) (segments : List Segment) → segments ≡ G.segments
-    → IsTree s.instance start → Belongs (without_gone s.gone) start → IsTree s.instance tree → Belongs (without_gone s.gone) tree → cost s.instance tree ≡ least_found s.instance (cost s.instance start) segments
-    → IsComplete G s.instance s.gone (cost s.instance start) nodes → IsFinished G s.instance s.gone (cost s.instance start) nodes → AllPackings IsWritablePacking G
+    → IsTree s.instance start → Belongs (left_over s) start → IsTree s.instance tree → Belongs (left_over s) tree → cost s.instance tree ≡ least_found s.instance (cost s.instance start) segments
+    → IsComplete G s.instance (left_over s) (cost s.instance start) nodes → IsFinished G s.instance (left_over s) (cost s.instance start) nodes → AllPackings IsWritablePacking G
     → IsBestOf s nodes (record { tree = tree; search = record { close = 0; start = cost s.instance start; budget = nodes; gathered = G } })
 best_of_search s start tree nodes G segments same is_start start_belongs is_tree belongs least complete finished writable = record {
   is_left = left_tree s tree is_tree belongs;

@@ -8,7 +8,7 @@ use Rattle.st_model.specs.declared.tree.Tree.{Tree}
 use Rattle.st_model.specs.Lists.{has, sum_to}
 use Rattle.st_model.specs.Network.{Network, IsInstance, IsVertex, is_needed, is_required, need_of}
 use Rattle.st_model.specs.Arborescence.{IsTree}
-use Rattle.st_model.specs.Branch.{IsBranch, LeavesRequired, is_free}
+use Rattle.st_model.specs.Branch.{IsBranch, LeavesRequired, avoiding, is_free}
 use Rattle.st_model.proofs.Sums.{sum_to_le, sum_to_same}
 use Rattle.cut_packing.specs.ProofTree.{Proves}
 use Rattle.lift_back.specs.declared.step.Step.{Step}
@@ -147,5 +147,5 @@ pub proved_of_both : (I : Network) (steps : List Step) (s t : State) (x : ℕ) (
 proved_of_both I steps s t x lines one other (p, written, proves) =
     let alike = applies_alike steps (whole I) (whole I) s t (alike-refl (whole I)) one other in
     let moved = proves_alike s.instance t.instance alike.instance (left_over s) (left_of x s) p proves in
-    let there = subst (λ (gone : List ℕ). Proves t.instance (record { inside = []; outside = gone }) (left_of x s) p) alike.gone moved in
+    let there = subst (λ (gone : List ℕ). Proves t.instance (avoiding gone) (left_of x s) p) alike.gone moved in
     (p, written, subst (λ (y : ℕ). Proves t.instance (left_over t) y p) (ap (λ (offset : ℕ). x - offset) alike.offset) there)

@@ -45,9 +45,9 @@ pub record IsSearchOf (left : State) (budget : ℕ) (s : Searched) : Type 0 wher
   pub budget_is : s.budget ≡ budget
   pub start : (t : Tree) × IsTreeOf left t × (s.start ≡ cost left.instance t)
   -- each node that was made was closed, split or left, and rightly so
-  pub complete : IsComplete s.gathered left.instance left.gone s.start budget
+  pub complete : IsComplete s.gathered left.instance (left_over left) s.start budget
   -- and none was left unless the budget was spent
-  pub finished : IsFinished s.gathered left.instance left.gone s.start budget
+  pub finished : IsFinished s.gathered left.instance (left_over left) s.start budget
 
 -- the log claims this tree and this bound, and its proof is that of one search of what its steps leave; it shows no greater bound, and spent the budget if they are apart
 pub record IsCertificate (nodes : ℕ) (plain : Bool) (I : Network) (tree : Tree) (primal dual expanded : ℕ) (searches : List Searched) (log : Log) : Type 0 where

@@ -1,10 +1,10 @@
 ghost use Rattle.std.specs.Prelude.{◌≡◌, All, IfOk, IfSome, min};
 ghost use Rattle.st_model.specs.Arborescence.{IsTree, cost};
 ghost use Rattle.st_model.specs.Branch.{Belongs};
-ghost use Rattle.search_core.specs.Complete.{least_found, less_found, without_gone};
+ghost use Rattle.search_core.specs.Complete.{least_found, less_found};
 
 use search_core::{Searched, Segment};
-use st_model::{Instance, Listed, Tree, tree_cost};
+use st_model::{Branch, Instance, Listed, Tree, tree_cost};
 use std::alloc::{AllocError, Global};
 
 // A search, and the best tree that it found.
@@ -14,26 +14,26 @@ pub struct Best {
     pub search: Searched,
 }
 
-/// The cheapest of a tree and those that workers found, in what is left.
+/// The cheapest of a tree of a branch and those that workers found.
 pub fn cheapest(
     alloc: Global,
     instance: &Instance,
-    gone: &[u32],
+    branch: &Branch,
     start: Tree,
     segments: &[Segment],
 ) -> Result<Tree, AllocError>
     requires tree { IsTree instance.now start }
-    requires belongs { Belongs (without_gone gone.now) start }
+    requires belongs { Belongs branch.now start }
     requires found { All (λ s. IfSome s.best
-        (λ t. IsTree instance.now t × Belongs (without_gone gone.now) t)) segments.now }
+        (λ t. IsTree instance.now t × Belongs branch.now t)) segments.now }
     ensures tree { IfOk result (IsTree instance.now) }
-    ensures belongs { IfOk result (Belongs (without_gone gone.now)) }
+    ensures belongs { IfOk result (Belongs branch.now) }
     ensures least { IfOk result (λ t. cost instance.now t
         ≡ least_found instance.now (cost instance.now start) segments.now) }
 {
     let mut best = start;
     for segment in segments {
-        best = with_found(alloc, instance, gone, best, segment)?;
+        best = with_found(alloc, instance, branch, best, segment)?;
     }
     Ok(best)
 }
@@ -42,21 +42,21 @@ pub fn cheapest(
 fn with_found(
     alloc: Global,
     instance: &Instance,
-    gone: &[u32],
+    branch: &Branch,
     tree: Tree,
     segment: &Segment,
 ) -> Result<Tree, AllocError>
     requires tree { IsTree instance.now tree }
-    requires belongs { Belongs (without_gone gone.now) tree }
+    requires belongs { Belongs branch.now tree }
     requires found { IfSome segment.now.best
-        (λ t. IsTree instance.now t × Belongs (without_gone gone.now) t) }
+        (λ t. IsTree instance.now t × Belongs branch.now t) }
     ensures tree { IfOk result (IsTree instance.now) }
-    ensures belongs { IfOk result (Belongs (without_gone gone.now)) }
+    ensures belongs { IfOk result (Belongs branch.now) }
     ensures least { IfOk result (λ t. cost instance.now t
         ≡ less_found instance.now segment.now.best (cost instance.now tree)) }
 {
     match &segment.best {
-        Some(found) => cheaper(alloc, instance, gone, tree, found),
+        Some(found) => cheaper(alloc, instance, branch, tree, found),
         None => Ok(tree),
     }
 }
@@ -65,14 +65,14 @@ fn with_found(
 fn cheaper(
     alloc: Global,
     instance: &Instance,
-    gone: &[u32],
+    branch: &Branch,
     first: Tree,
     second: &Tree,
 ) -> Result<Tree, AllocError>
-    requires first { IsTree instance.now first × Belongs (without_gone gone.now) first }
-    requires second { IsTree instance.now second.now × Belongs (without_gone gone.now) second.now }
+    requires first { IsTree instance.now first × Belongs branch.now first }
+    requires second { IsTree instance.now second.now × Belongs branch.now second.now }
     ensures tree { IfOk result (IsTree instance.now) }
-    ensures belongs { IfOk result (Belongs (without_gone gone.now)) }
+    ensures belongs { IfOk result (Belongs branch.now) }
     ensures least { IfOk result (λ t. cost instance.now t
         ≡ min (cost instance.now second.now) (cost instance.now first)) }
 {

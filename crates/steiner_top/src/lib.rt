@@ -20,8 +20,6 @@ mod solve_command;
 mod solving;
 mod start;
 mod status;
-#[cfg(test)]
-mod tests;
 mod trial_command;
 
 pub use command_line::{

@@ -5,7 +5,7 @@ ghost use Rattle.steiner_top.specs.Left.{CanBeCounted, IsLeftOf};
 use crate::left::Left;
 use lift_back::{Reduced, Step};
 use reductions::reduce;
-use st_model::{Branch, Instance, Listed};
+use st_model::{Branch, Instance};
 use std::alloc::{AllocError, Global};
 
 /// What is left of an instance: all of it, where it is to be plain, and else what a reduction leaves.
@@ -42,11 +42,7 @@ fn rest_of(alloc: Global, instance: &Instance) -> Result<Left, AllocError>
 pub fn left_over(alloc: Global, reduced: &Reduced) -> Result<Branch, AllocError>
     ensures { IfOk result (λ branch. branch ≡ left_over reduced.now.state) }
 {
-    let gone = reduced.gone(alloc)?;
-    Ok(Branch {
-        inside: Listed::of(Vec::new(alloc)),
-        outside: Listed::of(gone),
-    })
+    Ok(Branch::leaving_out(alloc, reduced.gone(alloc)?))
 }
 
 /// How many steps there are, each of whose vertices can be counted.

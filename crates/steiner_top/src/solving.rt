@@ -143,13 +143,13 @@ fn search_from<R: Threads + Wait + Sync, G: Gate>(
     ensures { IfOk result (IsBestOf reduced.now.state nodes) }
 {
     let start = start_tree(alloc, whole, sides)?;
-    let gone = sides.branch().outside.as_slice();
+    let branch = sides.branch();
     let first = tree_cost(&whole.instance, &start);
-    let gathered = run_all(rt, alloc, whole, gone, &start, workers, nodes, gate)?;
+    let gathered = run_all(rt, alloc, whole, branch, &start, workers, nodes, gate)?;
     let tree = cheapest(
         alloc,
         &whole.instance,
-        gone,
+        branch,
         start,
         gathered.segments.as_slice(),
     )?;

@@ -1,11 +1,4 @@
-pub mod Splits
-pub mod Writing
 pub mod Parts
-pub mod Extended
-pub mod Heavier
-pub mod Refined
-pub mod Found
-pub mod Closed
 pub mod Beginning
 pub mod Drawing
 pub mod Progressing

@@ -2,6 +2,7 @@
 use Rattle.std.proofs.Common.{◌≡◌, ℕ, suc, ◌+◌, List, [], ◌∷◌, ◌++◌, length, append-nil, Option, Some, None, refl, sym, ap, ◌∙◌, subst, length-append, append_assoc, arith}
 use Rattle.std.specs.Prelude.{IfSome, map}
 use Rattle.std.proofs.lemmas.List.{map-append}
+use Rattle.st_model.specs.declared.branch.Branch.{Branch}
 use Rattle.st_model.specs.Network.{Network}
 use Rattle.search_core.specs.declared.gathered.Segment.{Segment}
 use Rattle.worker_loop.specs.declared.team.Slot.{Slot}
@@ -47,8 +48,8 @@ members (b ∷ bs) (a ∷ as') [] = []
 members (b ∷ bs) (a ∷ as') (s ∷ ss) = record { before = b.worker.pass; after = a.worker.pass; account = a.worker.ledger; sight = a.worker.best; segment = s } ∷ members bs as' ss
 
 -- the slots of a team that ran are these members
-pub record AreMembers {Q : Type 0} (I : Network) (gone : List ℕ) (start workers seat : ℕ) (bs as' : List (Slot Q)) (ss : List Segment) : Type 0 where
-  pub run : HaveRun I gone start workers seat (members bs as' ss)
+pub record AreMembers {Q : Type 0} (I : Network) (R : Branch) (start workers seat : ℕ) (bs as' : List (Slot Q)) (ss : List Segment) : Type 0 where
+  pub run : HaveRun I R start workers seat (members bs as' ss)
   pub before : map (λ (M : Member). M.before) (members bs as' ss) ≡ map pass_of bs
   pub after : map (λ (M : Member). M.after) (members bs as' ss) ≡ map pass_of as'
   pub accounts_are : accounts (members bs as' ss) ≡ map account_of as'
@@ -65,27 +66,27 @@ rest_of [] = []
 rest_of (x ∷ xs) = xs
 
 -- a worker that ran in its seat has run
-has_run : {Q : Type 0} (I : Network) (gone : List ℕ) (start workers seat : ℕ) (b a : Slot Q) (s : Segment) → IsSeated workers seat b → HasRunIn I gone start b a → Some s ≡ a.segment
-    → (tasks : List Task) × HasRun I gone start seat workers b.worker.pass a.worker.pass a.worker.ledger a.worker.best tasks s
-has_run I gone start workers seat b a s seated ran here =
+has_run : {Q : Type 0} (I : Network) (R : Branch) (start workers seat : ℕ) (b a : Slot Q) (s : Segment) → IsSeated workers seat b → HasRunIn I R start b a → Some s ≡ a.segment
+    → (tasks : List Task) × HasRun I R start seat workers b.worker.pass a.worker.pass a.worker.ledger a.worker.best tasks s
+has_run I R start workers seat b a s seated ran here =
     let r = subst (λ (o : Option Segment). IfSome o
-    (λ s. (tasks : List Task) × HasRun I gone start b.worker.seat b.worker.workers b.worker.pass a.worker.pass a.worker.ledger a.worker.best tasks s)) (sym here) ran.run in
-    subst (λ (k : ℕ). (tasks : List Task) × HasRun I gone start k workers b.worker.pass a.worker.pass a.worker.ledger a.worker.best tasks s) seated.seat_is
-    (subst (λ (n : ℕ). (tasks : List Task) × HasRun I gone start b.worker.seat n b.worker.pass a.worker.pass a.worker.ledger a.worker.best tasks s) seated.workers_are r)
+    (λ s. (tasks : List Task) × HasRun I R start b.worker.seat b.worker.workers b.worker.pass a.worker.pass a.worker.ledger a.worker.best tasks s)) (sym here) ran.run in
+    subst (λ (k : ℕ). (tasks : List Task) × HasRun I R start k workers b.worker.pass a.worker.pass a.worker.ledger a.worker.best tasks s) seated.seat_is
+    (subst (λ (n : ℕ). (tasks : List Task) × HasRun I R start b.worker.seat n b.worker.pass a.worker.pass a.worker.ledger a.worker.best tasks s) seated.workers_are r)
 
-pub are_members : {Q : Type 0} (I : Network) (gone : List ℕ) (start workers seat : ℕ) (bs as' : List (Slot Q)) (ss : List Segment) → AreSeated workers seat bs → length as' ≡ length bs
-    → HaveRunIn I gone start bs as'
-    → map Some ss ≡ map segment_of as' → AreMembers I gone start workers seat bs as' ss
-are_members I gone start workers seat [] [] [] seated same ran found = record { run = tt; before = refl; after = refl; accounts_are = refl; sights_are = refl; segments_are = refl; count = refl }
-are_members I gone start workers seat [] [] (s ∷ ss) seated same ran found = absurd (omega (arith, ap (λ (xs : List (Option Segment)). length xs) found))
-are_members I gone start workers seat [] (a ∷ as') ss seated same ran found = absurd (omega arith)
-are_members I gone start workers seat (b ∷ bs) [] ss seated same ran found = absurd (omega arith)
-are_members I gone start workers seat (b ∷ bs) (a ∷ as') [] seated same ran found = absurd (omega (arith, ap (λ (xs : List (Option Segment)). length xs) found))
-are_members I gone start workers seat (b ∷ bs) (a ∷ as') (s ∷ ss) seated same ran found =
-    let h = are_members I gone start workers (seat + 1) bs as' ss seated.1 (omega arith) (λ k d lt. ran (suc k) d (omega arith)) (ap rest_of found) in
-    let one : HasRunIn I gone start b a = ran 0 b (omega arith) in
+pub are_members : {Q : Type 0} (I : Network) (R : Branch) (start workers seat : ℕ) (bs as' : List (Slot Q)) (ss : List Segment) → AreSeated workers seat bs → length as' ≡ length bs
+    → HaveRunIn I R start bs as'
+    → map Some ss ≡ map segment_of as' → AreMembers I R start workers seat bs as' ss
+are_members I R start workers seat [] [] [] seated same ran found = record { run = tt; before = refl; after = refl; accounts_are = refl; sights_are = refl; segments_are = refl; count = refl }
+are_members I R start workers seat [] [] (s ∷ ss) seated same ran found = absurd (omega (arith, ap (λ (xs : List (Option Segment)). length xs) found))
+are_members I R start workers seat [] (a ∷ as') ss seated same ran found = absurd (omega arith)
+are_members I R start workers seat (b ∷ bs) [] ss seated same ran found = absurd (omega arith)
+are_members I R start workers seat (b ∷ bs) (a ∷ as') [] seated same ran found = absurd (omega (arith, ap (λ (xs : List (Option Segment)). length xs) found))
+are_members I R start workers seat (b ∷ bs) (a ∷ as') (s ∷ ss) seated same ran found =
+    let h = are_members I R start workers (seat + 1) bs as' ss seated.1 (omega arith) (λ k d lt. ran (suc k) d (omega arith)) (ap rest_of found) in
+    let one : HasRunIn I R start b a = ran 0 b (omega arith) in
     record {
-      run = (has_run I gone start workers seat b a s seated.0 one (ap first_of found), h.run);
+      run = (has_run I R start workers seat b a s seated.0 one (ap first_of found), h.run);
       before = ap (λ xs. b.worker.pass ∷ xs) h.before;
       after = ap (λ xs. a.worker.pass ∷ xs) h.after;
       accounts_are = ap (λ xs. a.worker.ledger ∷ xs) h.accounts_are;

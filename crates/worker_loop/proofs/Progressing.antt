@@ -6,6 +6,7 @@ use Rattle.std.proofs.lemmas.List.{map-append}
 use Rattle.std.proofs.lemmas.List.Concat.{flat_map-append}
 use Rattle.std.proofs.lemmas.List.Elements.{All-cons, All-head, All-nil, All-push, All-weaker}
 use Rattle.std.proofs.lemmas.List.Sums.{sum_by-append}
+use Rattle.st_model.specs.declared.branch.Branch.{Branch}
 use Rattle.st_model.specs.declared.tree.Tree.{Tree}
 use Rattle.st_model.specs.Network.{Network}
 use Rattle.branching.specs.declared.node.Node.{Node}
@@ -26,17 +27,17 @@ use Rattle.worker_loop.specs.Progress.{AreDrawnBelow, CountsOf, HasLooked, HasWo
 use Rattle.worker_loop.specs.Sound.{IsSound}
 
 -- a task stays right where the worker has seen less since then
-lower_task : (I : Network) (gone : List ℕ) (start seen lower : ℕ) → lower ≤ seen → (T : Task) → IsTask I gone start seen T → IsTask I gone start lower T
-lower_task I gone start seen lower low T h = record { sound = h.sound; same = h.same; done_right = by_case T.done h.done_right }
+lower_task : (I : Network) (R : Branch) (start seen lower : ℕ) → lower ≤ seen → (T : Task) → IsTask I R start seen T → IsTask I R start lower T
+lower_task I R start seen lower low T h = record { sound = h.sound; same = h.same; done_right = by_case T.done h.done_right }
   where
     by_case : (d : Done) → IsDoneWith I start seen T.node d → IsDoneWith I start lower T.node d
     by_case (Split id v i o P) k = k
     by_case (Close id P) k = record { closes = record { fits = k.closes.fits; weighs = omega (arith, low, k.closes.weighs) }; writable = k.writable }
 
 -- looks at the ledger change nothing that counts
-pub looked : (I : Network) (gone : List ℕ) (start seat workers : ℕ) (p q : Station) (u u' : Account) (s : Sight) (next : ℕ) (k : Work) (held : List Node) → HasLooked u u'
-    → HasWorked I gone start seat workers p (as_of q u s next k) held → HasWorked I gone start seat workers p (as_of q u' s next k) held
-looked I gone start seat workers p q u u' s next k held l (tasks, h) = (
+pub looked : (I : Network) (R : Branch) (start seat workers : ℕ) (p q : Station) (u u' : Account) (s : Sight) (next : ℕ) (k : Work) (held : List Node) → HasLooked u u'
+    → HasWorked I R start seat workers p (as_of q u s next k) held → HasWorked I R start seat workers p (as_of q u' s next k) held
+looked I R start seat workers p q u u' s next k held l (tasks, h) = (
   tasks,
   record {
     records = h.records;
@@ -55,11 +56,11 @@ looked I gone start seat workers p q u u' s next k held l (tasks, h) = (
 )
 
 -- a claim was refused, and the worker halted
-pub refused : (I : Network) (gone : List ℕ) (start seat workers : ℕ) (p q : Station) (u u' : Account) (s : Sight) (next : ℕ) (k : Work) (held : List Node) → u'.tally.ups ≡ u.tally.ups
+pub refused : (I : Network) (R : Branch) (start seat workers : ℕ) (p q : Station) (u u' : Account) (s : Sight) (next : ℕ) (k : Work) (held : List Node) → u'.tally.ups ≡ u.tally.ups
     → u'.tally.downs ≡ u.tally.downs
     → u'.tally.granted ≡ u.tally.granted → 0 < u'.tally.refused
-    → HasWorked I gone start seat workers p (as_of q u s next k) held → HasWorked I gone start seat workers p (as_of q u' s next k) held
-refused I gone start seat workers p q u u' s next k held ups downs granted some (tasks, h) = (
+    → HasWorked I R start seat workers p (as_of q u s next k) held → HasWorked I R start seat workers p (as_of q u' s next k) held
+refused I R start seat workers p q u u' s next k held ups downs granted some (tasks, h) = (
   tasks,
   record {
     records = h.records;
@@ -73,14 +74,14 @@ refused I gone start seat workers p q u u' s next k held ups downs granted some 
 )
 
 -- a node that was taken is in hand
-pub took_up : (I : Network) (gone : List ℕ) (start seat workers : ℕ) (p q q' : Station) (u : Account) (s : Sight) (next : ℕ) (k : Work) (N : Node) → IsSound I gone N → Moves q q' [] (N ∷ [])
-    → HasWorked I gone start seat workers p (as_of q u s next k) [] → HasWorked I gone start seat workers p (as_of q' u s next k) (N ∷ [])
-took_up I gone start seat workers p q q' u s next k N sound moves (tasks, h) = (
+pub took_up : (I : Network) (R : Branch) (start seat workers : ℕ) (p q q' : Station) (u : Account) (s : Sight) (next : ℕ) (k : Work) (N : Node) → IsSound I R N → Moves q q' [] (N ∷ [])
+    → HasWorked I R start seat workers p (as_of q u s next k) [] → HasWorked I R start seat workers p (as_of q' u s next k) (N ∷ [])
+took_up I R start seat workers p q q' u s next k N sound moves (tasks, h) = (
   tasks,
   record {
     records = h.records;
     tasks_right = h.tasks_right;
-    held_sound = All-cons (IsSound I gone) N [] sound (All-nil (IsSound I gone));
+    held_sound = All-cons (IsSound I R) N [] sound (All-nil (IsSound I R));
     nodes = λ w. balance (gave w q) (gave w q') (gave w p) (took w q) (took w q') (took w p) (sum_by w (map node_of tasks)) (sum_by w (flat_map halves_of tasks)) (sum_by w (N ∷ [])) (h.nodes w)
         (moves w);
     drawn = h.drawn;
@@ -110,18 +111,18 @@ counted f before after d was was' is grown counts same more =
     sum_of a b n was was' is e f g h = omega arith
 
 -- a node in hand was claimed and worked on
-pub worked : (I : Network) (gone : List ℕ) (start seat workers : ℕ) (p q : Station) (u u' : Account) (s : Sight) (next : ℕ) (k : Work) (N : Node) (m : Moment) (held : List Node) (d : Done)
+pub worked : (I : Network) (R : Branch) (start seat workers : ℕ) (p q : Station) (u u' : Account) (s : Sight) (next : ℕ) (k : Work) (N : Node) (m : Moment) (held : List Node) (d : Done)
     → IsGranted u u'
-    → IsWorkedOn I gone start seat workers N (as_of q u' s next k) m held d
-    → HasWorked I gone start seat workers p (as_of q u s next k) (N ∷ []) → HasWorked I gone start seat workers p m held
-worked I gone start seat workers p q u u' s next k N m held d claim on (tasks, h) =
+    → IsWorkedOn I R start seat workers N (as_of q u' s next k) m held d
+    → HasWorked I R start seat workers p (as_of q u s next k) (N ∷ []) → HasWorked I R start seat workers p m held
+worked I R start seat workers p q u u' s next k N m held d claim on (tasks, h) =
     let T : Task = record { node = N; done = d } in
     let lower : m.work.seen ≤ k.seen = omega (arith, on.lower, h.seen.last) in (
       tasks ++ T ∷ [],
       record {
         records = on.records ∙ (ap (λ (ds : List Done). ds ++ d ∷ []) h.records ∙ sym (map-append done_of tasks (T ∷ [])));
-        tasks_right = All-push (IsTask I gone start m.work.seen) tasks T
-            (All-weaker (IsTask I gone start k.seen) (IsTask I gone start m.work.seen) (lower_task I gone start k.seen m.work.seen lower) tasks h.tasks_right) on.task;
+        tasks_right = All-push (IsTask I R start m.work.seen) tasks T
+            (All-weaker (IsTask I R start k.seen) (IsTask I R start m.work.seen) (lower_task I R start k.seen m.work.seen lower) tasks h.tasks_right) on.task;
         held_sound = on.held_sound;
         nodes = λ w.
             balance (gave w q) (gave w m.pass) (gave w p) (took w q) (took w m.pass) (took w p) _ _ _ _ (sum_by w (N ∷ [])) (sum_by w (halves_of T)) (sum_by w held) (nodes_pushed w tasks T)
@@ -146,11 +147,11 @@ worked I gone start seat workers p q u u' s next k N m held d claim on (tasks, h
         grown in omega arith
 
 -- a worker with new seats has done nothing
-pub begun : (I : Network) (gone : List ℕ) (start seat workers next r : ℕ) (p : Station) (u : Account) (s s' : Sight) (k : Work) → 0 < workers → next ≡ 1 + seat
+pub begun : (I : Network) (R : Branch) (start seat workers next r : ℕ) (p : Station) (u : Account) (s s' : Sight) (k : Work) → 0 < workers → next ≡ 1 + seat
     → u ≡ new_account u.ledger u.tally.budget
     → s ≡ new_sight s.incumbent start → r ≤ s.lowest → s' ≡ having_seen s r → k.done.items ≡ [] → k.best ≡ None → k.seen ≡ r
-    → HasWorked I gone start seat workers p (as_of p u s' next k) []
-begun I gone start seat workers next r p u s s' k some first account sight low look none no_tree last =
+    → HasWorked I R start seat workers p (as_of p u s' next k) []
+begun I R start seat workers next r p u s s' k some first account sight low look none no_tree last =
     let new : k.done.items ≡ map done_of [] = none in
     let tasks : List Task = [] in
     let no_offer : s'.offers ≡ [] = ap (λ (m : Sight). m.offers) look ∙ ap (λ (m : Sight). m.offers) sight in
@@ -159,8 +160,8 @@ begun I gone start seat workers next r p u s s' k some first account sight low l
       tasks,
       record {
         records = new;
-        tasks_right = All-nil (IsTask I gone start k.seen);
-        held_sound = All-nil (IsSound I gone);
+        tasks_right = All-nil (IsTask I R start k.seen);
+        held_sound = All-nil (IsSound I R);
         nodes = λ w. plain (gave w p) (took w p);
         drawn = subst (λ (ds : List Done). AreDrawnBelow seat workers next ds) (sym none) (record {
           some = some;
@@ -171,8 +172,8 @@ begun I gone start seat workers next r p u s s' k some first account sight low l
         seen = record {
           last = now ∙ sym last;
           low = subst (λ (xs : List ℕ). s'.lowest ≤ least_of start xs) (sym no_offer) (omega (arith, now, low, at_start));
-          offered = subst (λ (xs : List ℕ). IsOffered I gone start k.best xs) (sym no_offer)
-              (subst (λ (t : Option Tree). IsOffered I gone start t []) (sym no_tree) (record { found = tt; least = refl }));
+          offered = subst (λ (xs : List ℕ). IsOffered I R start k.best xs) (sym no_offer)
+              (subst (λ (t : Option Tree). IsOffered I R start t []) (sym no_tree) (record { found = tt; least = refl }));
         };
         counts = subst (λ (ds : List Done). CountsOf ds u) (sym none) (record {
           ups = ap (λ (v : Account). v.tally.ups) account;
@@ -187,11 +188,11 @@ begun I gone start seat workers next r p u s s' k some first account sight low l
     plain g t = omega arith
 
 -- what a worker brings back that ends with these nodes left
-pub ran_so : (I : Network) (gone : List ℕ) (start seat workers : ℕ) (p q : Station) (u : Account) (s : Sight) (next : ℕ) (k : Work) (left : List Node) (end : End) (segment : Segment)
+pub ran_so : (I : Network) (R : Branch) (start seat workers : ℕ) (p q : Station) (u : Account) (s : Sight) (next : ℕ) (k : Work) (left : List Node) (end : End) (segment : Segment)
     → segment ≡ record { done = k.done.items; left = left; best = k.best; seen = k.seen; end = end } → length left ≤ 1 → IsEnding end u
-    → HasWorked I gone start seat workers p (as_of q u s next k) left → (tasks : List Task) × HasRun I gone start seat workers p q u s tasks segment
-ran_so I gone start seat workers p q u s next k left end segment is few ending (tasks, h) =
-    let F : Segment → Type 0 = λ x. (tasks : List Task) × HasRun I gone start seat workers p q u s tasks x in
+    → HasWorked I R start seat workers p (as_of q u s next k) left → (tasks : List Task) × HasRun I R start seat workers p q u s tasks segment
+ran_so I R start seat workers p q u s next k left end segment is few ending (tasks, h) =
+    let F : Segment → Type 0 = λ x. (tasks : List Task) × HasRun I R start seat workers p q u s tasks x in
     subst F (sym is) (
       tasks,
       record {
@@ -229,17 +230,17 @@ same_worker a b c h k = record {
 }
 
 -- the same in the seat of the same worker
-pub reseated : {Q : Type 0} (I : Network) (gone : List ℕ) (start : ℕ) (a b : Worker Q) (p : Station) (m : Moment) (held : List Node) → SameWorker a b
-    → HasWorked I gone start a.seat a.workers p m held → HasWorked I gone start b.seat b.workers p m held
-reseated I gone start a b p m held same h =
-    subst (λ (k : ℕ). HasWorked I gone start k b.workers p m held) (sym same.seat) (subst (λ (n : ℕ). HasWorked I gone start a.seat n p m held) (sym same.workers) h)
+pub reseated : {Q : Type 0} (I : Network) (R : Branch) (start : ℕ) (a b : Worker Q) (p : Station) (m : Moment) (held : List Node) → SameWorker a b
+    → HasWorked I R start a.seat a.workers p m held → HasWorked I R start b.seat b.workers p m held
+reseated I R start a b p m held same h =
+    subst (λ (k : ℕ). HasWorked I R start k b.workers p m held) (sym same.seat) (subst (λ (n : ℕ). HasWorked I R start a.seat n p m held) (sym same.workers) h)
 
-pub seated_back : {Q : Type 0} (I : Network) (gone : List ℕ) (start : ℕ) (a b : Worker Q) (p : Station) (m : Moment) (held : List Node) → SameWorker a b
-    → HasWorked I gone start b.seat b.workers p m held → HasWorked I gone start a.seat a.workers p m held
-seated_back I gone start a b p m held same h =
-    subst (λ (k : ℕ). HasWorked I gone start k a.workers p m held) same.seat (subst (λ (n : ℕ). HasWorked I gone start b.seat n p m held) same.workers h)
+pub seated_back : {Q : Type 0} (I : Network) (R : Branch) (start : ℕ) (a b : Worker Q) (p : Station) (m : Moment) (held : List Node) → SameWorker a b
+    → HasWorked I R start b.seat b.workers p m held → HasWorked I R start a.seat a.workers p m held
+seated_back I R start a b p m held same h =
+    subst (λ (k : ℕ). HasWorked I R start k a.workers p m held) same.seat (subst (λ (n : ℕ). HasWorked I R start b.seat n p m held) same.workers h)
 
 -- what holds of a node in hand
-pub in_hand : (I : Network) (gone : List ℕ) (start seat workers : ℕ) (p : Station) (m : Moment) (N : Node) → HasWorked I gone start seat workers p m (N ∷ [])
-    → IsSound I gone N × (m.sight.lowest ≤ start)
-in_hand I gone start seat workers p m N (tasks, h) = (All-head (IsSound I gone) N [] h.held_sound, let first = least_at_start start m.sight.offers in omega (arith, h.seen.low, first))
+pub in_hand : (I : Network) (R : Branch) (start seat workers : ℕ) (p : Station) (m : Moment) (N : Node) → HasWorked I R start seat workers p m (N ∷ [])
+    → IsSound I R N × (m.sight.lowest ≤ start)
+in_hand I R start seat workers p m N (tasks, h) = (All-head (IsSound I R) N [] h.held_sound, let first = least_at_start start m.sight.offers in omega (arith, h.seen.low, first))

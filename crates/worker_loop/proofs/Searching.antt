@@ -3,6 +3,7 @@ use Rattle.std.proofs.Common.{◌≡◌, ℕ, zero, suc, ◌+◌, ◌%◌, ◌^�
 use Rattle.std.specs.Prelude.{All, map, slice_index_or}
 use Rattle.std.specs.List.{sum_by}
 use Rattle.std.proofs.lemmas.List.Elements.{All-cons, All-head, All-nil, All-tail}
+use Rattle.st_model.specs.declared.branch.Branch.{Branch}
 use Rattle.st_model.specs.Network.{Network}
 use Rattle.branching.specs.declared.node.Node.{Node}
 use Rattle.incumbent.specs.Least.{least_of}
@@ -42,41 +43,41 @@ all_unused {Q} L M allowed start workers seat (b ∷ bs) some seated accounts si
     (all_unused L M allowed start workers (seat + 1) bs some seated.1 (All-tail F (account_of b) (map account_of bs) accounts) (All-tail G (sight_of b) (map sight_of bs) sights))
 
 -- they are of the same ledger and the same incumbent when they have run
-pub same_ledgers : {Q : Type 0} (I : Network) (gone : List ℕ) (start : ℕ) (L : _) (allowed : ℕ) (bs as' : List (Slot Q)) → length as' ≡ length bs → HaveRunIn I gone start bs as'
+pub same_ledgers : {Q : Type 0} (I : Network) (R : Branch) (start : ℕ) (L : _) (allowed : ℕ) (bs as' : List (Slot Q)) → length as' ≡ length bs → HaveRunIn I R start bs as'
     → All (λ u. u ≡ new_account L allowed) (map account_of bs) → All (λ u. u.ledger ≡ L) (map account_of as')
-same_ledgers I gone start L allowed bs [] same ran new = All-nil (λ (u : Account). u.ledger ≡ L)
-same_ledgers I gone start L allowed [] (a ∷ as') same ran new = absurd (omega arith)
-same_ledgers I gone start L allowed (b ∷ bs) (a ∷ as') same ran new =
+same_ledgers I R start L allowed bs [] same ran new = All-nil (λ (u : Account). u.ledger ≡ L)
+same_ledgers I R start L allowed [] (a ∷ as') same ran new = absurd (omega arith)
+same_ledgers I R start L allowed (b ∷ bs) (a ∷ as') same ran new =
     let F : Account → Type 0 = λ u. u ≡ new_account L allowed in
-    let one : HasRunIn I gone start b a = ran 0 b (omega arith) in
+    let one : HasRunIn I R start b a = ran 0 b (omega arith) in
     All-cons (λ (u : Account). u.ledger ≡ L) (account_of a) (map account_of as') (one.same.ledger ∙ ap (λ (u : Account). u.ledger) (All-head F (account_of b) (map account_of bs) new))
-    (same_ledgers I gone start L allowed bs as' (omega arith) (λ k d lt. ran (suc k) d (omega arith)) (All-tail F (account_of b) (map account_of bs) new))
+    (same_ledgers I R start L allowed bs as' (omega arith) (λ k d lt. ran (suc k) d (omega arith)) (All-tail F (account_of b) (map account_of bs) new))
 
-pub same_incumbents : {Q : Type 0} (I : Network) (gone : List ℕ) (start : ℕ) (M : _) (bs as' : List (Slot Q)) → length as' ≡ length bs → HaveRunIn I gone start bs as'
+pub same_incumbents : {Q : Type 0} (I : Network) (R : Branch) (start : ℕ) (M : _) (bs as' : List (Slot Q)) → length as' ≡ length bs → HaveRunIn I R start bs as'
     → All (λ m. m ≡ new_sight M start) (map sight_of bs) → All (λ m. m.incumbent ≡ M) (map sight_of as')
-same_incumbents I gone start M bs [] same ran new = All-nil (λ (m : Sight). m.incumbent ≡ M)
-same_incumbents I gone start M [] (a ∷ as') same ran new = absurd (omega arith)
-same_incumbents I gone start M (b ∷ bs) (a ∷ as') same ran new =
+same_incumbents I R start M bs [] same ran new = All-nil (λ (m : Sight). m.incumbent ≡ M)
+same_incumbents I R start M [] (a ∷ as') same ran new = absurd (omega arith)
+same_incumbents I R start M (b ∷ bs) (a ∷ as') same ran new =
     let G : Sight → Type 0 = λ m. m ≡ new_sight M start in
-    let one : HasRunIn I gone start b a = ran 0 b (omega arith) in
+    let one : HasRunIn I R start b a = ran 0 b (omega arith) in
     All-cons (λ (m : Sight). m.incumbent ≡ M) (sight_of a) (map sight_of as') (one.same.best ∙ ap (λ (m : Sight). m.incumbent) (All-head G (sight_of b) (map sight_of bs) new))
-    (same_incumbents I gone start M bs as' (omega arith) (λ k d lt. ran (suc k) d (omega arith)) (All-tail G (sight_of b) (map sight_of bs) new))
+    (same_incumbents I R start M bs as' (omega arith) (λ k d lt. ran (suc k) d (omega arith)) (All-tail G (sight_of b) (map sight_of bs) new))
 
 -- and their passes are the same
-pub same_passes : {Q : Type 0} (I : Network) (gone : List ℕ) (start : ℕ) (bs as' : List (Slot Q)) → length as' ≡ length bs → HaveRunIn I gone start bs as'
+pub same_passes : {Q : Type 0} (I : Network) (R : Branch) (start : ℕ) (bs as' : List (Slot Q)) → length as' ≡ length bs → HaveRunIn I R start bs as'
     → (k : ℕ) (d : Station) → k < length (map pass_of bs) → SamePass (slice_index_or (map pass_of bs) k d) (slice_index_or (map pass_of as') k d)
-same_passes I gone start [] as' same ran k d lt = absurd (omega arith)
-same_passes I gone start (b ∷ bs) [] same ran k d lt = absurd (omega arith)
-same_passes I gone start (b ∷ bs) (a ∷ as') same ran zero d lt = let one : HasRunIn I gone start b a = ran 0 b (omega arith) in one.same.pass
-same_passes I gone start (b ∷ bs) (a ∷ as') same ran (suc k) d lt = same_passes I gone start bs as' (omega arith) (λ j e less. ran (suc j) e (omega arith)) k d (omega arith)
+same_passes I R start [] as' same ran k d lt = absurd (omega arith)
+same_passes I R start (b ∷ bs) [] same ran k d lt = absurd (omega arith)
+same_passes I R start (b ∷ bs) (a ∷ as') same ran zero d lt = let one : HasRunIn I R start b a = ran 0 b (omega arith) in one.same.pass
+same_passes I R start (b ∷ bs) (a ∷ as') same ran (suc k) d lt = same_passes I R start bs as' (omega arith) (λ j e less. ran (suc j) e (omega arith)) k d (omega arith)
 
 -- so they are all passes of the pool still
-pub still_a_pool : {Q : Type 0} (I : Network) (gone : List ℕ) (start : ℕ) (bs as' : List (Slot Q)) (before after : List Station) → PassesStayAPool → length as' ≡ length bs
-    → HaveRunIn I gone start bs as'
+pub still_a_pool : {Q : Type 0} (I : Network) (R : Branch) (start : ℕ) (bs as' : List (Slot Q)) (before after : List Station) → PassesStayAPool → length as' ≡ length bs
+    → HaveRunIn I R start bs as'
     → map pass_of bs ≡ before → after ≡ map pass_of as' → AreAllPasses before → AreAllPasses after
-still_a_pool I gone start bs as' before after law same ran was is all =
+still_a_pool I R start bs as' before after law same ran was is all =
     subst AreAllPasses (sym is)
-    (law (map pass_of bs) (map pass_of as') (subst AreAllPasses (sym was) all) (map_long pass_of as' ∙ (same ∙ sym (map_long pass_of bs))) (same_passes I gone start bs as' same ran))
+    (law (map pass_of bs) (map pass_of as') (subst AreAllPasses (sym was) all) (map_long pass_of as' ∙ (same ∙ sym (map_long pass_of bs))) (same_passes I R start bs as' same ran))
 
 -- what a ledger came to, which allowed so many claims
 pub record IsTotal (allowed : ℕ) (us : List Account) (opened claimed : ℕ) : Type 0 where
@@ -91,25 +92,25 @@ same_budget : (budget allowed claimed sum : ℕ) → allowed ≡ min budget 9223
 same_budget budget allowed claimed sum is fewer within = omega arith
 
 -- the pool, the ledger and the incumbent of a team that ran
-pub record IsClosedTeam {Q : Type 0} (I : Network) (gone : List ℕ) (start allowed workers : ℕ) (bs as' : List (Slot Q)) (queued : List Node) (least opened claimed : ℕ) : Type 0 where
-  pub root : (h : Node → ℕ) → all_gave h (map pass_of bs) ≡ all_took h (map pass_of bs) + h (root_of gone)
+pub record IsClosedTeam {Q : Type 0} (I : Network) (R : Branch) (start allowed workers : ℕ) (bs as' : List (Slot Q)) (queued : List Node) (least opened claimed : ℕ) : Type 0 where
+  pub root : (h : Node → ℕ) → all_gave h (map pass_of bs) ≡ all_took h (map pass_of bs) + h (root_of R)
   pub left : (h : Node → ℕ) → all_gave h (map pass_of as') ≡ all_took h (map pass_of as') + sum_by h queued
-  pub sound : All (IsSound I gone) queued
+  pub sound : All (IsSound I R) queued
   pub few : length queued < 2 ^ 63
   pub total : IsTotal allowed (map account_of as') opened claimed
   pub is_least : least ≡ least_of start (all_offers (map sight_of as'))
   pub seen : All (λ (m : Sight). least ≤ m.lowest) (map sight_of as')
 
-pub searched_so : {Q : Type 0} (I : Network) (gone : List ℕ) (start budget allowed workers : ℕ) (bs as' : List (Slot Q)) (ss : List Segment) (queued : List Node) (least opened claimed : ℕ)
-    → workers ≤ 64 → length bs ≡ workers → length as' ≡ length bs → AreSeated workers 0 bs → HaveRunIn I gone start bs as' → map Some ss ≡ map segment_of as'
+pub searched_so : {Q : Type 0} (I : Network) (R : Branch) (start budget allowed workers : ℕ) (bs as' : List (Slot Q)) (ss : List Segment) (queued : List Node) (least opened claimed : ℕ)
+    → workers ≤ 64 → length bs ≡ workers → length as' ≡ length bs → AreSeated workers 0 bs → HaveRunIn I R start bs as' → map Some ss ≡ map segment_of as'
     → allowed ≡ min budget 9223372036854775807 → (claimed ≡ 9223372036854775807 → ⊥)
-    → IsClosedTeam I gone start allowed workers bs as' queued least opened claimed
-    → IsSearched (record { segments = ss; queued = queued; least = least; claimed = claimed }) I gone start budget
-searched_so I gone start budget allowed workers bs as' ss queued least opened claimed few count same seated ran found is_allowed fewer h =
-    let t = are_members I gone start workers 0 bs as' ss seated same ran found in
+    → IsClosedTeam I R start allowed workers bs as' queued least opened claimed
+    → IsSearched (record { segments = ss; queued = queued; least = least; claimed = claimed }) I R start budget
+searched_so I R start budget allowed workers bs as' ss queued least opened claimed few count same seated ran found is_allowed fewer h =
+    let t = are_members I R start workers 0 bs as' ss seated same ran found in
     let team : List Member = members bs as' ss in
-    let pooled : IsPooled I gone team queued = record {
-      root = λ w. subst (λ (ps : List Station). all_gave w ps ≡ all_took w ps + w (root_of gone)) (sym t.before) (h.root w);
+    let pooled : IsPooled I R team queued = record {
+      root = λ w. subst (λ (ps : List Station). all_gave w ps ≡ all_took w ps + w (root_of R)) (sym t.before) (h.root w);
       left = λ w. subst (λ (ps : List Station). all_gave w ps ≡ all_took w ps + sum_by w queued) (sym t.after) (h.left w);
       sound = h.sound;
       few = h.few;
@@ -126,5 +127,5 @@ searched_so I gone start budget allowed workers bs as' ss queued least opened cl
       is_least = subst (λ (ms : List Sight). least ≡ least_of start (all_offers ms)) (sym t.sights_are) h.is_least;
       seen = subst (λ (ms : List Sight). All (λ (m : Sight). least ≤ m.lowest) ms) (sym t.sights_are) h.seen;
     } in
-    subst (λ (xs : List Segment). IsSearched (record { segments = xs; queued = queued; least = least; claimed = claimed }) I gone start budget) t.segments_are
-    (team_searches I gone start budget workers team queued least opened claimed (t.count ∙ count) few t.run pooled counted lowest)
+    subst (λ (xs : List Segment). IsSearched (record { segments = xs; queued = queued; least = least; claimed = claimed }) I R start budget) t.segments_are
+    (team_searches I R start budget workers team queued least opened claimed (t.count ∙ count) few t.run pooled counted lowest)

@@ -44,38 +44,38 @@ halves_number [] = refl
 halves_number (T ∷ Ts) = omega (arith, two_halves T.node.branch T.done, halves_number Ts, sum_by-append each (halves_of T) (flat_map halves_of Ts), sum_by-cons splits T.done (map done_of Ts))
 
 -- one node more than the splits was closed or waits
-nodes_left : (gone : List ℕ) (tasks : List Task) (waiting : List Node) → IsAccounted gone tasks waiting → 1 + sum_by splits (map done_of tasks) ≡ sum_by closes (map done_of tasks) + length waiting
-nodes_left gone tasks waiting accounted = omega (arith, accounted each, tasks_number tasks, halves_number tasks, nodes_number waiting)
+nodes_left : (R : Branch) (tasks : List Task) (waiting : List Node) → IsAccounted R tasks waiting → 1 + sum_by splits (map done_of tasks) ≡ sum_by closes (map done_of tasks) + length waiting
+nodes_left R tasks waiting accounted = omega (arith, accounted each, tasks_number tasks, halves_number tasks, nodes_number waiting)
 
 -- where there is none of what a thing needs, there is none of the thing
 not_without : (a b : ℕ) → (0 < a → 0 < b) → b ≡ 0 → a ≡ 0
 not_without zero b needs none = refl
 not_without (suc a) b needs none = absurd (omega (arith, none, needs (omega arith)))
 
-module _ (I : Network) (gone : List ℕ) (start workers : ℕ) where
-  pub ups_are : (seat : ℕ) (team : List Member) → HaveRun I gone start workers seat team → ups_of (accounts team) ≡ sum_by splits (done_by team)
+module _ (I : Network) (R : Branch) (start workers : ℕ) where
+  pub ups_are : (seat : ℕ) (team : List Member) → HaveRun I R start workers seat team → ups_of (accounts team) ≡ sum_by splits (done_by team)
   ups_are seat [] ran = refl
   ups_are seat (M ∷ Ms) ran =
       omega (arith, ran.0.1.ups, ups_are (seat + 1) Ms ran.1, sum_by-cons (λ (s : Known). s.tally.ups) M.account (accounts Ms), sum_by-append splits M.segment.done (done_by Ms))
 
-  pub downs_are : (seat : ℕ) (team : List Member) → HaveRun I gone start workers seat team → downs_of (accounts team) ≡ sum_by closes (done_by team)
+  pub downs_are : (seat : ℕ) (team : List Member) → HaveRun I R start workers seat team → downs_of (accounts team) ≡ sum_by closes (done_by team)
   downs_are seat [] ran = refl
   downs_are seat (M ∷ Ms) ran =
       omega (arith, ran.0.1.downs, downs_are (seat + 1) Ms ran.1, sum_by-cons (λ (s : Known). s.tally.downs) M.account (accounts Ms), sum_by-append closes M.segment.done (done_by Ms))
 
   -- each claim that was granted went to a record
-  pub granted_are : (seat : ℕ) (team : List Member) → HaveRun I gone start workers seat team → granted_of (accounts team) ≡ length (done_by team)
+  pub granted_are : (seat : ℕ) (team : List Member) → HaveRun I R start workers seat team → granted_of (accounts team) ≡ length (done_by team)
   granted_are seat [] ran = refl
   granted_are seat (M ∷ Ms) ran =
       omega (arith, ran.0.1.granted, granted_are (seat + 1) Ms ran.1, sum_by-cons (λ (s : Known). s.tally.granted) M.account (accounts Ms), length-append M.segment.done (done_by Ms))
 
   -- each left one node at most
-  few_left : (seat : ℕ) (team : List Member) → HaveRun I gone start workers seat team → length (left_by team) ≤ length team
+  few_left : (seat : ℕ) (team : List Member) → HaveRun I R start workers seat team → length (left_by team) ≤ length team
   few_left seat [] ran = omega arith
   few_left seat (M ∷ Ms) ran = omega (arith, ran.0.1.few, few_left (seat + 1) Ms ran.1, length-append M.segment.left (left_by Ms))
 
   -- where no claim was refused nobody halted
-  none_halted : (seat : ℕ) (team : List Member) → HaveRun I gone start workers seat team → refused_of (accounts team) ≡ 0 → halts_of (accounts team) ≡ 0
+  none_halted : (seat : ℕ) (team : List Member) → HaveRun I R start workers seat team → refused_of (accounts team) ≡ 0 → halts_of (accounts team) ≡ 0
   none_halted seat [] ran none = refl
   none_halted seat (M ∷ Ms) ran none =
       let sum = sum_by-cons (λ (s : Known). s.tally.refused) M.account (accounts Ms) in
@@ -92,7 +92,7 @@ module _ (I : Network) (gone : List ℕ) (start workers : ℕ) where
   ended_open ClaimRefused u h none unseen = absurd (omega (arith, h, none))
   ended_open HaltSeen u h none unseen = absurd (omega (arith, h, unseen))
 
-  all_idle : (seat : ℕ) (team : List Member) → HaveRun I gone start workers seat team → refused_of (accounts team) ≡ 0 → sights_of (accounts team) ≡ 0 → AreIdle team
+  all_idle : (seat : ℕ) (team : List Member) → HaveRun I R start workers seat team → refused_of (accounts team) ≡ 0 → sights_of (accounts team) ≡ 0 → AreIdle team
   all_idle seat [] ran none unseen = All-nil (λ (u : Known). u.tally.busy ≡ 0)
   all_idle seat (M ∷ Ms) ran none unseen =
       let refused = sum_by-cons (λ (s : Known). s.tally.refused) M.account (accounts Ms) in
@@ -108,16 +108,16 @@ module _ (I : Network) (gone : List ℕ) (start workers : ℕ) where
   no_nodes [] h = refl
   no_nodes (N ∷ Ns) h = absurd (omega arith)
 
-  none_waits : (team : List Member) (queued : List Node) (budget opened claimed : ℕ) → HaveRun I gone start workers 0 team → IsPooled I gone team queued
+  none_waits : (team : List Member) (queued : List Node) (budget opened claimed : ℕ) → HaveRun I R start workers 0 team → IsPooled I R team queued
       → IsCounted budget team opened claimed → length team ≤ 64 → refused_of (accounts team) ≡ 0 → left_by team ++ queued ≡ []
   none_waits team queued budget opened claimed ran pooled counted few none =
       let unseen : sights_of (accounts team) ≡ 0 = not_without _ _ counted.halts (none_halted 0 team ran none) in
       let open_none = counted.idle (all_idle 0 team ran none unseen) in
-      let tasks = tasks_of I gone start workers 0 team ran in
+      let tasks = tasks_of I R start workers 0 team ran in
       let waiting = left_by team ++ queued in
       let left : 1 + sum_by splits (done_by team) ≡ sum_by closes (done_by team) + length waiting =
-      subst (λ (ds : List Done). 1 + sum_by splits ds ≡ sum_by closes ds + length waiting) (sym (records_are I gone start workers 0 team ran))
-      (nodes_left gone tasks waiting (accounted I gone start workers team queued ran pooled)) in
+      subst (λ (ds : List Done). 1 + sum_by splits ds ≡ sum_by closes ds + length waiting) (sym (records_are I R start workers 0 team ran))
+      (nodes_left R tasks waiting (accounted I R start workers team queued ran pooled)) in
       let counts : 1 + ups_of (accounts team) ≡ downs_of (accounts team) + length waiting = omega (arith, left, ups_are 0 team ran, downs_are 0 team ran) in
       let small : length waiting < 2 ^ 64 = omega (arith, length-append (left_by team) queued, few_left 0 team ran, few, pooled.few) in
       no_nodes waiting (none_open _ _ opened _ open_none counted.opens counts small)
@@ -126,7 +126,7 @@ module _ (I : Network) (gone : List ℕ) (start workers : ℕ) where
   all_claimed budget granted refused claimed a b c = omega arith
 
   -- nodes wait only where the whole budget was spent
-  pub spent_so : (team : List Member) (queued : List Node) (budget opened claimed : ℕ) → HaveRun I gone start workers 0 team → IsPooled I gone team queued
+  pub spent_so : (team : List Member) (queued : List Node) (budget opened claimed : ℕ) → HaveRun I R start workers 0 team → IsPooled I R team queued
       → IsCounted budget team opened claimed → length team ≤ 64 → (left_by team ++ queued ≡ []) ⊎ (claimed ≡ budget)
   spent_so team queued budget opened claimed ran pooled counted few = by_case (refused_of (accounts team)) refl
     where

@@ -52,9 +52,9 @@ given_ids id (T ∷ Ts) =
     both l a b c d r e f g h = omega arith
 
 -- each id that was given stands once among the records and the nodes that wait
-pub stands_once : (gone : List ℕ) (tasks : List Task) (waiting : List Node) (id : ℕ) → IsAccounted gone tasks waiting → ((T : Task) → Among tasks T → done_id T.done ≡ T.node.id)
+pub stands_once : (R : Branch) (tasks : List Task) (waiting : List Node) (id : ℕ) → IsAccounted R tasks waiting → ((T : Task) → Among tasks T → done_id T.done ≡ T.node.id)
     → times id (map done_id (map done_of tasks) ++ map (λ N. N.id) waiting) ≡ times id (made_ids (map done_of tasks))
-stands_once gone tasks waiting id accounted same =
+stands_once R tasks waiting id accounted same =
     let stands = times-append id (map done_id (map done_of tasks)) (map (λ N. N.id) waiting) in
     sums _ _ _ _ _ _ _ (cond (0 == id) 1 0) stands (task_ids id tasks same) (waiting_ids id waiting) (given_ids id tasks) (accounted (has_id id))
   where
@@ -94,11 +94,11 @@ joined_given : (workers seat last id a b : ℕ) → seat < last → (0 < a → (
 joined_given workers seat last id zero b here f g some = let other = g (omega (arith, some)) in (other.0, other.1, omega (arith, other.2), other.3, other.4)
 joined_given workers seat last id (suc a) b here f g some = let one = f (omega arith) in (seat, one.0, omega arith, here, one.1)
 
-given_by : (I : Network) (gone : List ℕ) (start workers seat last : ℕ) (team : List Member) → HaveRun I gone start workers seat team → seat + length team ≡ last → last ≤ workers
+given_by : (I : Network) (R : Branch) (start workers seat last : ℕ) (team : List Member) → HaveRun I R start workers seat team → seat + length team ≡ last → last ≤ workers
     → AreGiven workers seat last (drawn_ids (done_by team))
-given_by I gone start workers seat last [] ran ends few = record { once = λ id. omega arith; given = λ id some. absurd (omega arith) }
-given_by I gone start workers seat last (M ∷ Ms) ran ends few =
-    let rest : AreGiven workers (seat + 1) last (drawn_ids (done_by Ms)) = given_by I gone start workers (seat + 1) last Ms ran.1 (omega (arith, ends)) few in
+given_by I R start workers seat last [] ran ends few = record { once = λ id. omega arith; given = λ id some. absurd (omega arith) }
+given_by I R start workers seat last (M ∷ Ms) ran ends few =
+    let rest : AreGiven workers (seat + 1) last (drawn_ids (done_by Ms)) = given_by I R start workers (seat + 1) last Ms ran.1 (omega (arith, ends)) few in
     let drawn : AreDrawn seat workers M.segment.done = ran.0.1.drawn in
     record {
       once = λ id. subst (λ (n : ℕ). n ≤ 1) (sym (sum id)) (joined_once workers seat last id _ _ few (drawn.once id) (rest.once id) (drawn.own id) (rest.given id));
@@ -109,11 +109,11 @@ given_by I gone start workers seat last (M ∷ Ms) ran ends few =
     sum id = ap (times id) (flat_map-append half_ids M.segment.done (done_by Ms)) ∙ times-append id (drawn_ids M.segment.done) (drawn_ids (done_by Ms))
 
 -- no id was given twice, and 0 is none of them
-pub given_once : (I : Network) (gone : List ℕ) (start workers : ℕ) (team : List Member) (id : ℕ) → HaveRun I gone start workers 0 team → length team ≤ workers → times id (made_ids (done_by team)) ≤ 1
-given_once I gone start workers team id ran few = by_test (0 == id) refl
+pub given_once : (I : Network) (R : Branch) (start workers : ℕ) (team : List Member) (id : ℕ) → HaveRun I R start workers 0 team → length team ≤ workers → times id (made_ids (done_by team)) ≤ 1
+given_once I R start workers team id ran few = by_test (0 == id) refl
   where
     given : AreGiven workers 0 (length team) (drawn_ids (done_by team))
-    given = given_by I gone start workers 0 (length team) team ran (omega arith) few
+    given = given_by I R start workers 0 (length team) team ran (omega arith) few
 
     none : 0 ≡ id → (n : ℕ) → times id (drawn_ids (done_by team)) ≡ n → n ≡ 0
     none is zero e = refl

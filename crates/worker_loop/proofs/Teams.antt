@@ -6,6 +6,7 @@ use Rattle.std.proofs.lemmas.List.{map-append}
 use Rattle.std.proofs.lemmas.List.Concat.{flat_map-append}
 use Rattle.std.proofs.lemmas.List.Elements.{All-append, All-nil}
 use Rattle.std.proofs.lemmas.List.Sums.{sum_by-append, sum_by-cons}
+use Rattle.st_model.specs.declared.branch.Branch.{Branch}
 use Rattle.st_model.specs.Network.{Network}
 use Rattle.branching.specs.declared.node.Node.{Node}
 use Rattle.node_pool.specs.Pool.{all_gave, all_took, gave, took}
@@ -24,32 +25,32 @@ done_by team = flat_map (λ (s : Segment). s.done) (segments_of team)
 abbrev pub left_by : List Member → List Node
 left_by team = flat_map (λ (s : Segment). s.left) (segments_of team)
 
-module _ (I : Network) (gone : List ℕ) (start workers : ℕ) where
+module _ (I : Network) (R : Branch) (start workers : ℕ) where
   -- all tasks of a team
-  abbrev pub tasks_of : (seat : ℕ) (team : List Member) → HaveRun I gone start workers seat team → List Task
+  abbrev pub tasks_of : (seat : ℕ) (team : List Member) → HaveRun I R start workers seat team → List Task
   tasks_of seat [] ran = []
   tasks_of seat (M ∷ Ms) ran = ran.0.0 ++ tasks_of (seat + 1) Ms ran.1
 
-  pub records_are : (seat : ℕ) (team : List Member) (ran : HaveRun I gone start workers seat team) → done_by team ≡ map done_of (tasks_of seat team ran)
+  pub records_are : (seat : ℕ) (team : List Member) (ran : HaveRun I R start workers seat team) → done_by team ≡ map done_of (tasks_of seat team ran)
   records_are seat [] ran = refl
   records_are seat (M ∷ Ms) ran =
       let tasks = ran.0.0 in
       let rest = tasks_of (seat + 1) Ms ran.1 in
       ap₂ (λ (xs ys : List Done). xs ++ ys) ran.0.1.records (records_are (seat + 1) Ms ran.1) ∙ sym (map-append done_of tasks rest)
 
-  pub tasks_right : (seat : ℕ) (team : List Member) (ran : HaveRun I gone start workers seat team) → AreTasks I gone start (tasks_of seat team ran)
+  pub tasks_right : (seat : ℕ) (team : List Member) (ran : HaveRun I R start workers seat team) → AreTasks I R start (tasks_of seat team ran)
   tasks_right seat [] ran T there = absurd there
   tasks_right seat (M ∷ Ms) ran T there = elim (among_either ran.0.0 (tasks_of (seat + 1) Ms ran.1) T there) [
-    | inl h ↦ (M.segment.seen, each_among (IsTask I gone start M.segment.seen) ran.0.0 ran.0.1.tasks_right T h)
+    | inl h ↦ (M.segment.seen, each_among (IsTask I R start M.segment.seen) ran.0.0 ran.0.1.tasks_right T h)
     | inr h ↦ tasks_right (seat + 1) Ms ran.1 T h
   ]
 
-  pub left_sound : (seat : ℕ) (team : List Member) → HaveRun I gone start workers seat team → All (IsSound I gone) (left_by team)
-  left_sound seat [] ran = All-nil (IsSound I gone)
-  left_sound seat (M ∷ Ms) ran = All-append (IsSound I gone) M.segment.left (left_by Ms) ran.0.1.left_sound (left_sound (seat + 1) Ms ran.1)
+  pub left_sound : (seat : ℕ) (team : List Member) → HaveRun I R start workers seat team → All (IsSound I R) (left_by team)
+  left_sound seat [] ran = All-nil (IsSound I R)
+  left_sound seat (M ∷ Ms) ran = All-append (IsSound I R) M.segment.left (left_by Ms) ran.0.1.left_sound (left_sound (seat + 1) Ms ran.1)
 
   -- what all took and made they worked on, or left, or gave
-  together : (h : Node → ℕ) (seat : ℕ) (team : List Member) (ran : HaveRun I gone start workers seat team)
+  together : (h : Node → ℕ) (seat : ℕ) (team : List Member) (ran : HaveRun I R start workers seat team)
       → all_gave h (map (λ M. M.after) team) + all_took h (map (λ M. M.before) team) + sum_by h (map node_of (tasks_of seat team ran)) + sum_by h (left_by team)
       ≡ all_gave h (map (λ M. M.before) team) + all_took h (map (λ M. M.after) team) + sum_by h (flat_map halves_of (tasks_of seat team ran))
   together h seat [] ran = refl
@@ -70,7 +71,7 @@ module _ (I : Network) (gone : List ℕ) (start workers : ℕ) where
       joined a b c d e f g a' b' c' d' e' f' g' a'' b'' c'' d'' e'' f'' p q r s t u v m n = omega arith
 
   -- and with the pool the root and all halves are accounted for
-  pub accounted : (team : List Member) (queued : List Node) (ran : HaveRun I gone start workers 0 team) → IsPooled I gone team queued → IsAccounted gone (tasks_of 0 team ran) (left_by team ++ queued)
+  pub accounted : (team : List Member) (queued : List Node) (ran : HaveRun I R start workers 0 team) → IsPooled I R team queued → IsAccounted R (tasks_of 0 team ran) (left_by team ++ queued)
   accounted team queued ran pooled h =
       sums _ _ _ _ _ _ _ _ _ _ (together h 0 team ran) (pooled.root h) (pooled.left h) (sum_by-append h (left_by team) queued)
     where

@@ -19,48 +19,47 @@ use Rattle.incumbent.specs.Seat.{Known as Sight, having_seen}
 use Rattle.incumbent.proofs.Least.{least_append, least_at_start}
 use Rattle.open_ledger.specs.Seat.{Known as Account}
 use Rattle.node_pool.specs.Pool.{Station, gave, took}
-use Rattle.search_core.specs.Complete.{without_gone}
 use Rattle.search_core.specs.Needs.{IsFullBelow}
 use Rattle.search_core.specs.declared.done.Done.{Done}
 use Rattle.search_core.specs.declared.done.Done.TheVariants as recorded
 use Rattle.better_trees.specs.Better.{IsBetter, least_after}
 use Rattle.better_trees.specs.Part.{IsPartOf}
 use Rattle.better_trees.proofs.Found.{belongs_to_whole}
-use Rattle.worker_loop.specs.declared.step.End.TheVariants.{Close}
+use Rattle.node_work.specs.declared.step.End.TheVariants.{Close}
 use Rattle.better_trees.specs.declared.price.Priced.{Priced}
 use Rattle.worker_loop.specs.declared.work.Work.{Work}
 use Rattle.worker_loop.specs.Progress.{Adopts, AreDrawnBelow, HasSeen, IsClosed, IsHalved, IsWorkedOn, Moment, as_of, half_of, other_of}
 use Rattle.worker_loop.specs.Run.{IsFound, IsSplitTask, halves_by}
 use Rattle.worker_loop.specs.Sound.{IsSound}
-use Rattle.worker_loop.specs.Step.{IsEnd, SplitsAt}
+use Rattle.node_work.specs.Step.{IsEnd, SplitsAt}
 use Rattle.worker_loop.proofs.Drawing.{drawn_close, drawn_split}
 use Rattle.worker_loop.proofs.Parts.{inside_part, outside_part}
-use Rattle.worker_loop.proofs.Splits.{writable_halves}
+use Rattle.node_work.proofs.Splits.{writable_halves}
 
 -- what a worker has seen and kept when it saw r and a better tree, if there was one
-pub record HasAdopted (I : Network) (gone : List ℕ) (start r : ℕ) (better : Option Priced) (s s' : Sight) (k k' : Work) : Type 0 where
+pub record HasAdopted (I : Network) (R : Branch) (start r : ℕ) (better : Option Priced) (s s' : Sight) (k k' : Work) : Type 0 where
   pub at_most : k'.seen ≤ least_after r better
   pub lower : k'.seen ≤ r
   pub done : k'.done.items ≡ k.done.items
-  pub seen : HasSeen I gone start s k.best k.seen → HasSeen I gone start s' k'.best k'.seen
+  pub seen : HasSeen I R start s k.best k.seen → HasSeen I R start s' k'.best k'.seen
 
 -- what was seen, if what was kept is the same
-seen_same : (I : Network) (gone : List ℕ) (start r : ℕ) (s s' : Sight) (k k' : Work) → r ≤ s.lowest → s' ≡ having_seen s r → k' ≡ record { done = k.done; best = k.best; seen = r }
-    → HasSeen I gone start s k.best k.seen → HasSeen I gone start s' k'.best k'.seen
-seen_same I gone start r s s' k k' low same kept h =
-    let here : HasSeen I gone start (having_seen s r) k.best r = record { last = refl; low = omega (arith, low, h.low); offered = h.offered } in
-    subst (λ (w : Work). HasSeen I gone start s' w.best w.seen) (sym kept) (subst (λ (m : Sight). HasSeen I gone start m k.best r) (sym same) here)
+seen_same : (I : Network) (R : Branch) (start r : ℕ) (s s' : Sight) (k k' : Work) → r ≤ s.lowest → s' ≡ having_seen s r → k' ≡ record { done = k.done; best = k.best; seen = r }
+    → HasSeen I R start s k.best k.seen → HasSeen I R start s' k'.best k'.seen
+seen_same I R start r s s' k k' low same kept h =
+    let here : HasSeen I R start (having_seen s r) k.best r = record { last = refl; low = omega (arith, low, h.low); offered = h.offered } in
+    subst (λ (w : Work). HasSeen I R start s' w.best w.seen) (sym kept) (subst (λ (m : Sight). HasSeen I R start m k.best r) (sym same) here)
 
 -- what was seen and offered with a better tree
-seen_better : (I : Network) (gone : List ℕ) (start r : ℕ) (N : Node) (p : Priced) (s : Sight) (best : Option Tree) (seen seen' : ℕ) → IsSound I gone N → r ≤ s.lowest → IsBetter I N.branch r p
+seen_better : (I : Network) (R : Branch) (start r : ℕ) (N : Node) (p : Priced) (s : Sight) (best : Option Tree) (seen seen' : ℕ) → IsSound I R N → r ≤ s.lowest → IsBetter I N.branch r p
     → seen' ≤ min r p.price
-    → HasSeen I gone start s best seen → HasSeen I gone start (record { incumbent = s.incumbent; start = s.start; offers = s.offers ++ p.price ∷ []; lowest = seen' }) (Some p.tree) seen'
-seen_better I gone start r N p s best seen seen' sound low b under h =
+    → HasSeen I R start s best seen → HasSeen I R start (record { incumbent = s.incumbent; start = s.start; offers = s.offers ++ p.price ∷ []; lowest = seen' }) (Some p.tree) seen'
+seen_better I R start r N p s best seen seen' sound low b under h =
     let pushed : least_of start (s.offers ++ p.price ∷ []) ≡ min (least_of start s.offers) (min p.price start) = least_append start s.offers (p.price ∷ []) in
     let first : least_of start s.offers ≤ start = least_at_start start s.offers in
-    let found : IsFound I gone start p.tree = record {
+    let found : IsFound I R start p.tree = record {
       tree = b.is_tree;
-      belongs = belongs_to_whole (without_gone gone) N.branch p.tree sound.part b.belongs;
+      belongs = belongs_to_whole R N.branch p.tree sound.part b.belongs;
       cheaper = omega (arith, b.is_price, b.cheaper, low, h.low, first);
     } in
     record {
@@ -75,38 +74,38 @@ seen_better I gone start r N p s best seen seen' sound low b under h =
     same_least : (after before price start r cost low : ℕ) → after ≡ min before (min price start) → before ≤ start → price < r → r ≤ low → low ≤ before → price ≡ cost → after ≡ min cost start
     same_least after before price start r cost low a b c d e f = omega arith
 
-pub adopted : (I : Network) (gone : List ℕ) (start r : ℕ) (N : Node) (s s' : Sight) (k k' : Work) (better : Option Priced) → IsSound I gone N → r ≤ s.lowest → IfSome better (IsBetter I N.branch r)
-    → Adopts better (having_seen s r) s' (record { done = k.done; best = k.best; seen = r }) k' → HasAdopted I gone start r better s s' k k'
-adopted I gone start r N s s' k k' None sound low h (same, kept) =
+pub adopted : (I : Network) (R : Branch) (start r : ℕ) (N : Node) (s s' : Sight) (k k' : Work) (better : Option Priced) → IsSound I R N → r ≤ s.lowest → IfSome better (IsBetter I N.branch r)
+    → Adopts better (having_seen s r) s' (record { done = k.done; best = k.best; seen = r }) k' → HasAdopted I R start r better s s' k k'
+adopted I R start r N s s' k k' None sound low h (same, kept) =
     let last : k'.seen ≡ r = ap (λ (w : Work). w.seen) kept in
     record {
       at_most = omega (arith, last);
       lower = omega (arith, last);
       done = ap (λ (w : Work). w.done.items) kept;
-      seen = seen_same I gone start r s s' k k' low same kept;
+      seen = seen_same I R start r s s' k k' low same kept;
     }
-adopted I gone start r N s s' k k' (Some p) sound low h (offer, under, best, done) = record {
+adopted I R start r N s s' k k' (Some p) sound low h (offer, under, best, done) = record {
   at_most = omega (arith, under);
   lower = omega (arith, under);
   done = ap (λ w. w.items) done;
   seen = λ had.
-      subst (λ (t : Option Tree). HasSeen I gone start s' t k'.seen) (sym best)
-      (subst (λ (m : Sight). HasSeen I gone start m (Some p.tree) k'.seen) (sym offer) (seen_better I gone start r N p s k.best k.seen k'.seen sound low h under had));
+      subst (λ (t : Option Tree). HasSeen I R start s' t k'.seen) (sym best)
+      (subst (λ (m : Sight). HasSeen I R start m (Some p.tree) k'.seen) (sym offer) (seen_better I R start r N p s k.best k.seen k'.seen sound low h under had));
 }
 
 -- what was seen stays so where the seat and the work are the same
-still_seen : (I : Network) (gone : List ℕ) (start : ℕ) (s s' : Sight) (best best' : Option Tree) (seen seen' : ℕ) → s' ≡ s → best' ≡ best → seen' ≡ seen → HasSeen I gone start s best seen
-    → HasSeen I gone start s' best' seen'
-still_seen I gone start s s' best best' seen seen' a b c h = rw (a, b, c) h
+still_seen : (I : Network) (R : Branch) (start : ℕ) (s s' : Sight) (best best' : Option Tree) (seen seen' : ℕ) → s' ≡ s → best' ≡ best → seen' ≡ seen → HasSeen I R start s best seen
+    → HasSeen I R start s' best' seen'
+still_seen I R start s s' best best' seen seen' a b c h = rw (a, b, c) h
 
 -- a node was closed by what a step found
-pub closed_on : (I : Network) (gone : List ℕ) (start seat workers r : ℕ) (N : Node) (q : Station) (u : Account) (s s' : Sight) (next : ℕ) (k k' : Work) (m : Moment) (better : Option Priced)
-    (P : Packing) → IsSound I gone N
+pub closed_on : (I : Network) (R : Branch) (start seat workers r : ℕ) (N : Node) (q : Station) (u : Account) (s s' : Sight) (next : ℕ) (k k' : Work) (m : Moment) (better : Option Priced)
+    (P : Packing) → IsSound I R N
     → r ≤ s.lowest → IfSome better (IsBetter I N.branch r) → IsEnd I N (least_after r better) (Close P)
     → Adopts better (having_seen s r) s' (record { done = k.done; best = k.best; seen = r }) k' → IsClosed N.id P (as_of q u s' next k') m
-    → IsWorkedOn I gone start seat workers N (as_of q u s next k) m [] (recorded.Close N.id P)
-closed_on I gone start seat workers r N q u s s' next k k' m better P sound low is_better end adopts closed =
-    let a = adopted I gone start r N s s' k k' better sound low is_better adopts in
+    → IsWorkedOn I R start seat workers N (as_of q u s next k) m [] (recorded.Close N.id P)
+closed_on I R start seat workers r N q u s s' next k k' m better P sound low is_better end adopts closed =
+    let a = adopted I R start r N s s' k k' better sound low is_better adopts in
     let grown : m.work.done.items ≡ k.done.items ++ recorded.Close N.id P ∷ [] = closed.done ∙ ap (λ (ds : List Done). ds ++ recorded.Close N.id P ∷ []) a.done in
     record {
       task = record {
@@ -115,13 +114,13 @@ closed_on I gone start seat workers r N q u s s' next k k' m better P sound low 
         done_right = record { closes = record { fits = end.0.fits; weighs = omega (arith, closed.seen, a.at_most, end.0.weighs) }; writable = end.1 };
       };
       records = grown;
-      held_sound = All-nil (IsSound I gone);
+      held_sound = All-nil (IsSound I R);
       nodes = λ w. let same : gave w m.pass ≡ gave w q = ap (gave w) closed.pass in let taken : took w m.pass ≡ took w q = ap (took w) closed.pass in balance (gave w q) (gave w m.pass) (took w q)
           (took w m.pass) same taken;
       drawn = λ h.
           subst (λ (n : ℕ). AreDrawnBelow seat workers n m.work.done.items) (sym closed.next)
           (subst (λ (ds : List Done). AreDrawnBelow seat workers next ds) (sym grown) (drawn_close seat workers next N.id k.done.items P h));
-      seen = λ h. still_seen I gone start s' m.sight k'.best m.work.best k'.seen m.work.seen closed.sight closed.best closed.seen (a.seen h);
+      seen = λ h. still_seen I R start s' m.sight k'.best m.work.best k'.seen m.work.seen closed.sight closed.best closed.seen (a.seen h);
       lower = omega (arith, closed.seen, a.lower, low);
       ups = ap (λ (v : Account). v.tally.ups) closed.account ∙ plain u.tally.ups;
       downs = ap (λ (v : Account). v.tally.downs) closed.account;
@@ -164,27 +163,27 @@ same_halves : (B : Branch) (M : Node) (id v i o : ℕ) → M.branch ≡ B → ha
 same_halves B M id v i o same = ap (λ (C : Branch). halves_by C (recorded.Split id v i o M.packing)) (sym same)
 
 -- a node whose packing a step made heavier is as sound
-pub split_sound : (I : Network) (gone : List ℕ) (N M : Node) (least v : ℕ) → IsSound I gone N → SplitsAt I N least M v → IsSound I gone M
-split_sound I gone N M least v sound h = record { node = h.node; part = subst (λ (B : Branch). IsPartOf (without_gone gone) B) (sym h.same) sound.part }
+pub split_sound : (I : Network) (R : Branch) (N M : Node) (least v : ℕ) → IsSound I R N → SplitsAt I N least M v → IsSound I R M
+split_sound I R N M least v sound h = record { node = h.node; part = subst (λ (B : Branch). IsPartOf R B) (sym h.same) sound.part }
 
 pub split_vertex : (I : Network) (N M : Node) (least v : ℕ) → SplitsAt I N least M v → IsSplit I M.branch v
 split_vertex I N M least v h = subst (λ (B : Branch). IsSplit I B v) (sym h.same) h.split
 
 -- the halves of a sound node are sound
-pub sound_inside : (I : Network) (gone : List ℕ) (N : Node) (v id : ℕ) → IsSound I gone N → IsSplit I N.branch v → IsSound I gone (inside_half N v id)
-sound_inside I gone N v id sound split = record { node = (writable_halves I N v id id sound.node split).0; part = inside_part (without_gone gone) N.branch v sound.part }
+pub sound_inside : (I : Network) (R : Branch) (N : Node) (v id : ℕ) → IsSound I R N → IsSplit I N.branch v → IsSound I R (inside_half N v id)
+sound_inside I R N v id sound split = record { node = (writable_halves I N v id id sound.node split).0; part = inside_part R N.branch v sound.part }
 
-pub sound_outside : (I : Network) (gone : List ℕ) (N : Node) (v id : ℕ) → IsSound I gone N → IsSplit I N.branch v → IsSound I gone (outside_half N v id)
-sound_outside I gone N v id sound split = record { node = (writable_halves I N v id id sound.node split).1; part = outside_part (without_gone gone) N.branch v sound.part }
+pub sound_outside : (I : Network) (R : Branch) (N : Node) (v id : ℕ) → IsSound I R N → IsSplit I N.branch v → IsSound I R (outside_half N v id)
+sound_outside I R N v id sound split = record { node = (writable_halves I N v id id sound.node split).1; part = outside_part R N.branch v sound.part }
 
 least_low : (r : ℕ) (better : Option Priced) (I : Network) (B : Branch) → IfSome better (IsBetter I B r) → least_after r better ≤ r
 least_low r None I B h = omega arith
 least_low r (Some p) I B h = omega (arith, h.cheaper)
 
 -- the half to go on with is sound
-pub sound_half : (I : Network) (gone : List ℕ) (N : Node) (v i o : ℕ) (deleted : Bool) → IsSound I gone N → IsSplit I N.branch v → IsSound I gone (half_of deleted N v i o)
-sound_half I gone N v i o true sound split = sound_outside I gone N v o sound split
-sound_half I gone N v i o false sound split = sound_inside I gone N v i sound split
+pub sound_half : (I : Network) (R : Branch) (N : Node) (v i o : ℕ) (deleted : Bool) → IsSound I R N → IsSplit I N.branch v → IsSound I R (half_of deleted N v i o)
+sound_half I R N v i o true sound split = sound_outside I R N v o sound split
+sound_half I R N v i o false sound split = sound_inside I R N v i sound split
 
 -- however nodes are weighed, both halves weigh as much in either order
 both_halves : (w : Node → ℕ) (N : Node) (v i o : ℕ) (deleted : Bool) → w (half_of deleted N v i o) + w (other_of deleted N v i o) ≡ w (inside_half N v i) + w (outside_half N v o)
@@ -195,22 +194,22 @@ both_halves w N v i o true = swapped (w (outside_half N v o)) (w (inside_half N 
 both_halves w N v i o false = refl
 
 -- a node was split as a step says
-pub split_on : (I : Network) (gone : List ℕ) (start seat workers r : ℕ) (N M half : Node) (v : ℕ) (deleted : Bool) (q : Station) (u : Account) (s s' : Sight) (next : ℕ) (k k' : Work) (m : Moment)
-    (better : Option Priced) → IsSound I gone N
+pub split_on : (I : Network) (R : Branch) (start seat workers r : ℕ) (N M half : Node) (v : ℕ) (deleted : Bool) (q : Station) (u : Account) (s s' : Sight) (next : ℕ) (k k' : Work) (m : Moment)
+    (better : Option Priced) → IsSound I R N
     → r ≤ s.lowest → s.lowest ≤ start → IfSome better (IsBetter I N.branch r) → SplitsAt I N (least_after r better) M v
     → Adopts better (having_seen s r) s' (record { done = k.done; best = k.best; seen = r }) k' → IsHalved workers N.id M v deleted (as_of q u s' next k') m half
-    → IsWorkedOn I gone start seat workers N (as_of q u s next k) m (half ∷ []) (recorded.Split N.id v next (next + workers) M.packing)
-split_on I gone start seat workers r N M half v deleted q u s s' next k k' m better sound low first is_better end adopts halved =
-    let a = adopted I gone start r N s s' k k' better sound low is_better adopts in
+    → IsWorkedOn I R start seat workers N (as_of q u s next k) m (half ∷ []) (recorded.Split N.id v next (next + workers) M.packing)
+split_on I R start seat workers r N M half v deleted q u s s' next k k' m better sound low first is_better end adopts halved =
+    let a = adopted I R start r N s s' k k' better sound low is_better adopts in
     let d = recorded.Split N.id v next (next + workers) M.packing in
     let grown : m.work.done.items ≡ k.done.items ++ d ∷ [] = halved.done ∙ ap (λ (ds : List Done). ds ++ d ∷ []) a.done in
     let less : least_after r better ≤ start = omega (arith, least_low r better I N.branch is_better, low, first) in
-    let halves_sound : IsSound I gone (half_of deleted M v next (next + workers)) =
-    sound_half I gone M v next (next + workers) deleted (split_sound I gone N M (least_after r better) v sound end) (split_vertex I N M (least_after r better) v end) in
+    let halves_sound : IsSound I R (half_of deleted M v next (next + workers)) =
+    sound_half I R M v next (next + workers) deleted (split_sound I R N M (least_after r better) v sound end) (split_vertex I N M (least_after r better) v end) in
     record {
       task = record { sound = sound; same = refl; done_right = split_task I N M (least_after r better) start v less end };
       records = grown;
-      held_sound = All-cons (IsSound I gone) half [] (subst (IsSound I gone) (sym halved.half_is) halves_sound) (All-nil (IsSound I gone));
+      held_sound = All-cons (IsSound I R) half [] (subst (IsSound I R) (sym halved.half_is) halves_sound) (All-nil (IsSound I R));
       nodes = λ w.
           let halves : sum_by w (halves_by N.branch d) ≡ sum_by w (inside_half M v next ∷ outside_half M v (next + workers) ∷ []) = ap (sum_by w)
           (same_halves N.branch M N.id v next (next + workers) end.same) in
@@ -220,7 +219,7 @@ split_on I gone start seat workers r N M half v deleted q u s s' next k k' m bet
       drawn = λ h.
           subst (λ (n : ℕ). AreDrawnBelow seat workers n m.work.done.items) (sym halved.next)
           (subst (λ (ds : List Done). AreDrawnBelow seat workers (next + workers + workers) ds) (sym grown) (drawn_split seat workers next N.id v k.done.items M.packing h));
-      seen = λ h. still_seen I gone start s' m.sight k'.best m.work.best k'.seen m.work.seen halved.sight halved.best halved.seen (a.seen h);
+      seen = λ h. still_seen I R start s' m.sight k'.best m.work.best k'.seen m.work.seen halved.sight halved.best halved.seen (a.seen h);
       lower = omega (arith, halved.seen, a.lower, low);
       ups = ap (λ (v : Account). v.tally.ups) halved.account;
       downs = ap (λ (v : Account). v.tally.downs) halved.account ∙ plain u.tally.downs;

@@ -1,9 +1,3 @@
-pub mod Node
-pub mod Raising
-pub mod Trying
-pub mod Step
-pub mod Finding
-pub mod Open
 pub mod Sound
 pub mod Run
 pub mod Progress

@@ -1,7 +1,8 @@
--- What a worker did since its run began, at some moment of it. Helpers' clauses cite this, and no public one.
+-- What a worker did since its run began, at some moment of it. Of this the clauses of `Worker::run` cite `IsAim`, `IsUnused` and `SameWorker`.
 use Rattle.std.specs.Prelude.{◌≡◌, ℕ, Bool, if◌then◌else◌, ◌+◌, ◌*◌, ◌<◌, ◌≤◌, min, List, [], ◌∷◌, ◌++◌, length, map, All, Option, Some, None}
 use Rattle.std.specs.List.{flat_map, sum_by}
 use Rattle.std.specs.Option.{option_to_list}
+use Rattle.st_model.specs.declared.branch.Branch.{Branch}
 use Rattle.st_model.specs.declared.tree.Tree.{Tree}
 use Rattle.st_model.specs.Lists.{sum_to}
 use Rattle.st_model.specs.Network.{Network, IsInstance, pays}
@@ -14,7 +15,7 @@ use Rattle.incumbent.specs.Seat.{Known as Sight, fresh as new_sight, having_offe
 use Rattle.open_ledger.specs.Seat.{Known as Account, counting, fresh as new_account}
 use Rattle.open_ledger.specs.Tally.{with_down, with_up}
 use Rattle.node_pool.specs.Pool.{Station, Moves, SamePass, gave, took}
-use Rattle.search_core.specs.Complete.{times, without_gone}
+use Rattle.search_core.specs.Complete.{times}
 use Rattle.search_core.specs.declared.done.Done.{Done}
 use Rattle.search_core.specs.declared.done.Done.TheVariants.{Split, Close}
 use Rattle.better_trees.specs.declared.price.Priced.{Priced}
@@ -26,9 +27,9 @@ use Rattle.worker_loop.specs.Run.{AreDrawn, IsEnding, IsOffered, IsTask, Task, c
 use Rattle.worker_loop.specs.Sound.{IsSound}
 
 -- where nobody has to be reached, the start is no dearer than leaving everybody out
-pub record IsAim (I : Network) (gone : List ℕ) (start : ℕ) : Type 0 where
+pub record IsAim (I : Network) (R : Branch) (start : ℕ) : Type 0 where
   pub instance : IsInstance I
-  pub cheap : NoneIsCertain I (without_gone gone) → start ≤ sum_to (pays I) I.n
+  pub cheap : NoneIsCertain I R → start ≤ sum_to (pays I) I.n
 
 -- a worker at a moment: its pass and its seats, the next id that it draws, and its work so far
 pub record Moment : Type 0 where
@@ -67,10 +68,10 @@ pub record AreDrawnBelow (seat workers next : ℕ) (done : List Done) : Type 0 w
   pub next_own : (j : ℕ) × (next ≡ 1 + seat + workers * j)
 
 -- what it saw last is no more than the start and its offers
-pub record HasSeen (I : Network) (gone : List ℕ) (start : ℕ) (m : Sight) (best : Option Tree) (seen : ℕ) : Type 0 where
+pub record HasSeen (I : Network) (R : Branch) (start : ℕ) (m : Sight) (best : Option Tree) (seen : ℕ) : Type 0 where
   pub last : m.lowest ≡ seen
   pub low : m.lowest ≤ least_of start m.offers
-  pub offered : IsOffered I gone start best m.offers
+  pub offered : IsOffered I R start best m.offers
 
 -- what an account counts of these records; it halted only where its claim was refused
 pub record CountsOf (done : List Done) (u : Account) : Type 0 where
@@ -80,17 +81,17 @@ pub record CountsOf (done : List Done) (u : Account) : Type 0 where
   pub halted : 0 < u.tally.halts → 0 < u.tally.refused
 
 -- these tasks were done since its pass was p and its seats were new, and it has these nodes in hand
-pub record HasDone (I : Network) (gone : List ℕ) (start seat workers : ℕ) (p : Station) (m : Moment) (held : List Node) (tasks : List Task) : Type 0 where
+pub record HasDone (I : Network) (R : Branch) (start seat workers : ℕ) (p : Station) (m : Moment) (held : List Node) (tasks : List Task) : Type 0 where
   pub records : m.work.done.items ≡ map done_of tasks
-  pub tasks_right : All (IsTask I gone start m.work.seen) tasks
-  pub held_sound : All (IsSound I gone) held
+  pub tasks_right : All (IsTask I R start m.work.seen) tasks
+  pub held_sound : All (IsSound I R) held
   pub nodes : (h : Node → ℕ) → gave h m.pass + took h p + sum_by h (map node_of tasks) + sum_by h held ≡ gave h p + took h m.pass + sum_by h (flat_map halves_of tasks)
   pub drawn : AreDrawnBelow seat workers m.next m.work.done.items
-  pub seen : HasSeen I gone start m.sight m.work.best m.work.seen
+  pub seen : HasSeen I R start m.sight m.work.best m.work.seen
   pub counts : CountsOf m.work.done.items m.account
 
-abbrev pub HasWorked : Network → List ℕ → ℕ → ℕ → ℕ → Station → Moment → List Node → Type 0
-HasWorked I gone start seat workers p m held = (tasks : List Task) × HasDone I gone start seat workers p m held tasks
+abbrev pub HasWorked : Network → Branch → ℕ → ℕ → ℕ → Station → Moment → List Node → Type 0
+HasWorked I R start seat workers p m held = (tasks : List Task) × HasDone I R start seat workers p m held tasks
 
 -- a better tree, if there is one, was kept, and then what it costs was offered
 abbrev pub Adopts : Option Priced → Sight → Sight → Work → Work → Type 0
@@ -127,13 +128,13 @@ pub record IsHalved (workers id : ℕ) (N : Node) (v : ℕ) (deleted : Bool) (m 
   pub seen : m'.work.seen ≡ m.work.seen
 
 -- what was done with a node that was claimed, between two moments
-pub record IsWorkedOn (I : Network) (gone : List ℕ) (start seat workers : ℕ) (N : Node) (m m' : Moment) (held : List Node) (d : Done) : Type 0 where
-  pub task : IsTask I gone start m'.work.seen (record { node = N; done = d })
+pub record IsWorkedOn (I : Network) (R : Branch) (start seat workers : ℕ) (N : Node) (m m' : Moment) (held : List Node) (d : Done) : Type 0 where
+  pub task : IsTask I R start m'.work.seen (record { node = N; done = d })
   pub records : m'.work.done.items ≡ m.work.done.items ++ d ∷ []
-  pub held_sound : All (IsSound I gone) held
+  pub held_sound : All (IsSound I R) held
   pub nodes : (h : Node → ℕ) → gave h m'.pass + took h m.pass + sum_by h held ≡ gave h m.pass + took h m'.pass + sum_by h (halves_by N.branch d)
   pub drawn : AreDrawnBelow seat workers m.next m.work.done.items → AreDrawnBelow seat workers m'.next m'.work.done.items
-  pub seen : HasSeen I gone start m.sight m.work.best m.work.seen → HasSeen I gone start m'.sight m'.work.best m'.work.seen
+  pub seen : HasSeen I R start m.sight m.work.best m.work.seen → HasSeen I R start m'.sight m'.work.best m'.work.seen
   pub lower : m'.work.seen ≤ m.sight.lowest
   pub ups : m'.account.tally.ups ≡ m.account.tally.ups + splits d
   pub downs : m'.account.tally.downs ≡ m.account.tally.downs + closes d
@@ -142,9 +143,9 @@ pub record IsWorkedOn (I : Network) (gone : List ℕ) (start seat workers : ℕ)
   pub halts : m'.account.tally.halts ≡ m.account.tally.halts
 
 -- what holds after a turn: the worker goes on, or ends and leaves a node
-abbrev pub HasTurned : Network → List ℕ → ℕ → ℕ → ℕ → Station → Moment → Turn → Type 0
-HasTurned I gone start seat workers p m (Next half) = HasWorked I gone start seat workers p m (option_to_list half) × (m.account.tally.refused ≡ 0)
-HasTurned I gone start seat workers p m (Left N end) = HasWorked I gone start seat workers p m (N ∷ []) × IsEnding end m.account
+abbrev pub HasTurned : Network → Branch → ℕ → ℕ → ℕ → Station → Moment → Turn → Type 0
+HasTurned I R start seat workers p m (Next half) = HasWorked I R start seat workers p m (option_to_list half) × (m.account.tally.refused ≡ 0)
+HasTurned I R start seat workers p m (Left N end) = HasWorked I R start seat workers p m (N ∷ []) × IsEnding end m.account
 
 -- a claim was granted to an account
 pub record IsGranted (u u' : Account) : Type 0 where

@@ -1,4 +1,4 @@
--- What one worker did in a whole run. Helpers' clauses cite this, and no public one.
+-- What one worker did in a whole run.
 use Rattle.std.specs.Prelude.{◌≡◌, ℕ, ◌+◌, ◌*◌, ◌<◌, ◌≤◌, List, [], ◌∷◌, length, map, Option, All, IfSome}
 use Rattle.std.specs.List.{flat_map, sum_by}
 use Rattle.st_model.specs.declared.branch.Branch.{Branch}
@@ -16,14 +16,14 @@ use Rattle.incumbent.specs.Least.{least_of}
 use Rattle.incumbent.specs.Seat.{Known as Sight}
 use Rattle.open_ledger.specs.Seat.{Known as Account}
 use Rattle.node_pool.specs.Pool.{Station, gave, took}
-use Rattle.search_core.specs.Complete.{done_id, half_ids, less_found, times, without_gone}
+use Rattle.search_core.specs.Complete.{done_id, half_ids, less_found, times}
 use Rattle.search_core.specs.Needs.{AllowsSplit}
 use Rattle.search_core.specs.declared.done.Done.{Done}
 use Rattle.search_core.specs.declared.done.Done.TheVariants.{Split, Close}
 use Rattle.search_core.specs.declared.done.End.{End}
 use Rattle.search_core.specs.declared.done.End.TheVariants.{OpenZero, ClaimRefused, HaltSeen}
 use Rattle.search_core.specs.declared.gathered.Segment.{Segment}
-use Rattle.worker_loop.specs.Node.{IsWritableNode}
+use Rattle.node_work.specs.Node.{IsWritableNode}
 use Rattle.worker_loop.specs.Sound.{IsSound}
 
 -- the node that a worker worked on, and the record of it
@@ -68,8 +68,8 @@ IsDoneWith I start seen N (Split id v i o P) = IsSplitTask I start N v P
 IsDoneWith I start seen N (Close id P) = IsCloseTask I seen N P
 
 -- a sound node, and a right record of it
-pub record IsTask (I : Network) (gone : List ℕ) (start seen : ℕ) (T : Task) : Type 0 where
-  pub sound : IsSound I gone T.node
+pub record IsTask (I : Network) (R : Branch) (start seen : ℕ) (T : Task) : Type 0 where
+  pub sound : IsSound I R T.node
   pub same : done_id T.done ≡ T.node.id
   pub done_right : IsDoneWith I start seen T.node T.done
 
@@ -91,15 +91,15 @@ pub record AreDrawn (seat workers : ℕ) (done : List Done) : Type 0 where
   pub once : (id : ℕ) → times id (drawn_ids done) ≤ 1
   pub own : (id : ℕ) → 0 < times id (drawn_ids done) → (j : ℕ) × (id ≡ 1 + seat + workers * j)
 
--- a tree that reaches nobody gone, and is cheaper than the start
-pub record IsFound (I : Network) (gone : List ℕ) (start : ℕ) (t : Tree) : Type 0 where
+-- a tree of the branch that is cheaper than the start
+pub record IsFound (I : Network) (R : Branch) (start : ℕ) (t : Tree) : Type 0 where
   pub tree : IsTree I t
-  pub belongs : Belongs (without_gone gone) t
+  pub belongs : Belongs R t
   pub cheaper : cost I t < start
 
 -- the best tree that was found, if there is one: its cost is the least that was offered
-pub record IsOffered (I : Network) (gone : List ℕ) (start : ℕ) (best : Option Tree) (offers : List ℕ) : Type 0 where
-  pub found : IfSome best (IsFound I gone start)
+pub record IsOffered (I : Network) (R : Branch) (start : ℕ) (best : Option Tree) (offers : List ℕ) : Type 0 where
+  pub found : IfSome best (IsFound I R start)
   pub least : least_of start offers ≡ less_found I best start
 
 -- why a worker ended: nothing was open; or its claim was refused; or it saw that another one halted
@@ -109,16 +109,16 @@ IsEnding ClaimRefused u = 0 < u.tally.refused
 IsEnding HaltSeen u = 0 < u.tally.sights
 
 -- What one worker did in a whole run: its tasks and its segment; its pass went from p to q, and its new seats came to u and m.
-pub record HasRun (I : Network) (gone : List ℕ) (start seat workers : ℕ) (p q : Station) (u : Account) (m : Sight) (tasks : List Task) (s : Segment) : Type 0 where
+pub record HasRun (I : Network) (R : Branch) (start seat workers : ℕ) (p q : Station) (u : Account) (m : Sight) (tasks : List Task) (s : Segment) : Type 0 where
   pub records : s.done ≡ map done_of tasks
-  pub tasks_right : All (IsTask I gone start s.seen) tasks
-  pub left_sound : All (IsSound I gone) s.left
+  pub tasks_right : All (IsTask I R start s.seen) tasks
+  pub left_sound : All (IsSound I R) s.left
   pub few : length s.left ≤ 1
   -- what it took and made it worked on, or left, or gave
   pub nodes : (h : Node → ℕ) → gave h q + took h p + sum_by h (map node_of tasks) + sum_by h s.left ≡ gave h p + took h q + sum_by h (flat_map halves_of tasks)
   pub drawn : AreDrawn seat workers s.done
   pub seen : m.lowest ≡ s.seen
-  pub offered : IsOffered I gone start s.best m.offers
+  pub offered : IsOffered I R start s.best m.offers
   pub ups : u.tally.ups ≡ sum_by splits s.done
   pub downs : u.tally.downs ≡ sum_by closes s.done
   pub granted : u.tally.granted ≡ length s.done

@@ -1,5 +1,6 @@
 -- The workers of a team in their slots, before and after they run. Helpers' clauses cite this, and no public one.
 use Rattle.std.specs.Prelude.{◌≡◌, ℕ, ◌+◌, ◌<◌, List, [], ◌∷◌, length, slice_index_or, Option, IfSome, ⊤}
+use Rattle.st_model.specs.declared.branch.Branch.{Branch}
 use Rattle.st_model.specs.Network.{Network}
 use Rattle.incumbent.specs.Seat.{Known as Sight}
 use Rattle.open_ledger.specs.Seat.{Known as Account}
@@ -33,11 +34,11 @@ AreSeated workers seat [] = ⊤
 AreSeated workers seat (s ∷ ss) = IsSeated workers seat s × AreSeated workers (seat + 1) ss
 
 -- a worker ran in its slot, and left there what it brings back, unless it was refused memory
-pub record HasRunIn {Q : Type 0} (I : Network) (gone : List ℕ) (start : ℕ) (before after : Slot Q) : Type 0 where
+pub record HasRunIn {Q : Type 0} (I : Network) (R : Branch) (start : ℕ) (before after : Slot Q) : Type 0 where
   pub same : SameWorker before.worker after.worker
   pub run : IfSome after.segment (λ s. (tasks : List Task)
-      × HasRun I gone start before.worker.seat before.worker.workers before.worker.pass after.worker.pass after.worker.ledger after.worker.best tasks s)
+      × HasRun I R start before.worker.seat before.worker.workers before.worker.pass after.worker.pass after.worker.ledger after.worker.best tasks s)
 
 -- each worker of a team ran in its slot
-abbrev pub HaveRunIn : {Q : Type 0} → Network → List ℕ → ℕ → List (Slot Q) → List (Slot Q) → Type 0
-HaveRunIn {Q} I gone start before after = (k : ℕ) (d : Slot Q) → k < length before → HasRunIn I gone start (slice_index_or before k d) (slice_index_or after k d)
+abbrev pub HaveRunIn : {Q : Type 0} → Network → Branch → ℕ → List (Slot Q) → List (Slot Q) → Type 0
+HaveRunIn {Q} I R start before after = (k : ℕ) (d : Slot Q) → k < length before → HasRunIn I R start (slice_index_or before k d) (slice_index_or after k d)

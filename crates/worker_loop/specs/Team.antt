@@ -1,6 +1,7 @@
 -- What is gathered of workers that ran beside each other, and what it comes to. Helpers' clauses cite this, and no public one.
 use Rattle.std.specs.Prelude.{◌≡◌, ℕ, ◌+◌, ◌<◌, ◌≤◌, ◌%◌, ◌^◌, List, [], ◌∷◌, length, map, min, All, IfSome, ⊤}
 use Rattle.std.specs.List.{sum_by}
+use Rattle.st_model.specs.declared.branch.Branch.{Branch}
 use Rattle.st_model.specs.Arborescence.{cost}
 use Rattle.st_model.specs.Network.{Network}
 use Rattle.log_format.specs.Text.{IsWritablePacking}
@@ -25,9 +26,9 @@ pub record Member : Type 0 where
   pub segment : Segment
 
 -- each worker of a team of so many, from this seat on, has run
-abbrev pub HaveRun : Network → List ℕ → ℕ → ℕ → ℕ → List Member → Type 0
-HaveRun I gone start workers seat [] = ⊤
-HaveRun I gone start workers seat (M ∷ Ms) = ((tasks : List Task) × HasRun I gone start seat workers M.before M.after M.account M.sight tasks M.segment) × HaveRun I gone start workers (seat + 1) Ms
+abbrev pub HaveRun : Network → Branch → ℕ → ℕ → ℕ → List Member → Type 0
+HaveRun I R start workers seat [] = ⊤
+HaveRun I R start workers seat (M ∷ Ms) = ((tasks : List Task) × HasRun I R start seat workers M.before M.after M.account M.sight tasks M.segment) × HaveRun I R start workers (seat + 1) Ms
 
 abbrev pub accounts : List Member → List Account
 accounts team = map (λ M. M.account) team
@@ -39,10 +40,10 @@ abbrev pub segments_of : List Member → List Segment
 segments_of team = map (λ M. M.segment) team
 
 -- the pool began with the root, and these nodes were left in it at its close
-pub record IsPooled (I : Network) (gone : List ℕ) (team : List Member) (queued : List Node) : Type 0 where
-  pub root : (h : Node → ℕ) → all_gave h (map (λ M. M.before) team) ≡ all_took h (map (λ M. M.before) team) + h (root_of gone)
+pub record IsPooled (I : Network) (R : Branch) (team : List Member) (queued : List Node) : Type 0 where
+  pub root : (h : Node → ℕ) → all_gave h (map (λ M. M.before) team) ≡ all_took h (map (λ M. M.before) team) + h (root_of R)
   pub left : (h : Node → ℕ) → all_gave h (map (λ M. M.after) team) ≡ all_took h (map (λ M. M.after) team) + sum_by h queued
-  pub sound : All (IsSound I gone) queued
+  pub sound : All (IsSound I R) queued
   pub few : length queued < 2 ^ 63
 
 -- the ledger came to this
@@ -63,15 +64,15 @@ abbrev pub gathered_of : List Member → List Node → ℕ → ℕ → Gathered
 gathered_of team queued least claimed = record { segments = segments_of team; queued = queued; least = least; claimed = claimed }
 
 -- the promise of a search
-pub record IsSearched (G : Gathered) (I : Network) (gone : List ℕ) (start budget : ℕ) : Type 0 where
-  pub complete : IsComplete G I gone start budget
-  pub finished : IsFinished G I gone start budget
+pub record IsSearched (G : Gathered) (I : Network) (R : Branch) (start budget : ℕ) : Type 0 where
+  pub complete : IsComplete G I R start budget
+  pub finished : IsFinished G I R start budget
   pub cheaper : All (λ (s : Segment). IfSome s.best (λ t. cost I t < start)) G.segments
   pub writable : AllPackings IsWritablePacking G
 
 -- the theorem on a team: what it did, with what pool, ledger and incumbent came to, is a search
 abbrev pub TeamSearches : Type 0
-TeamSearches = (I : Network) (gone : List ℕ) (start budget workers : ℕ) (team : List Member) (queued : List Node) (least opened claimed : ℕ)
-    → length team ≡ workers → workers ≤ 64 → HaveRun I gone start workers 0 team
-    → IsPooled I gone team queued → IsCounted budget team opened claimed → IsLowest start team least
-    → IsSearched (gathered_of team queued least claimed) I gone start budget
+TeamSearches = (I : Network) (R : Branch) (start budget workers : ℕ) (team : List Member) (queued : List Node) (least opened claimed : ℕ)
+    → length team ≡ workers → workers ≤ 64 → HaveRun I R start workers 0 team
+    → IsPooled I R team queued → IsCounted budget team opened claimed → IsLowest start team least
+    → IsSearched (gathered_of team queued least claimed) I R start budget

@@ -1,7 +1,7 @@
-use crate::plan::Plan;
 use crate::processors::Processors;
 use better_trees::{Priced, least_after, tree_of};
 use branching::Node;
+use node_work::Plan;
 use st_model::{Listed, Tree};
 use std::alloc::{AllocError, Global};
 use std::sync::{Mutex, MutexGuard, Wait};
@@ -11,7 +11,7 @@ use std::sync::{Mutex, MutexGuard, Wait};
 #[derive(Drop)]
 pub struct Hint {
     cheapest: Mutex<Option<Priced>>,
-    pub processors: Processors,
+    pub(crate) processors: Processors,
 }
 
 impl Hint {

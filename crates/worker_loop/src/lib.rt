@@ -2,7 +2,7 @@
 //!
 //! A worker goes on with the half inside of the node that it split last, or the half outside where the
 //! vertex is deleted by bound, and else takes a node of the pool, from its own queue or another's. What
-//! `expand` finds closes a node or splits it into the half with a vertex inside and the half with it
+//! `expand` of `node_work` finds closes a node or splits it into the half with a vertex inside and the half with it
 //! outside, one of which the worker gives to the pool; each record is one node's. What one worker did is
 //! known by its pass and its seats alone; the sums over all of them are put together when they are handed
 //! back. Of what `run_all` gathers callers may rely on search_core's *complete* and *finished*: the records
@@ -10,37 +10,20 @@
 #![tactic(auto)]
 
 mod aim;
-mod attempt;
-mod deciding;
-mod deleting;
-mod expanding;
-mod faults;
-mod following;
-mod freeing;
 mod gate;
-mod guessing;
 mod hint;
-mod node;
-mod picking;
-mod plan;
 mod processors;
-mod raising;
-mod refining;
-mod repairing;
-mod room;
-mod rooted;
-mod rounds;
+mod root;
 mod run;
 mod running;
-mod step;
 mod team;
-#[cfg(test)]
-mod tests;
 mod turn;
 mod work;
 mod worker;
 
 pub use aim::{Aim, SoundFor};
 pub use gate::{Gate, OpenGate};
+pub use hint::Hint;
+pub use root::root_of;
 pub use running::run_all;
 pub use worker::Worker;

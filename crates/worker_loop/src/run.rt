@@ -33,10 +33,10 @@ impl<Q: Aim> Worker<Q> {
         gate: &G,
     ) -> Result<Segment, AllocError>
         requires whole { whole.now.instance ≡ Q.instance }
-        requires aim { IsAim Q.instance Q.gone Q.start }
+        requires aim { IsAim Q.instance Q.branch Q.start }
         requires unused { IsUnused Q.start self.old }
         ensures same { SameWorker self.old self.new }
-        ensures run { IfOk result (λ s. (tasks : List Task) × HasRun Q.instance Q.gone Q.start self.old.seat
+        ensures run { IfOk result (λ s. (tasks : List Task) × HasRun Q.instance Q.branch Q.start self.old.seat
             self.old.workers self.old.pass self.new.pass self.new.ledger self.new.best tasks s) }
     {
         match self.search(rt, alloc, whole, start, hint, gate) {
@@ -59,10 +59,10 @@ impl<Q: Aim> Worker<Q> {
         gate: &G,
     ) -> Result<Segment, AllocError>
         requires whole { whole.now.instance ≡ Q.instance }
-        requires aim { IsAim Q.instance Q.gone Q.start }
+        requires aim { IsAim Q.instance Q.branch Q.start }
         requires unused { IsUnused Q.start self.old }
         ensures same { SameWorker self.old self.new }
-        ensures run { IfOk result (λ s. (tasks : List Task) × HasRun Q.instance Q.gone Q.start self.old.seat
+        ensures run { IfOk result (λ s. (tasks : List Task) × HasRun Q.instance Q.branch Q.start self.old.seat
             self.old.workers self.old.pass self.new.pass self.new.ledger self.new.best tasks s) }
     {
         let mut known = Known::first(hint, start);
@@ -86,13 +86,13 @@ impl<Q: Aim> Worker<Q> {
         ensures refused { self.new.ledger.tally.refused ≡ self.old.ledger.tally.refused }
         ensures next { MatchResult result
             (λ node. (p : Station) (k : Work)
-            → HasWorked Q.instance Q.gone Q.start self.old.seat self.old.workers p (moment self.old k)
+            → HasWorked Q.instance Q.branch Q.start self.old.seat self.old.workers p (moment self.old k)
             (option_to_list hand)
-            → HasWorked Q.instance Q.gone Q.start self.old.seat self.old.workers p (moment self.new k) (node ∷ []))
+            → HasWorked Q.instance Q.branch Q.start self.old.seat self.old.workers p (moment self.new k) (node ∷ []))
             (λ end. IsEnding end self.new.ledger × ((p : Station) (k : Work)
-            → HasWorked Q.instance Q.gone Q.start self.old.seat self.old.workers p (moment self.old k)
+            → HasWorked Q.instance Q.branch Q.start self.old.seat self.old.workers p (moment self.old k)
             (option_to_list hand)
-            → HasWorked Q.instance Q.gone Q.start self.old.seat self.old.workers p (moment self.new k) [])) }
+            → HasWorked Q.instance Q.branch Q.start self.old.seat self.old.workers p (moment self.new k) [])) }
     {
         match hand {
             Some(node) => Ok(node),

@@ -1,24 +1,24 @@
-ghost use Rattle.std.specs.Prelude.{◌≡◌, ◌<◌, ◌≤◌, ℕ, All, IfOk, IfSome, IsFalse, IsTrue};
+ghost use Rattle.std.specs.Prelude.{◌≡◌, ◌<◌, ◌≤◌, All, IfOk, IfSome};
 ghost use Rattle.st_model.specs.Arborescence.{IsTree, cost};
-ghost use Rattle.st_model.specs.Branch.{Belongs, IsVertexSet, NoneIsCertain};
-ghost use Rattle.st_model.specs.Lists.{has, sum_to};
-ghost use Rattle.st_model.specs.Network.{is_required, pays};
+ghost use Rattle.st_model.specs.Branch.{Belongs, IsBranch, LeavesRequired, NoneIsCertain};
+ghost use Rattle.st_model.specs.Lists.{sum_to};
+ghost use Rattle.st_model.specs.Network.{pays};
 ghost use Rattle.log_format.specs.Text.{IsWritablePacking};
-ghost use Rattle.search_core.specs.Complete.{AllPackings, IsComplete, IsFinished, without_gone};
+ghost use Rattle.search_core.specs.Complete.{AllPackings, IsComplete, IsFinished};
 ghost use Rattle.worker_loop.specs.Progress.{IsAim};
 ghost use Rattle.worker_loop.specs.Team.{IsSearched};
 
 use crate::Gate;
 use crate::aim::{Aim, SoundFor};
 use crate::hint::Hint;
-use crate::node::root_of;
+use crate::root::root_of;
 use crate::team::{handed_back, run_team, team_of};
 use graph_store::Whole;
 use incumbent::Incumbent;
 use node_pool::{begin, close, passes_stay_a_pool};
 use open_ledger::Ledger;
 use search_core::Gathered;
-use st_model::{Listed, MAX_VERTICES, Tree, tree_cost};
+use st_model::{Branch, Listed, MAX_VERTICES, Tree, tree_cost};
 use std::alloc::{AllocError, Global};
 use std::marker::Brand;
 use std::sync::Wait;
@@ -30,11 +30,11 @@ const MOST_WORKERS: u32 = 64;
 // The most claims that a ledger counts. No memory holds so many records.
 const MOST_CLAIMS: u64 = (1 << 63) - 1;
 
-/// Searches for a least tree of the instance among those that reach nobody gone, from a first one,
-/// the start, by as many workers as are asked for, at least 1 and at most 64. What is gathered is *complete*: its records and the nodes that
-/// wait are a proof tree. It is *finished*: the trees in it are such trees, the least value is the
-/// least of the start's cost and of theirs, and nodes wait only where the whole budget was spent. A
-/// tree is found only where it is cheaper than the start, and every packing can be written in a
+/// Searches for a least tree of the instance among those of a branch, from a first one, the start, by as
+/// many workers as are asked for, at least 1 and at most 64. What is gathered is *complete*: its records
+/// and the nodes that wait are a proof tree. It is *finished*: the trees in it are of the branch, the least
+/// value is the least of the start's cost and of theirs, and nodes wait only where the whole budget was
+/// spent. A tree is found only where it is cheaper than the start, and every packing can be written in a
 /// log. Each node that is worked on takes one unit of the budget.
 ///
 /// Each worker runs in a thread of its own where one can be made, and else they run one after
@@ -43,22 +43,22 @@ pub fn run_all<R: Threads + Wait + Sync, G: Gate>(
     rt: &R,
     alloc: Global,
     whole: &Whole,
-    gone: &[u32],
+    branch: &Branch,
     start: &Tree,
     workers: u32,
     budget: u64,
     gate: &G,
 ) -> Result<Gathered, AllocError>
-    requires gone { IsVertexSet whole.now.instance.n gone.now }
-    requires leaves { (v : ℕ) → IsTrue (has gone.now v) → IsFalse (is_required whole.now.instance v) }
+    requires branch { IsBranch whole.now.instance branch.now }
+    requires required { LeavesRequired whole.now.instance branch.now }
     requires tree { IsTree whole.now.instance start.now }
-    requires belongs { Belongs (without_gone gone.now) start.now }
+    requires belongs { Belongs branch.now start.now }
     // Where nobody has to be reached, the start is no dearer than leaving everybody out.
-    requires cheap { NoneIsCertain whole.now.instance (without_gone gone.now)
+    requires cheap { NoneIsCertain whole.now.instance branch.now
         → cost whole.now.instance start.now ≤ sum_to (pays whole.now.instance) whole.now.instance.n }
-    ensures complete { IfOk result (λ G. IsComplete G whole.now.instance gone.now
+    ensures complete { IfOk result (λ G. IsComplete G whole.now.instance branch.now
         (cost whole.now.instance start.now) budget) }
-    ensures finished { IfOk result (λ G. IsFinished G whole.now.instance gone.now
+    ensures finished { IfOk result (λ G. IsFinished G whole.now.instance branch.now
         (cost whole.now.instance start.now) budget) }
     ensures cheaper { IfOk result (λ G. All (λ s. IfSome s.best
         (λ t. cost whole.now.instance t < cost whole.now.instance start.now)) G.segments) }
@@ -69,7 +69,7 @@ pub fn run_all<R: Threads + Wait + Sync, G: Gate>(
     let first = tree_cost(&whole.instance, start);
     let seats = workers.clamp(1, MOST_WORKERS);
     let gathered = searched::<Brand, R, G>(
-        rt, alloc, whole, gone, start, first, seats, budget, gate,
+        rt, alloc, whole, branch, start, first, seats, budget, gate,
     )?;
     Ok(gathered)
 }
@@ -79,7 +79,7 @@ fn searched<Q: Aim + Send, R: Threads + Wait + Sync, G: Gate>(
     rt: &R,
     alloc: Global,
     whole: &Whole,
-    gone: &[u32],
+    branch: &Branch,
     start: &Tree,
     first: u64,
     workers: u32,
@@ -87,16 +87,16 @@ fn searched<Q: Aim + Send, R: Threads + Wait + Sync, G: Gate>(
     gate: &G,
 ) -> Result<Gathered, AllocError>
     requires whole { whole.now.instance ≡ Q.instance }
-    requires gone { gone.now ≡ Q.gone }
+    requires same { branch.now ≡ Q.branch }
     requires first { first ≡ Q.start }
-    requires aim { IsAim Q.instance Q.gone Q.start }
-    requires set { IsVertexSet Q.instance.n Q.gone }
-    requires leaves { (v : ℕ) → IsTrue (has Q.gone v) → IsFalse (is_required Q.instance v) }
+    requires aim { IsAim Q.instance Q.branch Q.start }
+    requires branch { IsBranch Q.instance Q.branch }
+    requires required { LeavesRequired Q.instance Q.branch }
     requires few { (0 < workers) × (workers ≤ 64) }
-    ensures { IfOk result (λ G. IsSearched G Q.instance Q.gone Q.start budget) }
+    ensures { IfOk result (λ G. IsSearched G Q.instance Q.branch Q.start budget) }
 {
     let allowed = budget.min(MOST_CLAIMS);
-    let root = root_of(alloc, gone)?;
+    let root = root_of(alloc, branch)?;
     let passes = begin::<SoundFor<Q>>(alloc, workers, root)?;
     let (ledger, accounts) = Ledger::begin(alloc, allowed, workers)?;
     let (incumbent, sights) = Incumbent::begin(alloc, first, workers)?;

@@ -44,9 +44,9 @@ impl<Q: Aim> Slot<Q> {
         gate: &G,
     )
         requires whole { whole.now.instance ≡ Q.instance }
-        requires aim { IsAim Q.instance Q.gone Q.start }
+        requires aim { IsAim Q.instance Q.branch Q.start }
         requires unused { IsUnused Q.start self.old.worker }
-        ensures { HasRunIn Q.instance Q.gone Q.start self.old self.new }
+        ensures { HasRunIn Q.instance Q.branch Q.start self.old self.new }
     {
         self.segment = self.worker.run(rt, alloc, whole, start, hint, gate).ok();
     }
@@ -103,18 +103,18 @@ pub fn run_team<Q: Aim + Send, R: Threads + Wait + Sync, G: Gate>(
 )
     requires threads { 0 < threads }
     requires whole { whole.now.instance ≡ Q.instance }
-    requires aim { IsAim Q.instance Q.gone Q.start }
+    requires aim { IsAim Q.instance Q.branch Q.start }
     requires unused { All (λ s. IsUnused Q.start s.worker) team.old }
-    ensures { HaveRunIn Q.instance Q.gone Q.start team.old team.new }
+    ensures { HaveRunIn Q.instance Q.branch Q.start team.old team.new }
 {
     thread::for_each_mut(
         rt,
         team,
         threads,
         &|_, slot: &mut Slot<Q>|
-            requires { (whole.now.instance ≡ Q.instance) × IsAim Q.instance Q.gone Q.start
+            requires { (whole.now.instance ≡ Q.instance) × IsAim Q.instance Q.branch Q.start
                 × IsUnused Q.start slot.now.worker }
-            ensures { HasRunIn Q.instance Q.gone Q.start slot.entry.now slot.exit.now }
+            ensures { HasRunIn Q.instance Q.branch Q.start slot.entry.now slot.exit.now }
         { slot.run(rt, alloc, whole, start, hint, gate) },
     );
 }

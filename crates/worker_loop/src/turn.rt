@@ -7,16 +7,15 @@ ghost use Rattle.worker_loop.specs.Progress.{Adopts, HasTurned, HasWorked, IsAim
 ghost use Rattle.worker_loop.specs.Sound.{IsSound};
 
 use crate::aim::Aim;
-use crate::expanding::expand;
 use crate::gate::Gate;
 use crate::hint::Known;
-use crate::step::{End, Step};
 use crate::work::Work;
 use crate::worker::Worker;
 use better_trees::Priced;
 use branching::{Node, halves};
 use cut_packing::Packing;
 use graph_store::Whole;
+use node_work::{End, Step, expand};
 use open_ledger::Why;
 use search_core::{Done, End as Ending};
 use std::alloc::{AllocError, Global};
@@ -49,15 +48,15 @@ impl<Q: Aim> Worker<Q> {
         work: &mut Work,
     ) -> Result<Turn, AllocError>
         requires whole { whole.now.instance ≡ Q.instance }
-        requires aim { IsAim Q.instance Q.gone Q.start }
-        requires node { IsSound Q.instance Q.gone node }
+        requires aim { IsAim Q.instance Q.branch Q.start }
+        requires node { IsSound Q.instance Q.branch node }
         requires low { self.old.best.lowest ≤ Q.start }
         requires unrefused { self.old.ledger.tally.refused ≡ 0 }
         ensures same { SameWorker self.old self.new }
         ensures turned { IfOk result (λ t. (p : Station)
-            → HasWorked Q.instance Q.gone Q.start self.old.seat self.old.workers p (moment self.old work.old)
+            → HasWorked Q.instance Q.branch Q.start self.old.seat self.old.workers p (moment self.old work.old)
             (node ∷ [])
-            → HasTurned Q.instance Q.gone Q.start self.old.seat self.old.workers p (moment self.new work.new) t) }
+            → HasTurned Q.instance Q.branch Q.start self.old.seat self.old.workers p (moment self.new work.new) t) }
     {
         if self.ledger.see_halt() {
             return Ok(Turn::Left(node, Ending::HaltSeen));
@@ -82,11 +81,11 @@ impl<Q: Aim> Worker<Q> {
         work: &mut Work,
     ) -> Result<Option<Node>, AllocError>
         requires whole { whole.now.instance ≡ Q.instance }
-        requires aim { IsAim Q.instance Q.gone Q.start }
-        requires node { IsSound Q.instance Q.gone node }
+        requires aim { IsAim Q.instance Q.branch Q.start }
+        requires node { IsSound Q.instance Q.branch node }
         requires low { self.old.best.lowest ≤ Q.start }
         ensures same { SameWorker self.old self.new }
-        ensures worked { IfOk result (λ half. (d : Done) × IsWorkedOn Q.instance Q.gone Q.start self.old.seat
+        ensures worked { IfOk result (λ half. (d : Done) × IsWorkedOn Q.instance Q.branch Q.start self.old.seat
             self.old.workers node (moment self.old work.old) (moment self.new work.new) (option_to_list half) d) }
     {
         let id = node.id;
@@ -156,7 +155,7 @@ impl<Q: Aim> Worker<Q> {
         is_deleted: bool,
         work: &mut Work,
     ) -> Result<Node, AllocError>
-        requires node { IsSound Q.instance Q.gone node }
+        requires node { IsSound Q.instance Q.branch node }
         requires vertex { IsSplit Q.instance node.branch vertex }
         ensures same { SameWorker self.old self.new }
         ensures halved { IfOk result (IsHalved self.old.workers id node vertex is_deleted

@@ -80,7 +80,7 @@ impl<Q: Aim> Worker<Q> {
         ensures looks { HasLooked self.old.ledger self.new.ledger }
         ensures took { MatchResult result (λ node. Moves self.old.pass self.new.pass [] (node ∷ []))
             (λ end. (self.new.pass ≡ self.old.pass) × IsEnding end self.new.ledger) }
-        ensures sound { IfOk result (λ node. IsSound Q.instance Q.gone node) }
+        ensures sound { IfOk result (λ node. IsSound Q.instance Q.branch node) }
     {
         let rest = Parker::new();
         let mut looks: u32 = 0;
@@ -123,7 +123,7 @@ impl<Q: Aim> Worker<Q> {
     // Gives a node to the pool: to where others can take it only if they may and find none there, so that
     // the worker goes on with its newest nodes.
     pub(crate) fn give(&mut self, node: Node, is_shared: bool) -> Result<(), AllocError>
-        requires { IsSound Q.instance Q.gone node }
+        requires { IsSound Q.instance Q.branch node }
         ensures same { (self.new.seat ≡ self.old.seat) × (self.new.workers ≡ self.old.workers)
             × (self.new.next ≡ self.old.next) × (self.new.ledger ≡ self.old.ledger) × (self.new.best ≡ self.old.best) }
         ensures pass { SamePass self.old.pass self.new.pass }

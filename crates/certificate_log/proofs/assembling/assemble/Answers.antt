@@ -1,4 +1,6 @@
 use Rattle.std.proofs.Common.{false, true, ◌≡◌, arith}
+use Rattle.log_format.specs.Accepts.{left_over}
+use Rattle.log_format.proofs.AllTrees.{left_over-branch}
 use Rattle.search_core.specs.Complete.{waiting}
 use Rattle.certificate_log.proofs.Certifying.{IsReady, assembled, small_sum, tree_of}
 use Rattle.certificate_log.proofs.Lowest.{lowest-top, lowest_is, waiting_branches}
@@ -8,13 +10,14 @@ pub proof_lines-requires-clause-tree : goal.proof_lines-requires-clause-tree
 proof_lines-requires-clause-tree c =
     let s = c.args.reduced.now.state in
     let (start, budget, complete) = c.requires.complete in
-    tree_of c.complete_is_proof.ensures c.complete_counts.ensures c.args.gathered.now s.instance s.gone start budget complete
+    let apart = (left_over-branch s c.offset-offset.ensures.state.gone).apart in
+    tree_of c.complete_is_proof.ensures c.complete_counts.ensures c.args.gathered.now s.instance (left_over s) start budget apart complete
 
 pub unreachable-requires : goal.unreachable-requires
 unreachable-requires c =
     let s = c.args.reduced.now.state in
     let (start, budget, complete) = c.requires.complete in
-    let (p, proves) = c.complete_is_proof.ensures c.args.gathered.now s.instance s.gone start budget complete in
+    let (p, proves) = c.complete_is_proof.ensures c.args.gathered.now s.instance (left_over s) start budget complete in
     let some : false ≡ true = c.in_default.ensures.one.1 (p, c.in_ok-lines.ensures p proves.read) in
     cc
 
@@ -27,7 +30,7 @@ pub bound_of-requires : goal.bound_of-requires
 bound_of-requires c =
     let s = c.args.reduced.now.state in
     let (start, budget, complete) = c.requires.complete in
-    rw c.in_ok-rest.ensures.instance (waiting_branches c.args.gathered.now s.instance s.gone start budget complete c.offset-offset.ensures.state.gone)
+    rw c.in_ok-rest.ensures.instance (waiting_branches c.args.gathered.now s.instance (left_over s) start budget complete (left_over-branch s c.offset-offset.ensures.state.gone))
 
 pub overflow_add-dual : goal.overflow_add-dual
 overflow_add-dual c =
@@ -44,7 +47,7 @@ returns c =
     let G = c.args.gathered.now in
     let o = c.offset-offset.ensures in
     let (start, budget, complete) = c.requires.complete in
-    let (p, proves) = c.complete_is_proof.ensures G s.instance s.gone start budget complete in
+    let (p, proves) = c.complete_is_proof.ensures G s.instance (left_over s) start budget complete in
     let h : IsReady steps first s G c.args.tree.now c.in_ok-tree.tree c.in_ok-lines.lines.items p = record {
       instance = c.requires.instance;
       applies = c.requires.applies;
@@ -58,7 +61,7 @@ returns c =
       writable = c.requires.writable;
       lines_are = c.in_ok-lines.ensures p proves.read;
       proves = proves;
-      is_lowest = lowest_is G s.instance s.gone start budget complete p proves.read;
+      is_lowest = lowest_is G s.instance (left_over s) start budget complete p proves.read;
       counts = c.complete_counts.ensures;
       few = c.complete_is_few.ensures;
     } in

@@ -3,13 +3,12 @@ use Rattle.std.specs.Prelude.{IfSome}
 use Rattle.st_model.specs.Arborescence.{IsTree}
 use Rattle.st_model.specs.Branch.{Belongs}
 use Rattle.search_core.specs.declared.gathered.Segment.{Segment}
-use Rattle.search_core.specs.Complete.{without_gone}
 use Rattle.steiner_top.proofs.Cheapest.{one_more}
 use Rattle.steiner_top.proofs.best.cheapest.Goals as goal
 
 pub with_found-requires-clause-found : goal.with_found-requires-clause-found
 with_found-requires-clause-found c =
-    subst (λ (s : Segment). IfSome s.best (λ t. IsTree c.args.instance.now t × Belongs (without_gone c.args.gone.now) t)) (sym c.segment-item.is)
+    subst (λ (s : Segment). IfSome s.best (λ t. IsTree c.args.instance.now t × Belongs c.args.branch.now t)) (sym c.segment-item.is)
     (c.requires.found c.loop-segment.segment-index c.segment-item.result c.loop-segment-test.true)
 
 pub loop-segment-preserved : goal.loop-segment-preserved

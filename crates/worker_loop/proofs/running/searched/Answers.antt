@@ -40,7 +40,7 @@ close-requires g c =
     let all : take c.in_ok-team.team.len (after ++ drop (length after) c.in_ok-team.team.items) ≡ after = written after (drop (length after) c.in_ok-team.team.items) c.in_ok-team.team.len
     (sym (long ∙ c.as_mut_slice.ensures.len)) in
     let back : c.in_ok-returned.returned.passes.items ≡ map pass_of after = c.in_ok-returned.ensures.passes ∙ ap (λ (ss : List (Slot g.row.Q.Denot)). map pass_of ss) all in
-    still_a_pool g.Q.Aim.instance g.Q.Aim.gone g.Q.Aim.start before after c.in_ok-passes.passes.items c.in_ok-returned.returned.passes.items c.passes_stay_a_pool.ensures long c.run_team.ensures
+    still_a_pool g.Q.Aim.instance g.Q.Aim.branch g.Q.Aim.start before after c.in_ok-passes.passes.items c.in_ok-returned.returned.passes.items c.passes_stay_a_pool.ensures long c.run_team.ensures
     passes back c.in_ok-passes.ensures.all
 
 pub close-totals-requires-clause-own : goal.close-totals-requires-clause-own
@@ -55,7 +55,7 @@ close-totals-requires-clause-own g c =
     let was : map account_of before ≡ c.in_ok-ledger.accounts.items = search rules in
     let back : c.in_ok-returned.returned.accounts.items ≡ map account_of after = c.in_ok-returned.ensures.accounts ∙ ap (λ (ss : List (Slot g.row.Q.Denot)). map account_of ss) all in
     let new = subst (All (λ (u : Account). u ≡ new_account L allowed)) (sym was) c.in_ok-ledger.ensures.seats in
-    subst (All (λ (u : Account). u.ledger ≡ L)) (sym back) (same_ledgers g.Q.Aim.instance g.Q.Aim.gone g.Q.Aim.start L allowed before after long c.run_team.ensures new)
+    subst (All (λ (u : Account). u.ledger ≡ L)) (sym back) (same_ledgers g.Q.Aim.instance g.Q.Aim.branch g.Q.Aim.start L allowed before after long c.run_team.ensures new)
 
 pub close-least-requires-clause-own : goal.close-least-requires-clause-own
 close-least-requires-clause-own g c =
@@ -69,12 +69,12 @@ close-least-requires-clause-own g c =
     let back : c.in_ok-returned.returned.sights.items ≡ map sight_of after = c.in_ok-returned.ensures.sights ∙ ap (λ (ss : List (Slot g.row.Q.Denot)). map sight_of ss) all in
     let new = subst (λ (n : ℕ). All (λ (m : Sight). m ≡ new_sight M n) (map sight_of before)) c.requires.first
     (subst (All (λ (m : Sight). m ≡ new_sight M c.args.first)) (sym was) c.in_ok-incumbent.ensures.seats) in
-    subst (All (λ (m : Sight). m.incumbent ≡ M)) (sym back) (same_incumbents g.Q.Aim.instance g.Q.Aim.gone g.Q.Aim.start M before after long c.run_team.ensures new)
+    subst (All (λ (m : Sight). m.incumbent ≡ M)) (sym back) (same_incumbents g.Q.Aim.instance g.Q.Aim.branch g.Q.Aim.start M before after long c.run_team.ensures new)
 
 pub returns : goal.returns
 returns g c =
     let I = g.Q.Aim.instance in
-    let gone = g.Q.Aim.gone in
+    let R = g.Q.Aim.branch in
     let start = g.Q.Aim.start in
     let before = c.as_mut_slice.result.now in
     let after = c.run_team.new.team in
@@ -94,7 +94,7 @@ returns g c =
     let accounts_back : back.accounts.items ≡ map account_of after = c.in_ok-returned.ensures.accounts ∙ ap (λ (ss : List (Slot g.row.Q.Denot)). map account_of ss) all in
     let sights_back : back.sights.items ≡ map sight_of after = c.in_ok-returned.ensures.sights ∙ ap (λ (ss : List (Slot g.row.Q.Denot)). map sight_of ss) all in
     let found : map Some back.segments.items ≡ map segment_of after = c.in_ok-returned.ensures.segments ∙ ap (λ (ss : List (Slot g.row.Q.Denot)). map segment_of ss) all in
-    let root : c.in_ok-root.root ≡ root_of gone = c.in_ok-root.ensures ∙ ap root_of c.requires.gone in
+    let root : c.in_ok-root.root ≡ root_of R = c.in_ok-root.ensures ∙ ap root_of c.requires.same in
     let is_allowed : allowed ≡ min c.args.budget 9223372036854775807 = search rules in
     let budget_is : c.in_ok-ledger.ledger.budget ≡ allowed = search rules in
     let start_is : c.in_ok-incumbent.incumbent.start ≡ start = c.in_ok-incumbent.ensures.start ∙ c.requires.first in
@@ -107,9 +107,9 @@ returns g c =
       within = subst (λ (b : ℕ). totals.claimed ≡ min b (granted_of back.accounts.items + refused_of back.accounts.items)) budget_is t.within;
       halts = t.halted;
     } in
-    let closed : IsClosedTeam I gone start allowed c.args.workers before after queued least totals.opened totals.claimed = record {
+    let closed : IsClosedTeam I R start allowed c.args.workers before after queued least totals.opened totals.claimed = record {
       root = λ h.
-          subst (λ (ps : List Station). all_gave h ps ≡ all_took h ps + h (root_of gone)) (sym passes)
+          subst (λ (ps : List Station). all_gave h ps ≡ all_took h ps + h (root_of R)) (sym passes)
           (subst (λ (n : Node). all_gave h c.in_ok-passes.passes.items ≡ all_took h c.in_ok-passes.passes.items + h n) root (c.in_ok-passes.ensures.root h));
       left = λ h. subst (λ (ps : List Station). all_gave h ps ≡ all_took h ps + sum_by h queued) passes_back (c.in_ok-queued.ensures.left h);
       sound = c.in_ok-queued.ensures.sound;
@@ -119,8 +119,8 @@ returns g c =
           (subst (λ (n : ℕ). least ≡ least_of n (all_offers back.sights.items)) start_is c.close-least.ensures.least);
       seen = subst (All (λ (m : Sight). least ≤ m.lowest)) sights_back c.close-least.ensures.seen;
     } in
-    let so = searched_so I gone start c.args.budget allowed c.args.workers before after back.segments.items queued least totals.opened totals.claimed c.requires.few.1 count long seated
+    let so = searched_so I R start c.args.budget allowed c.args.workers before after back.segments.items queued least totals.opened totals.claimed c.requires.few.1 count long seated
     c.run_team.ensures found is_allowed
     (λ e. c.if-totals-eq-MOST_CLAIMS.false e) closed in
-    subst (λ (Ns : List Node). IsSearched (record { segments = c.of.result; queued = Ns; least = least; claimed = totals.claimed }) I gone start c.args.budget) (sym c.of-2.ensures)
-    (subst (λ (ss : List Segment). IsSearched (record { segments = ss; queued = queued; least = least; claimed = totals.claimed }) I gone start c.args.budget) (sym c.of.ensures) so)
+    subst (λ (Ns : List Node). IsSearched (record { segments = c.of.result; queued = Ns; least = least; claimed = totals.claimed }) I R start c.args.budget) (sym c.of-2.ensures)
+    (subst (λ (ss : List Segment). IsSearched (record { segments = ss; queued = queued; least = least; claimed = totals.claimed }) I R start c.args.budget) (sym c.of.ensures) so)

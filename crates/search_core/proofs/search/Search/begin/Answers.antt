@@ -7,6 +7,6 @@ use Rattle.search_core.proofs.search.Search.begin.Goals as goal
 pub invariant_of-result-2 : goal.invariant_of-result-2
 invariant_of-result-2 c =
     let I = c.args.instance.now in
-    let gone = c.args.gone.now in
-    let made : c.nodes-2.inside.made.items ≡ (beginning I gone c.args.workers c.args.budget c.args.start_cost).nodes = c.nodes-2.view_is ∙ (c.in_ok-add.ensures.ok ∙ rw (c.new-nodes.ensures, c.in_ok-root.ensures) refl) in
-    kept_begun I gone c.args.workers c.args.budget c.args.start_cost c.in_ok-copied.field-0 c.of.result c.nodes-2.inside.made.items c.in_ok-new_workers.field-0.items (root_node I gone c.requires.gone c.requires.required) c.in_ok-copied.ensures (c.of.ensures ∙ c.in_ok-from_slice.ensures.items) made c.in_ok-new_workers.ensures
+    let R = c.args.branch.now in
+    let made : c.nodes-2.inside.made.items ≡ (beginning I R c.args.workers c.args.budget c.args.start_cost).nodes = c.nodes-2.view_is ∙ (c.in_ok-add.ensures.ok ∙ rw (c.new-nodes.ensures, c.in_ok-root.ensures) refl) in
+    kept_begun I R c.args.workers c.args.budget c.args.start_cost c.in_ok-copied.field-0 c.in_ok-copied-2.field-0 c.nodes-2.inside.made.items c.in_ok-new_workers.field-0.items (root_node I R c.requires.branch c.requires.required) c.in_ok-copied.ensures c.in_ok-copied-2.ensures made c.in_ok-new_workers.ensures

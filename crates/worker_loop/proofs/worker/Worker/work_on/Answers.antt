@@ -5,10 +5,10 @@ use Rattle.open_ledger.specs.Seat.{Known as Account}
 use Rattle.node_pool.specs.Pool.{Station}
 use Rattle.search_core.specs.declared.done.Done.TheVariants as recorded
 use Rattle.better_trees.specs.Better.{least_after}
-use Rattle.worker_loop.specs.declared.step.End.TheVariants.{Close, Split}
+use Rattle.node_work.specs.declared.step.End.TheVariants.{Close, Split}
 use Rattle.worker_loop.specs.declared.work.Work.{Work}
 use Rattle.worker_loop.specs.Progress.{Adopts, IsClosed, IsHalved, as_of, moment}
-use Rattle.worker_loop.specs.Step.{IsEnd, IsStep}
+use Rattle.node_work.specs.Step.{IsEnd, IsStep}
 use Rattle.worker_loop.proofs.WorkedOn.{closed_on, split_on}
 use Rattle.worker_loop.proofs.worker.Worker.work_on.Goals as goal
 
@@ -34,7 +34,7 @@ returns-in_ok-close-in-Close-clause-worked g c =
     (subst (λ (q : Station). IsClosed c.args.node.id P (as_of q w.ledger v.best v.next k') m) same.3
     (subst (λ (u : Account). IsClosed c.args.node.id P (as_of v.pass u v.best v.next k') m) same.4 c.in_ok-close-in-Close.ensures.closed)) in (
       recorded.Close c.args.node.id P,
-      closed_on I g.Q.Aim.gone g.Q.Aim.start w.seat w.workers r c.args.node w.pass w.ledger w.best v.best w.next k k' m better P c.requires.node
+      closed_on I g.Q.Aim.branch g.Q.Aim.start w.seat w.workers r c.args.node w.pass w.ledger w.best v.best w.next k k' m better P c.requires.node
           c.see-work.ensures.at_most step.tree end adopts closed,
     )
 
@@ -64,6 +64,6 @@ returns-in_ok-half-in-Split-clause-worked g c =
     (subst (λ (u : Account). IsHalved w.workers c.args.node.id M vertex deleted (as_of v.pass u v.best v.next k') m half) same.4
     (subst (λ (n : ℕ). IsHalved n c.args.node.id M vertex deleted (as_of v.pass v.ledger v.best v.next k') m half) same.1 c.in_ok-half-in-Split.ensures.halved))) in (
       recorded.Split c.args.node.id vertex w.next (w.next + w.workers) M.packing,
-      split_on I g.Q.Aim.gone g.Q.Aim.start w.seat w.workers r c.args.node M half vertex deleted w.pass w.ledger w.best v.best w.next k k' m better c.requires.node c.see-work.ensures.at_most
+      split_on I g.Q.Aim.branch g.Q.Aim.start w.seat w.workers r c.args.node M half vertex deleted w.pass w.ledger w.best v.best w.next k k' m better c.requires.node c.see-work.ensures.at_most
           c.requires.low step.tree end adopts halved,
     )

@@ -1,0 +1,28 @@
+use Rattle.std.proofs.Common.{◌≡◌, ◌≤◌, ◌∙◌, All, subst, sym, arith}
+use Rattle.st_model.specs.Branch.{IsVertexSet}
+use Rattle.st_model.specs.Network.{Network}
+use Rattle.cut_packing.specs.Packing.{weight}
+use Rattle.dual_ascent.specs.Extension.{packing_of}
+use Rattle.node_work.proofs.Refined.{raised_again_by}
+use Rattle.node_work.proofs.attempt.raised_without.Goals as goal
+
+pub free-requires-clause-sets : goal.free-requires-clause-sets
+free-requires-clause-sets c =
+    let network = c.args.site.now.whole.now.whole.network in
+    rw c.packing-packing.ensures (subst (λ (I : Network). All (λ d. IsVertexSet I.n d.set) (packing_of c.args.extension.now.ascent).cuts) (sym network) c.requires.raised.sets)
+
+pub returns : goal.returns
+returns c =
+    let I = c.args.site.now.whole.now.instance in
+    let B = c.args.site.now.branch.now in
+    let first = c.args.extension.now in
+    let raised = c.in_ok-raised.raised in
+    let r = c.requires.raised in
+    let e = c.in_ok-raised.ensures in
+    let kept = c.in_ok-kept.ensures in
+    let root = rw c.in_ok-left.ensures at kept.root in
+    let before : c.weight-before.result ≡ weight I B (packing_of first.ascent) = rw (c.branch-branch.ensures, c.packing-packing.ensures) at c.weight-before.ensures in
+    let after : c.weight.result ≡ weight I B (packing_of raised.ascent) = rw (c.branch-branch-2.ensures, c.packing.ensures) at c.weight.ensures in
+    let heavy : weight I B (packing_of first.ascent) ≤ weight I B (packing_of raised.ascent) = omega (arith, before, after, c.if-weight-before.false) in
+    raised_again_by I c.args.site.now.whole.now.store B c.in_ok-kept.kept c.args.site.now.root c.args.site.now.least _ _ raised first c.args.site.now.whole.now.whole.network r
+    (rw c.packing-packing.ensures at kept.lighter) (root ∙ r.rooted) c.gap-target.ensures e.extended e.root e.charged e.ends heavy

@@ -1,0 +1,12 @@
+use Rattle.node_work.proofs.Heavier.{bare_extendable, either_extends}
+use Rattle.node_work.proofs.raising.raise.Goals as goal
+
+pub raise_from-requires-then-not-is_reached : goal.raise_from-requires-then-not-is_reached
+raise_from-requires-then-not-is_reached c =
+    rw c.no_cuts.ensures (bare_extendable c.args.whole.now.instance c.args.branch.now c.args.packing c.args.root c.args.least c.requires)
+
+pub returns-then-not-is_reached : goal.returns-then-not-is_reached
+returns-then-not-is_reached c =
+    let I = c.args.whole.now.instance in
+    let second = rw c.no_cuts.ensures at c.in_ok-second.ensures in
+    either_extends I c.args.whole.now.store c.args.branch.now c.args.packing c.args.root c.args.least c.in_ok-first.first c.in_ok-second.second c.heavier.result c.requires c.in_ok-first.ensures second c.heavier.ensures

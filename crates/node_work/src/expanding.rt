@@ -1,0 +1,290 @@
+ghost use Rattle.std.specs.Prelude.{◌≡◌, ◌<◌, ◌≤◌, IfOk, IfSome};
+ghost use Rattle.st_model.specs.Branch.{NoneIsCertain};
+ghost use Rattle.st_model.specs.Lists.{sum_to};
+ghost use Rattle.st_model.specs.Network.{IsInstance, pays};
+ghost use Rattle.cut_packing.specs.Full.{IsFull};
+ghost use Rattle.cut_packing.specs.Packing.{weight};
+ghost use Rattle.cut_packing.specs.ProofTree.{IsSplit};
+ghost use Rattle.dual_ascent.specs.Extension.{IsRootFor, IsStart};
+ghost use Rattle.branching.specs.Choice.{IsChoice, IsDecided};
+ghost use Rattle.better_trees.specs.Better.{IsBetter, least_after};
+ghost use Rattle.node_work.specs.Finding.{IsFinding};
+ghost use Rattle.node_work.specs.Node.{IsWritableNode};
+ghost use Rattle.node_work.specs.Open.{IsOpen, as_node};
+ghost use Rattle.node_work.specs.Step.{IsStep};
+
+use crate::deciding::root_of;
+use crate::following::follow;
+use crate::guessing::{guess, together};
+use crate::node::{OpenNode, node_of};
+use crate::picking::pick;
+use crate::plan::Plan;
+use crate::refining::Guide;
+use crate::rounds::{Rounds, work_by_rounds};
+use crate::step::{End, Finding, Step};
+use better_trees::{Effort, Priced, gap, least_after, near_root, priced, tree_of};
+use branching::{Node, choose};
+use cut_packing::{Packing, weight};
+use dual_ascent::{Ascent, Extension};
+use graph_store::Whole;
+use level_packing::{Leaf, close_all};
+use st_model::{Instance, Sides, Tree, VertexSet};
+use std::alloc::{AllocError, Global};
+use std::thread::Threads;
+
+/// Works on a node. It closes where its packing weighs as much as `least`, the least cost known of
+/// a tree, or where nothing is left to decide. Else its packing is extended until it weighs so
+/// much, or is full; a full one leads to a tree, which may be cheaper, and unless it weighs as much
+/// as the cheapest one known the node splits. `known` is the best tree that is known: where it
+/// branches a split tells most. Where a plan was made for the node, it is followed. Trees are drawn in
+/// `threads` threads, at most.
+pub fn expand<R: Threads + Sync>(
+    rt: &R,
+    alloc: Global,
+    whole: &Whole,
+    node: Node,
+    least: u64,
+    known: &Tree,
+    plan: Option<Plan>,
+    threads: usize,
+) -> Result<Step, AllocError>
+    requires instance { IsInstance whole.now.instance }
+    requires node { IsWritableNode whole.now.instance node }
+    requires cheap { NoneIsCertain whole.now.instance node.branch
+        → least ≤ sum_to (pays whole.now.instance) whole.now.instance.n }
+    ensures { IfOk result (IsStep whole.now.instance node least) }
+{
+    if weight(&whole.instance, &node.branch, &node.packing) >= u128::from(least) {
+        return Ok(closed(node.packing));
+    }
+    match choose(&node, &whole.instance) {
+        Some(vertex) => take_up(rt, alloc, whole, node, vertex, least, known, plan, threads),
+        None => close(alloc, &whole.instance, node, least),
+    }
+}
+
+// Closes a node with nothing left to decide, by a level packing that weighs what a tree costs, or
+// the least cost known.
+fn close(alloc: Global, instance: &Instance, node: Node, least: u64) -> Result<Step, AllocError>
+    requires instance { IsInstance instance.now }
+    requires node { IsWritableNode instance.now node }
+    requires cheap { NoneIsCertain instance.now node.branch
+        → least ≤ sum_to (pays instance.now) instance.now.n }
+    requires decided { IsDecided instance.now node.branch }
+    requires light { weight instance.now node.branch node.packing < least }
+    ensures { IfOk result (IsStep instance.now node least) }
+{
+    let branch = Sides::of(alloc, node.branch)?;
+    match close_all(alloc, instance, &branch, least)? {
+        Leaf::Tree(tree, level) => Ok(Step {
+            better: priced(instance, tree, least),
+            end: End::Close(level),
+        }),
+        Leaf::Wall(level) => Ok(closed(level)),
+    }
+}
+
+// A close, with no better tree.
+pub fn closed(packing: Packing) -> Step
+    ensures { result ≡ record { better = None; end = End.Close packing } }
+{
+    Step {
+        better: None,
+        end: End::Close(packing),
+    }
+}
+
+// Works on a node that weighs less than the least cost known, and that can be split at the vertex
+// given. Where no vertex is certain, so that there is no root for cuts, it splits there.
+fn take_up<R: Threads + Sync>(
+    rt: &R,
+    alloc: Global,
+    whole: &Whole,
+    node: Node,
+    given: u32,
+    least: u64,
+    known: &Tree,
+    plan: Option<Plan>,
+    threads: usize,
+) -> Result<Step, AllocError>
+    requires instance { IsInstance whole.now.instance }
+    requires node { IsWritableNode whole.now.instance node }
+    requires given { IsChoice whole.now.instance node.branch given }
+    requires light { weight whole.now.instance node.branch node.packing < least }
+    ensures { IfOk result (IsStep whole.now.instance node least) }
+{
+    let Node {
+        id,
+        branch,
+        packing,
+    } = node;
+    let branch = Sides::of(alloc, branch)?;
+    let Some(root) = root_of(&whole.instance, &branch, &packing) else {
+        return Ok(split(node_of(id, branch, packing), given));
+    };
+    let node = OpenNode {
+        id,
+        branch,
+        packing,
+        root,
+        given,
+    };
+    match plan {
+        Some(plan) => follow(rt, alloc, whole, node, least, known, plan, threads),
+        None => work_on(rt, alloc, whole, node, least, known, threads),
+    }
+}
+
+/// Refines the packing of a node and looks for trees: it closes, or splits where it tells most.
+pub fn work_on<R: Threads + Sync>(
+    rt: &R,
+    alloc: Global,
+    whole: &Whole,
+    node: OpenNode,
+    least: u64,
+    known: &Tree,
+    threads: usize,
+) -> Result<Step, AllocError>
+    requires instance { IsInstance whole.now.instance }
+    requires node { IsOpen whole.now.instance node least }
+    ensures { IfOk result (IsStep whole.now.instance (as_node node) least) }
+{
+    let OpenNode {
+        id,
+        branch,
+        packing,
+        root,
+        given,
+    } = node;
+    let is_bare = packing.cuts.as_slice().is_empty();
+    let effort = Effort::at(branch.branch(), is_bare, threads);
+    let Rounds {
+        extension,
+        better,
+        joints,
+    } = work_by_rounds(
+        rt, alloc, whole, &branch, packing, root, least, known, effort,
+    )?;
+    let Extension { ascent, left } = extension;
+    match ascent {
+        Ascent::Reached(packing) => Ok(Step {
+            better,
+            end: End::Close(packing),
+        }),
+        Ascent::Full(packing) => {
+            let price = least_after(least, &better);
+            let limit = gap(&whole.instance, &branch, &packing, price);
+            let near = near_root(alloc, &left.arcs, limit)?;
+            let more = guessed(
+                rt,
+                alloc,
+                whole,
+                &branch,
+                &packing,
+                &near,
+                root,
+                price,
+                tree_of(known, &better),
+                effort,
+            )?;
+            let vertex = pick(&left.arcs, &whole.instance, &branch, &near, &joints, given);
+            let node = node_of(id, branch, packing);
+            Ok(concluded(&whole.instance, node, vertex, together(better, more), least))
+        }
+    }
+}
+
+// What is found by a guess, by a tree that costs so much.
+fn guessed<R: Threads + Sync>(
+    rt: &R,
+    alloc: Global,
+    whole: &Whole,
+    branch: &Sides,
+    packing: &Packing,
+    near: &VertexSet,
+    root: u32,
+    price: u64,
+    tree: &Tree,
+    effort: Effort,
+) -> Result<Finding, AllocError>
+    requires instance { IsInstance whole.now.instance }
+    requires start { IsStart whole.now.instance branch.now packing.now }
+    requires rooted { IsRootFor whole.now.instance branch.now packing.now root }
+    ensures { IfOk result (IsFinding whole.now.instance branch.now price) }
+{
+    let mut guide = Guide::at(tree, price, effort);
+    let found = guess(
+        rt, alloc, whole, branch, packing, near, root, price, &mut guide,
+    )?;
+    Ok(found)
+}
+
+// A split, with no better tree.
+fn split(node: Node, vertex: u32) -> Step
+    ensures { result ≡ record { better = None; end = End.Split node vertex None } }
+{
+    Step {
+        better: None,
+        end: End::Split(node, vertex, None),
+    }
+}
+
+// Ends a node with a full packing, beside which something was found: it closes by a packing that was
+// found to close it.
+fn concluded(instance: &Instance, node: Node, vertex: u32, finding: Finding, least: u64) -> Step
+    requires node { IsWritableNode instance.now node }
+    requires full { IsFull instance.now node.branch node.packing }
+    requires vertex { IsSplit instance.now node.branch vertex }
+    requires finding { IsFinding instance.now node.branch least finding }
+    ensures { IsStep instance.now node least result }
+{
+    let Finding {
+        better,
+        closing,
+        plan,
+    } = finding;
+    match closing {
+        Some(packing) => Step {
+            better,
+            end: End::Close(packing),
+        },
+        None => ended(instance, node, vertex, better, least, plan),
+    }
+}
+
+// Ends a node with a full packing: it closes where this weighs as much as the cheapest tree known,
+// and else it splits, by a plan if there is one.
+fn ended(
+    instance: &Instance,
+    node: Node,
+    vertex: u32,
+    better: Option<Priced>,
+    least: u64,
+    plan: Option<Plan>,
+) -> Step
+    requires node { IsWritableNode instance.now node }
+    requires full { IsFull instance.now node.branch node.packing }
+    requires vertex { IsSplit instance.now node.branch vertex }
+    requires better { IfSome better (IsBetter instance.now node.branch least) }
+    ensures { IsStep instance.now node least result }
+{
+    let known = least_after(least, &better);
+    if weight(instance, &node.branch, &node.packing) >= u128::from(known) {
+        return Step {
+            better,
+            end: End::Close(node.packing),
+        };
+    }
+    if let Some(plan) = plan {
+        if let Some(next) = plan.next(instance, &node.branch) {
+            return Step {
+                better,
+                end: End::Split(node, next, Some(plan)),
+            };
+        }
+    }
+    Step {
+        better,
+        end: End::Split(node, vertex, None),
+    }
+}

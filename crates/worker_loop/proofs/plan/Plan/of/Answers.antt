@@ -1,4 +1,0 @@
-use Rattle.worker_loop.proofs.plan.Plan.of.Goals as goal
-
-pub invariant_of-result : goal.invariant_of-result
-invariant_of-result c = rw c.vertices.ensures.count c.requires

@@ -1,4 +1,0 @@
-use Rattle.worker_loop.proofs.refining.raise_refined.Goals as goal
-
-pub returns : goal.returns
-returns g c = c.in_ok-refined.ensures.extends c.args.packing c.requires.able c.in_ok-raised.ensures

@@ -1,9 +1,0 @@
-use Rattle.std.specs.Prelude.{All, IfSome}
-use Rattle.worker_loop.specs.Trying.{IsTriedAt, RefinesAt}
-use Rattle.worker_loop.proofs.refining.turn.Given as goal
-
-abbrev pub invariant-loop-attempt : goal.invariant-loop-attempt
-invariant-loop-attempt g l =
-    (goal.iterator-loop-attempt g).can_next l.attempt-iterator × (goal.iterator-loop-attempt g).is_finite l.attempt-iterator
-    × All (IsTriedAt l.fn.site l.fn.extension) l.attempt-iterator.rest.items
-    × IfSome l.best (RefinesAt l.fn.site l.fn.extension)

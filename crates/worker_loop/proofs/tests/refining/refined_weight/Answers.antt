@@ -1,6 +1,0 @@
-use Rattle.worker_loop.proofs.Heavier.{all_extendable}
-use Rattle.worker_loop.proofs.tests.refining.refined_weight.Goals as goal
-
-pub raise_refined-requires-clause-able : goal.raise_refined-requires-clause-able
-raise_refined-requires-clause-able g c κs within =
-    rw (c.in_ok-branch.ensures, c.all.ensures, c.no_cuts-bare.ensures) (all_extendable c.args.whole.now.instance c.args.root c.args.least c.requires)
