@@ -7,8 +7,8 @@
 
 mod draws;
 mod named;
-#[cfg(test)]
-mod tests;
+mod subsets;
 
 pub use draws::Draws;
-pub use named::{link, links_of_triangle, pair, triangle_with_centre};
+pub use named::{link, links_of_triangle, odd_wheel, pair, triangle_with_centre};
+pub use subsets::{bit, cost_of_set};

@@ -52,3 +52,29 @@ pub fn pair(alloc: Global, first: Need, second: Need) -> Result<Instance, AllocE
 {
     Instance::build(alloc, 2, &[link(1, 2, 5)], &[(1, first), (2, second)])
 }
+
+/// A hub 1 with spokes to 2, 3 and 4, and a rim on which 5, 6 and 7 lie between two of these, each link at 2. The hub
+/// and the last three are required, and a cheapest tree costs 10; cuts alone weigh at most 9, since half of each of the
+/// nine links crosses every cut.
+pub fn odd_wheel(alloc: Global) -> Result<Instance, AllocError>
+    ensures count { IfOk result (λ instance. instance.n ≡ 7) }
+{
+    let links = [
+        link(1, 2, 2),
+        link(1, 3, 2),
+        link(1, 4, 2),
+        link(5, 2, 2),
+        link(5, 3, 2),
+        link(6, 3, 2),
+        link(6, 4, 2),
+        link(7, 2, 2),
+        link(7, 4, 2),
+    ];
+    let needs = [
+        (1, Need::Required),
+        (5, Need::Required),
+        (6, Need::Required),
+        (7, Need::Required),
+    ];
+    Instance::build(alloc, 7, &links, &needs)
+}

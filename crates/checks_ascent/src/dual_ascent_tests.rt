@@ -1,0 +1,4 @@
+mod ascending;
+mod extending;
+mod fixing;
+mod freeing;

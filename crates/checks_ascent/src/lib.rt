@@ -1,0 +1,5 @@
+//! The tests of `dual_ascent`.
+#![tactic(auto)]
+
+#[cfg(test)]
+mod dual_ascent_tests;

@@ -1,0 +1,91 @@
+use dimacs_writer::solution_text;
+use st_model::{Listed, Tree};
+use std::alloc::{AllocError, Global};
+use std::test::Fail;
+
+fn tree_of(alloc: Global, start: u32, arcs: &[(u32, u32)]) -> Result<Tree, AllocError> {
+    let arcs = Vec::from_slice(alloc, arcs)?;
+    Ok(Tree {
+        start,
+        arcs: Listed::of(arcs),
+    })
+}
+
+const STAR: &str = "33D32945 STP File, STP Format Version 1.0
+SECTION Comment
+Name \"row1.stp\"
+Program \"steiner\"
+Remark \"optimal\"
+END
+SECTION Solutions
+Solution 0 6
+END
+SECTION Run
+Threads 1
+Time 0
+Dual 6
+Primal 6
+END
+SECTION Finalsolution
+Vertices 4
+V 1
+V 2
+V 3
+V 4
+Edges 3
+E 1 4
+E 2 4
+E 3 4
+END
+EOF
+";
+
+// Whether a tree is written as the star.
+fn is_star(alloc: Global, tree: &Tree) -> Result<bool, AllocError> {
+    let text = solution_text(alloc, "row1.stp", 1, tree, 6, 6)?;
+    Ok(text.as_slice() == STAR.as_bytes())
+}
+
+#[test]
+fn writes_a_star(rt: HostRuntime) -> Result<(), Fail> {
+    for (start, arcs) in [(4, [(4, 1), (4, 2), (4, 3)]), (3, [(3, 4), (4, 2), (4, 1)])] {
+        assert!(rt; is_star(rt.alloc(), &tree_of(rt.alloc(), start, &arcs)?)?);
+    }
+    Ok(())
+}
+
+// A name with bytes that can't stand in quotes, a bound below the cost, and no edge.
+const LONE: &str = "33D32945 STP File, STP Format Version 1.0
+SECTION Comment
+Name \"a_b_ö ~\"
+Program \"steiner\"
+Remark \"budget\"
+END
+SECTION Solutions
+Solution 0 18446744073709551615
+END
+SECTION Run
+Threads 12
+Time 0
+Dual 0
+Primal 18446744073709551615
+END
+SECTION Finalsolution
+Vertices 1
+V 1000000
+Edges 0
+END
+EOF
+";
+
+// Whether a tree is written as the lone vertex.
+fn is_lone(alloc: Global, tree: &Tree) -> Result<bool, AllocError> {
+    let text = solution_text(alloc, "a\"b\tö ~", 12, tree, 0, u64::MAX)?;
+    Ok(text.as_slice() == LONE.as_bytes())
+}
+
+#[test]
+fn writes_a_lone_vertex(rt: HostRuntime) -> Result<(), Fail> {
+    assert!(rt; is_lone(rt.alloc(), &tree_of(rt.alloc(), 1_000_000, &[])?)?);
+    Ok(())
+}

@@ -1,0 +1,5 @@
+use Rattle.node_pool.proofs.Stations.{pool_set}
+use Rattle.checks_shared.proofs.node_pool_tests.give_at.Goals as goal
+
+pub returns-clause-all : goal.returns-clause-all
+returns-clause-all c = pool_set c.args.passes.now.items c.args.place c.index_mut.result.now c.give.new.self c.requires.place c.requires.all c.index_mut.ensures.value c.give.ensures.same
