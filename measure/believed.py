@@ -2,10 +2,11 @@
 
     python3 measure/believed.py [CRATE/FILE:NAME ..]
 
-follows the words of each definition from those that are named, as cert_checker/Verdict:Concludes, and tells of
-each file of specs/ how many lines it has without imports and blank lines, and how many of these are the
-definitions that are reached, with the comments above them. Without words it begins at those of the clause
-`concludes` of cert_checker's check.
+follows the words and operators of each definition from those that are named, as cert_checker/Verdict:Concludes, and tells
+of each file of specs/ how many lines it has without imports and blank lines, and how many of these are the
+definitions that are reached, with the comments above them; then the types of src/, and the words of the standard library
+and of the kit's crates that are reached. Without words it begins at those of the clause `concludes` of cert_checker's
+check; the headline begins at steiner_top/Headline:Headline and command_line/Words:command_of.
 """
 import os
 import re
@@ -50,6 +51,11 @@ def parsed(path):
             elif words[0] in definitions:
                 name = words[0]
                 definitions[name].append(line)
+            else:
+                # An equation of an operator stands round its sign.
+                name = next((sign for sign in definitions if "◌" in sign and has_sign(line, sign)), None)
+                if name:
+                    definitions[name].append(line)
         elif line.strip() and name:
             definitions[name].append(line)
             part = re.match(r"\s+(?:pub )?(\w+) :", line)
@@ -60,7 +66,7 @@ def parsed(path):
 
 
 def reached(starts):
-    seen, types, files = set(), set(), {}
+    seen, types, files, kit = set(), set(), {}, {}
     waiting = [tuple(re.split("[/:]", start)) for start in starts]
     while waiting:
         crate, module, name = waiting.pop()
@@ -68,7 +74,8 @@ def reached(starts):
             types.add((crate, module.split(".")[2]))
             continue
         path = file_of(crate, module)
-        if crate == "std" or not os.path.exists(path):
+        if not os.path.exists(path):
+            kit.setdefault(crate, set()).add(name)
             continue
         if path not in files:
             files[path] = (parsed(path), set())
@@ -79,17 +86,26 @@ def reached(starts):
         seen.add((path, name))
         used.add(name)
         text = "\n".join(line for line in definitions[name] if not line.startswith("--"))
-        words = set(re.findall(r"[\w']+", text))
+        words = set(re.findall(r"[\w'-]+", text)) | set(re.findall(r"[\w']+", text))
+        words |= {sign for sign in [*imports, *owner] if "◌" in sign and has_sign(text, sign)}
         waiting += [imports[word] for word in words if word in imports]
         for part, word in re.findall(r"(\w+)\.(\w+)", text):
             if part in modules:
                 waiting.append(modules[part] + (word,))
         waiting += [(crate, module, word) for word in words if word in owner]
-    return files, types
+    return files, types, kit
+
+
+def has_sign(text, sign):
+    """Whether an operator stands in a text, each part of it; a `do` block stands for `>>=`."""
+    parts = [part for part in sign.split("◌") if part]
+    if parts == [">>="] and re.search(r"\bdo\b", text):
+        return True
+    return all(re.search(r"(?<!\S)[(\[]*" + re.escape(part) + r"(?!\S)", text) for part in parts)
 
 
 def main():
-    files, types = reached(sys.argv[1:] or START)
+    files, types, kit = reached(sys.argv[1:] or START)
     all_lines = all_used = 0
     for path in sorted(files):
         (_, _, definitions, _), used = files[path]
@@ -101,6 +117,8 @@ def main():
         print(os.path.relpath(path, CRATES), lines, needed)
     print(len(files), "files,", all_lines, "lines,", all_used, "of them reached")
     print("types declared in src/:", ", ".join(sorted(crate + "::" + name for crate, name in types)))
+    for crate in sorted(kit):
+        print(f"words of {crate}:", " ".join(sorted(kit[crate])))
 
 
 main()
