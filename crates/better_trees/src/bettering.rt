@@ -12,7 +12,7 @@ use crate::used_up::UsedUp;
 use bidirected_form::Arcs;
 use graph_store::Whole;
 use local_search::{judged, wander};
-use st_model::{Listed, Sides, Tree, tree_cost};
+use st_model::{Sides, Tree, tree_cost};
 use std::alloc::{AllocError, Global};
 use tree_heuristic::{guided_tree, prune};
 
@@ -135,13 +135,4 @@ pub fn tree_along(
 /// How many steps a walk from a drawn tree has, or from one over used-up arcs at a first node.
 pub fn steps(whole: &Whole) -> u64 {
     steps_for(STEPS, whole.instance.links().len())
-}
-
-/// The same arcs once more.
-pub fn copied(alloc: Global, tree: &Tree) -> Result<Tree, AllocError> {
-    let arcs = Vec::from_slice(alloc, tree.arcs.as_slice())?;
-    Ok(Tree {
-        start: tree.start,
-        arcs: Listed::of(arcs),
-    })
 }

@@ -1,6 +1,5 @@
 ghost use Rattle.st_model.specs.Arborescence.{IsTree};
 
-use crate::bettering::copied;
 use crate::by_vertex::{at, put};
 use crate::draws::Draws;
 use st_model::{Instance, Tree, tree_cost};
@@ -168,7 +167,7 @@ impl Kept {
             put(&mut reached, *head, true);
         }
         Ok(Kept {
-            tree: copied(alloc, tree)?,
+            tree: tree.copied(alloc)?,
             reached,
             price: tree_cost(instance, tree),
         })

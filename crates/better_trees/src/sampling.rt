@@ -3,7 +3,7 @@ ghost use Rattle.st_model.specs.Branch.{IsBranch};
 ghost use Rattle.better_trees.specs.Grown.{IsGrown};
 ghost use Rattle.better_trees.specs.Better.{IsBetter};
 
-use crate::bettering::{copied, steps};
+use crate::bettering::steps;
 use crate::by_vertex::{at, put};
 use crate::comparing::{later, least_after, priced};
 use crate::draft::{Draft, Source, grow_all};
@@ -105,7 +105,7 @@ fn first_drafts(
     let mut drafts = Vec::new(alloc);
     if let Some(tree) = used_up {
         if steps(whole) > 0 {
-            let source = Source::Tree(copied(alloc, tree)?);
+            let source = Source::Tree(tree.copied(alloc)?);
             drafts.push(Draft::of(source, draws.below(u64::MAX)))?;
         }
     }

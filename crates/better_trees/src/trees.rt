@@ -4,7 +4,7 @@ ghost use Rattle.st_model.specs.Branch.{Belongs, IsBranch};
 ghost use Rattle.better_trees.specs.Part.{IsPartOf};
 ghost use Rattle.better_trees.specs.Better.{IsBetter};
 
-use crate::bettering::{copied, used_up_tree};
+use crate::bettering::used_up_tree;
 use crate::comparing::{cheaper, gap, later, least_after, tree_of};
 use crate::distances::near_root;
 use crate::effort::Effort;
@@ -121,7 +121,7 @@ fn kept(
         return Ok(None);
     };
     elite.keep(alloc, instance, tree)?;
-    Ok(Some(copied(alloc, tree)?))
+    Ok(Some(tree.copied(alloc)?))
 }
 
 // A tree that walks come to, where it is cheaper than a better tree that was found, and else that one.

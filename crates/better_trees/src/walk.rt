@@ -2,7 +2,6 @@ ghost use Rattle.std.specs.Prelude.{IfOk, IfSome};
 ghost use Rattle.st_model.specs.Arborescence.{IsTree};
 ghost use Rattle.st_model.specs.Branch.{Belongs, IsBranch};
 
-use crate::bettering::copied;
 use crate::narrowing::narrowed;
 use graph_store::Whole;
 use local_search::{judged, wander};
@@ -33,7 +32,7 @@ impl Walk {
             among.push(*head)?;
         }
         Ok(Walk {
-            from: copied(alloc, tree)?,
+            from: tree.copied(alloc)?,
             among: VertexSet::of(alloc, instance.vertices() as usize + 1, &among)?,
         })
     }
@@ -70,7 +69,7 @@ pub fn walked(
     ensures tree { IfOk result (λ tree. IfSome tree (IsTree whole.now.instance)) }
     ensures belongs { IfOk result (λ tree. IfSome tree (Belongs branch.now)) }
 {
-    let from = copied(alloc, from)?;
+    let from = from.copied(alloc)?;
     let Some(tree) = judged(alloc, &whole.instance, branch, from)? else {
         return Ok(None);
     };

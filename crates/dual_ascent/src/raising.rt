@@ -94,20 +94,10 @@ fn ascending(alloc: Global, vertices: u32, set: &VertexSet) -> Result<Vec<u32>, 
     ensures ascending { IfOk result (λ list. IsStrictlyIncreasing list.items) }
 {
     if set.members().len() < vertices as usize / FEW {
-        sorted(alloc, set)
+        set.ascending(alloc)
     } else {
         looked_for(alloc, vertices, set)
     }
-}
-
-// The members of a set, sorted.
-fn sorted(alloc: Global, set: &VertexSet) -> Result<Vec<u32>, AllocError>
-    ensures members { IfOk result (λ list. (v : ℕ) → has list.items v ≡ has set.now.members v) }
-    ensures ascending { IfOk result (λ list. IsStrictlyIncreasing list.items) }
-{
-    let mut members = Vec::from_slice(alloc, set.members())?;
-    members.sort()?;
-    Ok(members)
 }
 
 // The vertices that are in a set, one after another.

@@ -1,5 +1,4 @@
 ghost use Rattle.std.specs.Prelude.{◌≡◌, ◌≢◌, ℕ, ◌+◌, ◌↔◌, List, IsFalse, IfOk, IfSome, OnOk, None};
-ghost use Rattle.std.specs.List.Sorted.{IsStrictlyIncreasing};
 ghost use Rattle.st_model.specs.Lists.{has};
 ghost use Rattle.st_model.specs.Network.{IsVertex};
 ghost use Rattle.flow_cuts.specs.Fewest.{IsFewest, LeadsTo, Separates};
@@ -9,7 +8,6 @@ use crate::flow::Flow;
 use crate::searching::Search;
 use crate::sending::send_one;
 use bidirected_form::Arcs;
-use st_model::VertexSet;
 use std::alloc::{AllocError, Global};
 
 /// Among the sets that hold a vertex and not the root, and that no arc enters of which nothing
@@ -28,7 +26,7 @@ pub fn fewest(alloc: Global, arcs: &Arcs, q: u32) -> Result<Option<Vec<u32>>, Al
         return Ok(None);
     }
     send_all(alloc, arcs, q, &mut search)?;
-    let set = ascending(alloc, &search.reaching)?;
+    let set = search.reaching.ascending(alloc)?;
     Ok(Some(set))
 }
 
@@ -50,14 +48,4 @@ fn send_all(alloc: Global, arcs: &Arcs, q: u32, search: &mut Search) -> Result<(
         search.run(arcs, &flow, 1, q)?;
     }
     Ok(())
-}
-
-// The members of a set, ascending.
-fn ascending(alloc: Global, set: &VertexSet) -> Result<Vec<u32>, AllocError>
-    ensures members { IfOk result (λ list. (v : ℕ) → has list.items v ≡ has set.now.members v) }
-    ensures ascending { IfOk result (λ list. IsStrictlyIncreasing list.items) }
-{
-    let mut members = Vec::from_slice(alloc, set.members())?;
-    members.sort()?;
-    Ok(members)
 }

@@ -10,7 +10,7 @@ use special_dist::Finder;
 use st_model::{Instance, VertexSet};
 use std::alloc::{AllocError, Global};
 
-/// An instance with no more links than this is reduced until no link has a detour.
+// An instance with no more links than this is reduced until no link has a detour.
 const MANY_LINKS: usize = 4096;
 
 // From how many places a search for a detour that is soon found goes on, at most and at least.

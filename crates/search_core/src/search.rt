@@ -59,7 +59,7 @@ impl Search {
         let mut nodes = Nodes::new(alloc);
         nodes.add(root(alloc, branch)?)?;
         Ok(Search {
-            instance: copied(alloc, instance)?,
+            instance: instance.copied(alloc)?,
             branch: branch.copied(alloc)?,
             start: start_cost,
             budget,
@@ -138,15 +138,6 @@ impl Search {
             None => None,
         }
     }
-}
-
-// The same instance again.
-fn copied(alloc: Global, instance: &Instance) -> Result<Instance, AllocError>
-    ensures { IfOk result (λ copy. copy ≡ instance.now) }
-{
-    let links = Vec::from_slice(alloc, instance.links())?;
-    let needs = Vec::from_slice(alloc, instance.needs())?;
-    Instance::from_parts(alloc, instance.vertices(), links, needs)
 }
 
 // The node that a search starts from.

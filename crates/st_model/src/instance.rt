@@ -1,5 +1,4 @@
 ghost use Rattle.std.specs.Prelude.{◌≡◌, ◌+◌, ◌^◌, ◌<◌, ◌≤◌, IfOk, OnSome, All};
-ghost use Rattle.st_model.specs.declared.instance.TheConstants.{MAX_VERTICES};
 ghost use Rattle.st_model.specs.Lists.{total};
 ghost use Rattle.st_model.specs.Network.{IsInstance, IsVertex, link, need_of, pays, prize};
 ghost use Rattle.st_model.specs.Stated.{network_of};
@@ -47,7 +46,7 @@ impl Instance {
         needs: &[(u32, Need)],
     ) -> Result<Instance, AllocError>
         requires some_vertex { 1 ≤ vertices }
-        requires few_vertices { vertices ≤ MAX_VERTICES }
+        requires few_vertices { vertices ≤ 1000000 }
         requires ends { All (λ l. IsVertex vertices l.a × IsVertex vertices l.b) links.now }
         requires needs { All (λ stated. IsVertex vertices stated.0) needs.now }
         requires amount { total (λ l. l.cost) links.now + total (λ stated. prize stated.1) needs.now < 2 ^ 63 }
@@ -81,6 +80,15 @@ impl Instance {
             pairs,
             needs,
         })
+    }
+
+    /// The same instance again.
+    pub fn copied(&self, alloc: Global) -> Result<Instance, AllocError>
+        ensures { IfOk result (λ copy. copy ≡ self.now) }
+    {
+        let links = Vec::from_slice(alloc, &self.links)?;
+        let needs = Vec::from_slice(alloc, &self.needs)?;
+        Instance::from_parts(alloc, self.vertices, links, needs)
     }
 
     /// How many vertices there are; they are numbered from 1.

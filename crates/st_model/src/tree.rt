@@ -12,6 +12,19 @@ pub struct Tree {
     pub arcs: Listed<(u32, u32)>,
 }
 
+impl Tree {
+    /// The same tree again.
+    pub fn copied(&self, alloc: Global) -> Result<Tree, AllocError>
+        ensures { IfOk result (λ copy. copy ≡ self.now) }
+    {
+        let arcs = Vec::from_slice(alloc, self.arcs.as_slice())?;
+        Ok(Tree {
+            start: self.start,
+            arcs: Listed::of(arcs),
+        })
+    }
+}
+
 /// Whether this is a tree of the instance: each arc is a link from a vertex that is reached to one
 /// that isn't, and at the end every required vertex is reached.
 pub fn is_tree(alloc: Global, instance: &Instance, tree: &Tree) -> Result<bool, AllocError>

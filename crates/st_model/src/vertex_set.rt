@@ -1,4 +1,5 @@
 ghost use Rattle.std.specs.Prelude.{◌≡◌, ℕ, ◌<◌, ◌≤◌, [], ◌∷◌, ◌++◌, length, take, slice_get, OnOk, OnErr, IfOk, All, if◌then◌else◌};
+ghost use Rattle.std.specs.List.Sorted.{IsStrictlyIncreasing};
 ghost use Rattle.st_model.specs.Lists.{has};
 ghost use Rattle.st_model.specs.VertexSet.{AllApart, Extends, IsMarked};
 
@@ -75,6 +76,16 @@ impl VertexSet {
         ensures in_range { All (λ v. v < self.now.count) self.now.members }
     {
         self.members.get(place).copied()
+    }
+
+    /// The members, ascending.
+    pub fn ascending(&self, alloc: Global) -> Result<Vec<u32>, AllocError>
+        ensures members { IfOk result (λ list. (v : ℕ) → has list.items v ≡ has self.now.members v) }
+        ensures ascending { IfOk result (λ list. IsStrictlyIncreasing list.items) }
+    {
+        let mut members = Vec::from_slice(alloc, self.members())?;
+        members.sort()?;
+        Ok(members)
     }
 
     /// Adds a vertex, unless it is there.

@@ -7,7 +7,7 @@ use Rattle.std.proofs.lemmas.List.Sorted.{list_any-IsPermutation, IsNonDecreasin
 use Rattle.std.proofs.lemmas.Map.Keys.{IsStrictlyIncreasing-from_distinct, IsDistinct-IsPermutation}
 use Rattle.st_model.specs.Lists.{has}
 use Rattle.st_model.specs.VertexSet.{AllApart}
-use Rattle.flow_cuts.proofs.least.ascending.Goals as goal
+use Rattle.st_model.proofs.vertex_set.VertexSet.ascending.Goals as goal
 
 -- no number twice
 distinct_from_apart : (xs : List ℕ) → AllApart xs → IsDistinct eqb xs
