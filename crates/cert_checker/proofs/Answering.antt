@@ -1,5 +1,5 @@
 -- What is answered of a text that came in pieces.
-use Rattle.std.proofs.Common.{◌≡◌, ℕ, ◌+◌, ◌<◌, ◌^◌, Bool, true, false, List, [], ◌∷◌, ◌++◌, length, inl, inr, Result, Ok, Err, refl, sym, ap, subst, ◌∙◌, arith}
+use Rattle.std.proofs.Common.{◌≡◌, ℕ, ◌+◌, Bool, true, false, List, [], ◌∷◌, ◌++◌, inl, inr, Result, Ok, Err, sym, ap, subst, ◌∙◌}
 use Rattle.std.specs.Prelude.{◌⊎◌, IfOk, IsErrAnd, MatchResult}
 use Rattle.std.proofs.lemmas.List.{append-nil}
 use Rattle.st_model.specs.Network.{Network, IsInstance}
@@ -7,37 +7,20 @@ use Rattle.stp_reader.specs.declared.fault.ReadError as file
 use Rattle.stp_reader.specs.declared.fault.ReadError.TheVariants as file_error
 use Rattle.stp_reader.specs.declared.reason.Reason.{Reason}
 use Rattle.stp_reader.specs.Reads.{Reads}
-use Rattle.log_format.specs.declared.kind.Kind.TheVariants.{BadLine, EndsEarly}
 use Rattle.log_format.specs.declared.log.Log as log_type
 use Rattle.log_format.specs.Accepts.{AcceptedHolds}
-use Rattle.log_format.specs.Text.{AreWhole, Begins, whole_lines, unfinished}
+use Rattle.log_format.specs.Text.{AreWhole, Begins}
 use Rattle.log_format.proofs.WholeLines.{is_text}
 use Rattle.cert_checker.specs.declared.fault.CheckFault.{CheckFault}
 use Rattle.cert_checker.specs.declared.fault.CheckFault.TheVariants.{Stp, Log, NoMemory}
 use Rattle.cert_checker.specs.declared.verdict.Verdict.{Verdict}
-use Rattle.cert_checker.specs.Checking.{IsTextOf, IsAcceptedText, IsWrongText, IsAnswer}
-use Rattle.cert_checker.specs.Fault.{fault_of_file, IsFaultOfFile}
-use Rattle.cert_checker.specs.Hearing.{AreTaken, AreStopped, IsJudgementOf, AreJudged, IsFed}
-use Rattle.cert_checker.specs.Held.{AreGood, AreHeld, IsHeld}
+use Rattle.cert_checker.specs.Checking.{IsTextOf, IsAnswer}
+use Rattle.cert_checker.specs.Fault.{fault_of_file}
+use Rattle.cert_checker.specs.Hearing.{AreTaken, IsJudgementOf, AreJudged, IsFed}
+use Rattle.cert_checker.specs.Held.{AreHeld, IsHeld}
 use Rattle.cert_checker.specs.Pieces.{IsAnswerTo}
-use Rattle.cert_checker.specs.Verdict.{Concludes, verdict_of}
+use Rattle.cert_checker.specs.Verdict.{Concludes}
 use Rattle.cert_checker.proofs.Judgements.{holds_concludes}
-
--- ---- faults of the text
-
--- a line may not stand at its place
-pub stopped_wrong : (I : Network) (lines : List (List ℕ)) (text : List ℕ) → AreStopped lines text → IsWrongText I text (length lines + 1) BadLine
-stopped_wrong I lines text read = inl (inl (record { before = lines; bad = read.bad; after = read.after; lines = read.whole; place = refl; begun = read.begun; stops = read.stops }))
-
--- the lines are all of no log
-pub short_wrong : (I : Network) (lines : List (List ℕ)) (part text : List ℕ) → AreTaken lines part text → (AreWhole lines → ⊥) → IsWrongText I text (length lines + 1) EndsEarly
-short_wrong I lines part text read no_log =
-    inl (record { begun = subst Begins (sym read.whole) read.begun; part = λ whole. no_log (subst AreWhole read.whole whole); place = ap (λ (r : List (List ℕ)). length r + 1) (sym read.whole) })
-
--- bytes stand after the lines of a log
-pub more_wrong : (I : Network) (lines : List (List ℕ)) (part text : List ℕ) → AreTaken lines part text → AreWhole lines → (part ≡ [] → ⊥) → IsWrongText I text (length lines + 1) BadLine
-more_wrong I lines part text read whole some =
-    inl (inr (record { whole = subst AreWhole (sym read.whole) whole; after = λ none. some (sym read.rest ∙ none); place = ap (λ (r : List (List ℕ)). length r + 1) (sym read.whole) }))
 
 -- ---- the judgement
 
@@ -95,12 +78,6 @@ never_refused read I a b found (inl e) = absurd cc
 never_refused read I a b found (inr e) = absurd cc
 
 -- ---- the whole
-
--- a fault of the file is answered
-pub file_wrong : (stp text : List ℕ) (e : CheckFault) → IsFaultOfFile stp e → IsAnswer stp text (Err e)
-file_wrong stp text (Stp f) fault = fault
-file_wrong stp text (Log f) fault = absurd fault
-file_wrong stp text NoMemory fault = tt
 
 -- an answer of the instance and the text is one of its file and the text
 pub answers_of : (stp text : List ℕ) (I : Network) (result : Result Verdict CheckFault) → Reads stp I → IsAnswerTo I text result → IsAnswer stp text result

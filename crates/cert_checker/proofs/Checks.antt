@@ -1,5 +1,6 @@
 -- What is answered of a file and a log, by the laws of both.
-use Rattle.std.proofs.Common.{◌≡◌, ℕ, List, inl, inr, Result, Ok, Err, refl, ap, subst}
+use Rattle.std.proofs.Common.{ℕ, List, inl, inr, Result, Ok, Err, refl, ap, subst}
+use Rattle.std.specs.Prelude.{IfOk}
 use Rattle.st_model.specs.Network.{Network}
 use Rattle.stp_reader.specs.declared.reason.Reason.{Reason}
 use Rattle.stp_reader.specs.Reads.{Reads, Refused}
@@ -13,6 +14,11 @@ use Rattle.cert_checker.specs.declared.verdict.Verdict.{Verdict}
 use Rattle.cert_checker.specs.Checking.{IsAcceptedText, IsWrongText, IsAnswer, Answers}
 use Rattle.cert_checker.specs.Verdict.{Concludes}
 use Rattle.cert_checker.proofs.Texts.{one_verdict, not_wrong, one_wrong}
+
+-- a verdict is one on an instance that the file's bytes stand for
+pub some_concludes : (stp bytes : List ℕ) (result : Result Verdict CheckFault) → IsAnswer stp bytes result → ((I : Network) → Reads stp I → IfOk result (Concludes I)) → IfOk result (λ verdict. (I : Network) × Reads stp I × Concludes I verdict)
+some_concludes stp bytes (Ok verdict) (I, reads, text) concludes = (I, reads, concludes I reads)
+some_concludes stp bytes (Err e) answer concludes = tt
 
 module _ (stp bytes : List ℕ) (of_file : file.RefusedExactly stp) where
   -- a verdict on the instance that is read concludes of the one instance

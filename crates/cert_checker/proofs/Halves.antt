@@ -16,7 +16,7 @@ use Rattle.log_format.specs.declared.proof_line.ProofLine.TheVariants.{Split, Cl
 use Rattle.log_format.specs.declared.stage.Answer.{Answer}
 use Rattle.log_format.specs.declared.stage.Proving as said_proving
 use Rattle.log_format.specs.declared.stage.Stage.TheVariants.{AtHalf, AtCuts}
-use Rattle.log_format.specs.Accepts.{AcceptsClaim, RejectsClaim, IsFirstWrong, IsFirstWrongIn, ProvesIn, ProvesOf, left_of, left_over, steps_line, proof_line}
+use Rattle.log_format.specs.Accepts.{AcceptsClaim, RejectsClaim, IsFirstWrong, IsFirstWrongIn, ProvesFrom, ProvesOf, left_of, left_over, steps_line, proof_line}
 use Rattle.log_format.specs.Places.{taken}
 use Rattle.log_format.specs.Reading.{closed, cuts_left, split_at}
 use Rattle.log_format.specs.Text.{lines_of, cut_line}
@@ -75,7 +75,7 @@ accepted : (I : Network) (count : ℕ) (p : said_proving.Proving) (h : Proving) 
 accepted I count p h lines so_far right =
     let B = left_over so_far.state in
     let proves : ProvesOf h.instance B h.least lines = right_proves h.instance h.least B lines (are_right h.instance h.least (B ∷ []) lines right) in
-    let whole_proves : ProvesIn so_far.state p.answer.dual lines = subst (λ (x : ℕ). ProvesOf so_far.state.instance B x lines) so_far.least (subst (λ (J : Network). ProvesOf J B h.least lines) so_far.instance proves) in
+    let whole_proves : ProvesFrom so_far.state p.answer.dual lines = subst (λ (x : ℕ). ProvesOf so_far.state.instance B x lines) so_far.least (subst (λ (J : Network). ProvesOf J B h.least lines) so_far.instance proves) in
     record {
       is_tree = so_far.tree.is_tree;
       is_cost = so_far.tree.is_cost;

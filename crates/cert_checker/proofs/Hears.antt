@@ -1,6 +1,5 @@
 -- The lines of a log so far, one after the other, and all of them.
-use Rattle.std.proofs.Common.{◌≡◌, ℕ, ◌+◌, ◌<◌, ◌^◌, List, [], ◌∷◌, ◌++◌, map, length, inl, inr, Result, Ok, Err, refl, sym, ap, subst, ◌∙◌, append_assoc, length-append, arith}
-use Rattle.std.specs.Prelude.{All}
+use Rattle.std.proofs.Common.{◌≡◌, ℕ, ◌+◌, ◌<◌, ◌^◌, List, [], ◌∷◌, ◌++◌, length, inl, inr, refl, sym, ap, subst, ◌∙◌, length-append, arith}
 use Rattle.std.proofs.lemmas.List.{length-map, map-append}
 use Rattle.std.proofs.lemmas.List.Elements.{recursion_from_All, All-from_recursion}
 use Rattle.std.specs.List.{AllByRecursion}
@@ -9,16 +8,16 @@ use Rattle.log_format.specs.declared.fault.LogFault.{LogFault}
 use Rattle.log_format.specs.declared.item.Item.{Item}
 use Rattle.log_format.specs.declared.log.Claim.{Claim}
 use Rattle.log_format.specs.declared.log.Log.{Log}
-use Rattle.log_format.specs.declared.stage.Stage.TheVariants.{AtHeader, AtClaim, AtTree, AtArcs, AtSteps, AtHalf, AtCuts, AtWall, AtEnd, AtNothing}
+use Rattle.log_format.specs.declared.stage.Stage.TheVariants.{AtHeader, AtNothing}
 use Rattle.log_format.specs.Accepts.{AcceptsClaim, RejectsClaim}
 use Rattle.log_format.specs.Items.{IsItem, item_line, log_items, LineItems}
 use Rattle.log_format.specs.Text.{IsLog, log_lines}
 use Rattle.cert_checker.specs.declared.stage.Stage.{Stage}
 use Rattle.cert_checker.specs.declared.stage.Stage.TheVariants.{BeforeHeader, Right, Wrong}
 use Rattle.cert_checker.specs.declared.verdict.Verdict.{Verdict}
-use Rattle.cert_checker.specs.Following.{Said, said_by, IsJudged, IsReady, Follows}
+use Rattle.cert_checker.specs.Following.{Said, said_by, IsJudged, Follows}
 use Rattle.cert_checker.specs.Hearing.{IsHearing}
-use Rattle.cert_checker.specs.Held.{Open, none_open, opened, opened_by, AreItemsOf}
+use Rattle.cert_checker.specs.Held.{Open, none_open, opened, opened_by}
 use Rattle.cert_checker.specs.Verdict.{verdict_of}
 use Rattle.cert_checker.proofs.Said.{said_by-push, log_said}
 
@@ -34,23 +33,6 @@ hears_none I = record {
 }
 
 -- ---- one line more
-
--- the path of a proof goes by splits
-ready : (I : Network) (count : ℕ) (s : Said) (stage : Stage) → IsJudged I count s stage → IsReady stage
-ready I count AtHeader stage (inl is) = subst IsReady (sym is) tt
-ready I count AtClaim stage (inl (is, few)) = subst IsReady (sym is) tt
-ready I count (AtTree primal dual) stage (inl (is, few)) = subst IsReady (sym is) tt
-ready I count (AtArcs primal dual start arcs left) stage (inl (is, few)) = subst IsReady (sym is) tt
-ready I count (AtSteps a left) stage (inl (h, is, so_far)) = subst IsReady (sym is) tt
-ready I count (AtHalf p) stage (inl (h, is, so_far)) = subst IsReady (sym is) so_far.goes_on.splits
-ready I count (AtCuts p root cuts left) stage (inl (h, is, so_far, few)) = subst IsReady (sym is) so_far.goes_on.splits
-ready I count AtWall stage (inl is) = subst IsReady (sym is) tt
-ready I count (AtEnd claim) stage (inl (is, accepts)) = subst IsReady (sym is) tt
-ready I count (AtNothing claim) stage (inl (is, accepts)) = subst IsReady (sym is) tt
-ready I count s stage (inr (f, is, rejects)) = subst IsReady (sym is) tt
-
-pub hears_ready : (I : Network) (lines : List (List ℕ)) (stage : Stage) (o : Open) (count : ℕ) → IsHearing I lines stage o count → IsReady stage
-hears_ready I lines stage o count h = ready I (length h.items) (said_by AtHeader h.items) stage h.judged
 
 all_push : (items : List Item) (item : Item) → AllByRecursion IsItem items → IsItem item → AllByRecursion IsItem (items ++ item ∷ [])
 all_push [] item all one = (one, tt)

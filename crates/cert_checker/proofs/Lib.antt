@@ -8,7 +8,6 @@ pub mod Judged
 pub mod Judgements
 pub mod Texts
 pub mod Checks
-pub mod Taken
 pub mod Said
 pub mod GoingOn
 pub mod Keeping

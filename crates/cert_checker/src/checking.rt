@@ -16,6 +16,8 @@ use std::alloc::Global;
 pub fn check(alloc: Global, stp: &[u8], log: &[u8]) -> Result<Verdict, CheckFault>
     // The verdict is true of the trees of the file's instance, and of their costs.
     ensures concludes { (I : Network) → Reads stp.now I → IfOk result (Concludes I) }
+    // And there is such an instance.
+    ensures some { IfOk result (λ verdict. (I : Network) × Reads stp.now I × Concludes I verdict) }
 
     // Each answer has its reason.
     ensures exact { IsAnswer stp.now log.now result }

@@ -1,9 +1,8 @@
 //! An independent checker of certificate logs.
 //!
 //! `check` reads an STP file and a log, and says what may be concluded. A `Checker` does so of a log
-//! that comes in pieces, and keeps no branch of a proof that is finished; `judge` does so of an
-//! instance and a log that are read. A caller may rely on both directions, a verdict exactly where
-//! the log is accepted and else the first fault, and on the verdict, which is true of all trees.
+//! that comes in pieces. A caller may rely on both directions, a verdict exactly where the log is
+//! accepted and else the first fault, and on the verdict, which is true of all trees.
 #![tactic(auto)]
 
 mod checker;
@@ -15,7 +14,6 @@ mod hearing;
 mod judging;
 mod line;
 mod path;
-mod proof;
 mod proving;
 mod splits;
 mod stage;
@@ -26,6 +24,6 @@ mod wall;
 
 pub use checker::Checker;
 pub use checking::check;
-pub use fault::{CheckFault, JudgeError};
-pub use judging::judge;
+pub use fault::CheckFault;
+use fault::JudgeError;
 pub use verdict::Verdict;

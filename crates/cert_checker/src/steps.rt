@@ -1,33 +1,11 @@
-ghost use Rattle.std.specs.Prelude.{◌≡◌, ◌+◌, ◌^◌, ◌<◌, length, IfOk, OnOk, IfErr};
-ghost use Rattle.lift_back.specs.State.{IsState, whole};
-ghost use Rattle.lift_back.specs.Steps.{Takes, Applies};
-ghost use Rattle.cert_checker.specs.Judging.{IfFault, IsBadStep, AreBadSteps};
+ghost use Rattle.std.specs.Prelude.{OnOk, IfErr};
+ghost use Rattle.lift_back.specs.State.{IsState};
+ghost use Rattle.lift_back.specs.Steps.{Takes};
+ghost use Rattle.cert_checker.specs.Judging.{IfFault, IsBadStep};
 
 use crate::JudgeError;
 use lift_back::{ApplyError, Reduced, Step};
 use log_format::Kind;
-use st_model::Instance;
-use std::alloc::Global;
-
-// What some steps leave of an instance, taken one after another. The first is on this line.
-pub fn reduced_by(
-    alloc: Global,
-    instance: &Instance,
-    first: u64,
-    steps: &[Step],
-) -> Result<Reduced, JudgeError>
-    requires { first + length steps.now < 2 ^ 64 }
-    ensures taken { IfOk result (λ reduced. Applies steps.now (whole instance.now) reduced.state) }
-    ensures wrong { IfErr result (λ e. IfFault e (AreBadSteps instance.now first steps.now)) }
-{
-    let mut reduced = Reduced::of(alloc, instance)?;
-    let mut number = first;
-    for step in steps {
-        take(&mut reduced, number, step)?;
-        number += 1;
-    }
-    Ok(reduced)
-}
 
 // Takes the step on this line.
 pub fn take(reduced: &mut Reduced, number: u64, step: &Step) -> Result<(), JudgeError>

@@ -1,7 +1,6 @@
-use cert_checker::{CheckFault, JudgeError, Verdict, check, judge};
-use log_format::{Claim, Kind, Log, LogFault};
-use st_model::{Instance, Link, Listed, Need};
-use std::alloc::{AllocError, Global};
+use cert_checker::{CheckFault, Verdict, check};
+use log_format::{Kind, LogFault};
+use std::alloc::Global;
 use std::test::Fail;
 use stp_reader::{Reason, StpFault};
 
@@ -203,60 +202,27 @@ fn names_the_fault_of_the_file_first(rt: HostRuntime) {
     assert!(rt; is_answered(rt.alloc(), TRIANGLE, "", Err(CheckFault::Log(fault))));
 }
 
-/// Two terminals that aren't joined.
-fn apart(alloc: Global) -> Result<Instance, AllocError> {
-    let links = [Link {
-        a: 1,
-        b: 2,
-        cost: 7,
-    }];
-    let needs = [(1, Need::Required), (3, Need::Required)];
-    Instance::build(alloc, 3, &links, &needs)
-}
-
-/// Whether a wall is judged so.
-fn judges_in(
-    alloc: Global,
-    instance: &Instance,
-    wall: &[u32],
-    wanted: Result<Verdict, JudgeError>,
-) -> Result<bool, AllocError> {
-    let log = Log {
-        claim: Claim::NoTree {
-            wall: Listed::of(Vec::from_slice(alloc, wall)?),
-        },
-    };
-    Ok(judge(alloc, instance, &log) == wanted)
-}
-
-/// The same where two terminals aren't joined.
-fn judges_wall(
-    alloc: Global,
-    wall: &[u32],
-    wanted: Result<Verdict, JudgeError>,
-) -> Result<bool, AllocError> {
-    judges_in(alloc, &apart(alloc)?, wall, wanted)
-}
-
-/// Whether these walls of two vertices are refused.
-fn refuses_walls(alloc: Global, walls: &[[u32; 2]]) -> Result<bool, AllocError> {
-    let bad = LogFault {
-        line: 3,
-        kind: Kind::BadWall,
-    };
-    for wall in walls {
-        if !judges_wall(alloc, wall, Err(JudgeError::Fault(bad)))? {
-            return Ok(false);
-        }
-    }
-    Ok(true)
-}
+/// A wall between two terminals that aren't joined, and the verdict or the fault of its line.
+const WALLS: &[(&str, Result<Verdict, Kind>)] = &[
+    ("2 1 2", Ok(Verdict::NoTree)),
+    ("1 3", Ok(Verdict::NoTree)),
+    ("2 1 1", Err(Kind::BadLine)),
+    ("2 2 2", Err(Kind::BadLine)),
+    ("2 1 3", Err(Kind::BadWall)),
+    ("2 2 3", Err(Kind::BadWall)),
+    ("2 3 4", Err(Kind::BadWall)),
+    ("2 0 3", Err(Kind::BadLine)),
+];
 
 #[test]
 fn judges_walls(rt: HostRuntime) -> Result<(), Fail> {
-    assert!(rt; judges_wall(rt.alloc(), &[1, 2], Ok(Verdict::NoTree))?);
-    assert!(rt; judges_wall(rt.alloc(), &[3], Ok(Verdict::NoTree))?);
-    let walls = [[1, 1], [2, 2], [1, 3], [2, 3], [3, 4], [0, 3]];
-    assert!(rt; refuses_walls(rt.alloc(), &walls)?);
+    let log = "STEINERLOG 1\nCLAIM NONE\nWALL 2 1 2\nEND\n";
+    for (wall, answer) in WALLS {
+        let wanted = answer.map_err(|kind| CheckFault::Log(LogFault { line: 3, kind }));
+        assert!(rt;
+            answers_as(&rt, APART, log, "2 1 2", wall, wanted)?,
+            "at {wall}"
+        );
+    }
     Ok(())
 }

@@ -7,7 +7,7 @@ use Rattle.st_model.proofs.Branches.{IsVertexSet-nil}
 use Rattle.cut_packing.specs.ProofTree.{Proves}
 use Rattle.lift_back.specs.State.{State, IsTreeOf, whole}
 use Rattle.log_format.specs.declared.proof_line.ProofLine.{ProofLine}
-use Rattle.log_format.specs.Accepts.{ProvesOf, ProvesIn, ProvesAfter, left_over, left_of}
+use Rattle.log_format.specs.Accepts.{ProvesOf, ProvesFrom, ProvesAfter, left_over, left_of}
 
 pub belongs_to_all : (t : Tree) → Belongs all_trees t
 belongs_to_all t = record { inside = λ v h. absurd cc; outside = λ v h. absurd cc }
@@ -32,5 +32,5 @@ proves_after_none I x lines (p, written, proves) = (whole I, refl, (p, written, 
 -- and the other way round
 pub proves_of_all : (I : Network) (x : ℕ) (lines : List ProofLine) → ProvesAfter I [] x lines → ProvesOf I all_trees x lines
 proves_of_all I x lines (s, none, proves_in) =
-    let (p, written, proves) = subst (λ (t : State). ProvesIn t x lines) (sym none) proves_in in
+    let (p, written, proves) = subst (λ (t : State). ProvesFrom t x lines) (sym none) proves_in in
     (p, written, subst (λ (y : ℕ). Proves I all_trees y p) (all_left x I) proves)

@@ -18,7 +18,7 @@ use Rattle.log_format.specs.declared.proof_line.ProofLine.{ProofLine}
 use Rattle.log_format.specs.declared.proof_line.ProofLine.TheVariants.{Split, Close}
 use Rattle.log_format.specs.Preorder.{preorder, are_proofs}
 use Rattle.log_format.specs.Text.{IsProved}
-use Rattle.log_format.specs.Accepts.{ProvesOf, left_over, left_of, ProvesIn, AcceptsClaim, FailsFirst, IsFirstBad, IsFirstWrong, IsFirstWrongIn, RejectsClaim, steps_line, proof_line}
+use Rattle.log_format.specs.Accepts.{ProvesOf, left_over, left_of, ProvesFrom, AcceptsClaim, FailsFirst, IsFirstBad, IsFirstWrong, IsFirstWrongIn, RejectsClaim, steps_line, proof_line}
 use Rattle.log_format.specs.Laws.{RejectedExactly}
 use Rattle.log_format.proofs.Alike.{Agree, turned, fits_same, weight_same, split_same, proves_alike, AreAlike, alike-refl, alike-sym, may_take_alike, takes_may, takes_alike}
 use Rattle.log_format.proofs.Nexts.{next_of}
@@ -147,7 +147,7 @@ all_right I x (B ∷ Bs) at (Close P ∷ lines) even none not_right =
 -- ---- the first step that is bad
 
 -- what is proved of one of two states that are alike is proved of the other
-proves_in_alike : (s t : State) (x : ℕ) (lines : List ProofLine) → AreAlike s t → ProvesIn s x lines → ProvesIn t x lines
+proves_in_alike : (s t : State) (x : ℕ) (lines : List ProofLine) → AreAlike s t → ProvesFrom s x lines → ProvesFrom t x lines
 proves_in_alike s t x lines alike (p, e, proves) =
     (p, e, subst (λ (y : ℕ). Proves t.instance (left_over t) y p) (ap (λ (offset : ℕ). x - offset) alike.offset) (subst (λ (gone : List ℕ). Proves t.instance (avoiding gone) (left_of x s) p) alike.gone (proves_alike s.instance t.instance alike.instance (left_over s) (left_of x s) p proves)))
 

@@ -33,12 +33,12 @@ abbrev pub left_of : ℕ → State → ℕ
 left_of x s = x - s.offset
 
 -- the lines prove of what is left that x is a bound of the whole
-abbrev pub ProvesIn : State → ℕ → List ProofLine → Type 0
-ProvesIn s x lines = ProvesOf s.instance (left_over s) (left_of x s) lines
+abbrev pub ProvesFrom : State → ℕ → List ProofLine → Type 0
+ProvesFrom s x lines = ProvesOf s.instance (left_over s) (left_of x s) lines
 
 -- the lines prove it of what the steps leave
 abbrev pub ProvesAfter : Network → List Step → ℕ → List ProofLine → Type 0
-ProvesAfter I steps x lines = (s : State) × Applies steps (whole I) s × ProvesIn s x lines
+ProvesAfter I steps x lines = (s : State) × Applies steps (whole I) s × ProvesFrom s x lines
 
 -- a tree of the instance at this cost, and a bound that isn't above it and is proved
 pub record AcceptsFound (I : Network) (primal dual : ℕ) (tree : Tree) (steps : List Step) (proof : List ProofLine) : Type 0 where
