@@ -99,6 +99,42 @@ fn a_node_is_handed_over(rt: HostRuntime) -> Result<(), Fail> {
     Ok(())
 }
 
+// Whether these are the nodes 2 and 3, in this order.
+fn are_two_and_three(nodes: &[Node]) -> bool {
+    match nodes {
+        [first, second] => first.id == 2 && second.id == 3,
+        _ => false,
+    }
+}
+
+// Whether three nodes that the first pass gives come after the root in their order, where that pass
+// takes first and then the one at a place, and the others are left in order.
+fn comes_in_order<R: Wait>(
+    rt: &R,
+    alloc: Global,
+    workers: u32,
+    place: usize,
+) -> Result<bool, AllocError>
+    requires { (place < workers) × (workers ≤ 64) }
+{
+    let mut passes = pool(alloc, workers)?;
+    let one = give_at(&mut passes, 0, node(alloc, 1)?);
+    let two = give_at(&mut passes, 0, node(alloc, 2)?);
+    let three = give_at(&mut passes, 0, node(alloc, 3)?);
+    let first = take_at(rt, &mut passes, 0);
+    let second = take_at(rt, &mut passes, place);
+    let left = close(alloc, passes)?;
+    let given = one && two && three;
+    Ok(given && first == Some(0) && second == Some(1) && are_two_and_three(left.as_slice()))
+}
+
+#[test]
+fn a_queue_is_first_in_first_out(rt: HostRuntime) -> Result<(), Fail> {
+    assert!(rt; comes_in_order(&rt, rt.alloc(), 1, 0)?);
+    assert!(rt; comes_in_order(&rt, rt.alloc(), 2, 1)?);
+    Ok(())
+}
+
 // How many of a thousand nodes the first pass gives, how many nodes the second then takes, and how
 // many are left.
 fn thousand<R: Wait>(rt: &R, alloc: Global, takes: u32) -> Result<(u32, u32, usize), AllocError> {

@@ -1,6 +1,7 @@
 pub mod Balancing
 pub mod Drained
 pub mod Lists
+pub mod Looking
 pub mod Passes
 pub mod Rejoining
 pub mod Seating

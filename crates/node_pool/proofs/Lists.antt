@@ -1,6 +1,6 @@
 -- Lists of ends that are made, one by one, of others.
-use Rattle.std.proofs.Common.{◌≡◌, ℕ, zero, suc, ◌+◌, ◌-◌, List, [], ◌∷◌, ◌++◌, map, length, sym, refl, ap, ◌∙◌, append_assoc, arith}
-use Rattle.std.specs.Prelude.{All}
+use Rattle.std.proofs.Common.{◌≡◌, ℕ, zero, suc, ◌+◌, ◌-◌, List, [], ◌∷◌, ◌++◌, map, length, sym, refl, ap, ◌∙◌, append_assoc, append-nil, arith}
+use Rattle.std.specs.Prelude.{All, flat_map}
 use Rattle.std.specs.declared.alloc.Global.{Global}
 use Rattle.atomic_blocks.specs.Lent.{RowsId}
 use Rattle.node_pool.specs.declared.rule.Hand.{Hand}
@@ -47,3 +47,20 @@ all_join F (x ∷ xs) ys left right = all_cons F x (xs ++ ys) (all_head F x xs l
 pub empty : {A : Type 0} (xs : List A) → length xs ≡ 0 → xs ≡ []
 empty [] none = refl
 empty (x ∷ xs) none = absurd (omega arith)
+
+-- what was made of lists' members, and what is to come
+pub map_on : {A B C : Type 0} (f : A → C) (g : B → C) (Q : List C) (made after : List A) (rest now : List B) (p : B) (o : A) → rest ≡ p ∷ now → after ≡ made ++ o ∷ [] → f o ≡ g p
+    → map f made ++ map g rest ≡ Q → map f after ++ map g now ≡ Q
+map_on f g Q made after rest now p o is grown same was =
+    ap (λ l. map f l ++ map g now) grown ∙ ap (λ l. l ++ map g now) (map_snoc f made o) ∙ append_assoc (map f made) (f o ∷ []) (map g now)
+    ∙ (λ i. map f made ++ same i ∷ map g now) ∙ ap (λ l. map f made ++ map g l) (sym is) ∙ was
+
+pub flat_on : {A B : Type 0} (g : B → List A) (Q left after more : List A) (rest now : List B) (p : B) → rest ≡ p ∷ now → after ≡ left ++ more → more ≡ g p → left ++ flat_map g rest ≡ Q → after ++ flat_map g now ≡ Q
+flat_on g Q left after more rest now p is grown same was =
+    ap (λ l. l ++ flat_map g now) grown ∙ append_assoc left more (flat_map g now) ∙ ap (λ l. left ++ (l ++ flat_map g now)) same ∙ ap (λ l. left ++ flat_map g l) (sym is) ∙ was
+
+pub map_whole : {A B C : Type 0} (f : A → C) (g : B → C) (Q : List C) (made : List A) (rest : List B) → length rest ≡ 0 → map f made ++ map g rest ≡ Q → map f made ≡ Q
+map_whole f g Q made rest none was = sym (append-nil (map f made)) ∙ ap (λ l. map f made ++ map g l) (sym (empty rest none)) ∙ was
+
+pub flat_whole : {A B : Type 0} (g : B → List A) (Q left : List A) (rest : List B) → length rest ≡ 0 → left ++ flat_map g rest ≡ Q → left ≡ Q
+flat_whole g Q left rest none was = sym (append-nil left) ∙ ap (λ l. left ++ flat_map g l) (sym (empty rest none)) ∙ was

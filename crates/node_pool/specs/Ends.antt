@@ -1,6 +1,5 @@
--- An end of a queue: which queue it is, and what the end knows.
-use Rattle.std.specs.Prelude.{◌≡◌, ℕ, ◌+◌, List}
-use Rattle.std.specs.List.{sum_by}
+-- An end of a queue: which queue it is, what the end knows, and how often it found nothing.
+use Rattle.std.specs.Prelude.{ℕ, ◌+◌, List, length, drop}
 use Rattle.std.specs.declared.alloc.Global.{Global}
 use Rattle.atomic_blocks.specs.Lent.{RowsId}
 use Rattle.branching.specs.declared.node.Node.{Node}
@@ -13,13 +12,23 @@ QueueId = RowsId × Global
 pub record End : Type 0 where
   pub queue : RowsId × Global
   pub hand : Hand
+  -- how often the queue answered this end that it held nothing
+  pub looks : ℕ
 
-abbrev pub end : RowsId × Global → Hand → End
-end queue hand = record { queue = queue; hand = hand }
+abbrev pub end : RowsId × Global → Hand → ℕ → End
+end queue hand looks = record { queue = queue; hand = hand; looks = looks }
 
 abbrev pub queue_of : End → RowsId × Global
 queue_of e = e.queue
 
--- what was put and not taken is what is left, however the nodes are weighed
-abbrev pub IsLeft : Hand → List Node → Type 0
-IsLeft v left = (h : Node → ℕ) → sum_by h v.put ≡ sum_by h v.taken + sum_by h left
+-- what the end put
+abbrev pub put_by : End → List Node
+put_by e = e.hand.put
+
+-- all but so many nodes of what the end put as it took
+abbrev pub rest_of : End → List Node
+rest_of e = drop (length e.hand.taken) e.hand.put
+
+-- the end after the queue answered it once more that it held nothing
+abbrev pub look : End → End
+look e = end e.queue e.hand (e.looks + 1)

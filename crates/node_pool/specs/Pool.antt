@@ -1,11 +1,10 @@
 -- A worker's pass: its own queue, its ends of the other queues, and its own list. All passes of a pool.
-use Rattle.std.specs.Prelude.{◌≡◌, ℕ, ◌+◌, ◌<◌, List, ◌∷◌, ◌++◌, map, take, drop, length, slice_index_or, [], All}
+use Rattle.std.specs.Prelude.{◌≡◌, ℕ, ◌+◌, ◌<◌, List, ◌∷◌, ◌++◌, map, flat_map, take, drop, length, slice_index_or, []}
 use Rattle.std.specs.List.{sum_by}
 use Rattle.std.specs.declared.alloc.Global.{Global}
 use Rattle.atomic_blocks.specs.Lent.{RowsId}
 use Rattle.branching.specs.declared.node.Node.{Node}
-use Rattle.node_pool.specs.Lane.{WasEmpty}
-use Rattle.node_pool.specs.Ends.{End, queue_of}
+use Rattle.node_pool.specs.Ends.{End, queue_of, look}
 
 pub record Station : Type 0 where
   pub own : End
@@ -17,6 +16,13 @@ station own others list = record { own = own; others = others; list = list }
 
 abbrev pub own_queue : Station → RowsId × Global
 own_queue s = s.own.queue
+
+-- what a pass put into its queue
+abbrev pub own_put : Station → List Node
+own_put s = s.own.hand.put
+
+abbrev pub list_of : Station → List Node
+list_of s = s.list
 
 abbrev pub puts : (Node → ℕ) → List End → ℕ
 puts h es = sum_by (λ (e : End). sum_by h e.hand.put) es
@@ -40,9 +46,9 @@ Moves before after given taken = (h : Node → ℕ) → gave h after + took h be
 abbrev pub SamePass : Station → Station → Type 0
 SamePass before after = (after.own.queue ≡ before.own.queue) × (map queue_of after.others ≡ map queue_of before.others)
 
--- each queue that a pass knows was empty at some moment at which the pass knew this
-abbrev pub FoundNothing : Station → Type 0
-FoundNothing s = (s.list ≡ []) × WasEmpty s.own.hand × All (λ e. WasEmpty e.hand) s.others
+-- a pass's own list is empty, and between two moments each queue that it knows answered it once that it held nothing
+abbrev pub FoundNothing : Station → Station → Type 0
+FoundNothing before after = (before.list ≡ []) × (after ≡ station (look before.own) (map look before.others) [])
 
 -- the queues that a pass knows, its own at this place
 abbrev pub queues_at : ℕ → Station → List (RowsId × Global)
@@ -58,3 +64,13 @@ all_gave h passes = sum_by (gave h) passes
 
 abbrev pub all_took : (Node → ℕ) → List Station → ℕ
 all_took h passes = sum_by (took h) passes
+
+-- of each of these lists all but so many of its first nodes, one after the other
+abbrev pub tails : List ℕ → List (List Node) → List Node
+tails [] lists = []
+tails (n ∷ ns) [] = []
+tails (n ∷ ns) (xs ∷ lists) = drop n xs ++ tails ns lists
+
+-- what is left of a pool: the list of each pass, and then, of each queue, the last of what was put there, all in order
+abbrev pub IsLeftOf : List Station → List Node → Type 0
+IsLeftOf passes left = (gone : List ℕ) × (length gone ≡ length passes) × (left ≡ flat_map list_of passes ++ tails gone (map own_put passes))

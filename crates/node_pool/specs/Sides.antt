@@ -1,18 +1,24 @@
 -- All ends of all queues. Helpers' clauses cite this, and no public one.
-use Rattle.std.specs.Prelude.{◌≡◌, ℕ, ◌-◌, ◌<◌, ◌≤◌, List, [], ◌∷◌, map, length, slice_index_or, All}
+use Rattle.std.specs.Prelude.{◌≡◌, ℕ, zero, suc, ◌-◌, ◌<◌, ◌≤◌, List, [], ◌∷◌, map, length, slice_index_or, All}
 use Rattle.std.specs.List.{sum_by}
 use Rattle.std.specs.declared.alloc.Global.{Global}
 use Rattle.atomic_blocks.specs.Lent.{RowsId}
 use Rattle.branching.specs.declared.node.Node.{Node}
 use Rattle.node_pool.specs.Lane.{both, hand}
-use Rattle.node_pool.specs.Ends.{End, end, queue_of}
+use Rattle.node_pool.specs.Ends.{End, end, look, queue_of}
 use Rattle.node_pool.specs.Pool.{Station, own_queue, queues_at, puts, takes}
 
 -- each worker takes in the end of its queue
 abbrev pub rejoined : List End → List End → List End
 rejoined [] ts = []
 rejoined (o ∷ os) [] = o ∷ os
-rejoined (o ∷ os) (t ∷ ts) = end o.queue (both o.hand t.hand) ∷ rejoined os ts
+rejoined (o ∷ os) (t ∷ ts) = end o.queue (both o.hand t.hand) o.looks ∷ rejoined os ts
+
+-- these ends, after a look at each of the first so many
+abbrev pub looked : ℕ → List End → List End
+looked zero es = es
+looked (suc k) [] = []
+looked (suc k) (e ∷ es) = look e ∷ looked k es
 
 abbrev pub all_puts : (Node → ℕ) → List (List End) → ℕ
 all_puts h sides = sum_by (puts h) sides

@@ -1,8 +1,8 @@
-ghost use Rattle.std.specs.Prelude.{◌≡◌, ◌+◌, ◌-◌, ◌≤◌, ◌<◌, ℕ, All, length, IfOk, OnOk, map};
+ghost use Rattle.std.specs.Prelude.{◌≡◌, ◌+◌, ◌-◌, ◌≤◌, ◌<◌, ℕ, All, length, IfOk, OnOk, map, flat_map, []};
 ghost use Rattle.std.specs.List.{sum_by};
 ghost use Rattle.branching.specs.declared.node.Node.{Node as NodeSpec};
-ghost use Rattle.node_pool.specs.Ends.{queue_of};
-ghost use Rattle.node_pool.specs.Pool.{gave, took, puts, takes, queues_at, all_gave, all_took, AreAllPasses};
+ghost use Rattle.node_pool.specs.Ends.{queue_of, put_by, rest_of};
+ghost use Rattle.node_pool.specs.Pool.{gave, took, puts, takes, queues_at, own_put, list_of, all_gave, all_took, AreAllPasses, IsLeftOf};
 ghost use Rattle.node_pool.specs.Sides.{rejoined, all_puts, all_takes, AreSides};
 
 use crate::kept::{Kept, Sound};
@@ -14,12 +14,14 @@ use std::alloc::{AllocError, Global};
 use std::collections::VecDeque;
 
 /// The nodes that are left in a pool, all passes of which are handed back: however nodes are
-/// weighed, what all passes gave weighs what they took and what is left. Each is sound. After want
-/// of memory the nodes are gone.
+/// weighed, what all passes gave weighs what they took and what is left. These are the nodes of each
+/// pass's list, and then, of each queue, the last of what was put there. Each is sound. After want of
+/// memory the nodes are gone.
 pub fn close<S: Sound>(alloc: Global, passes: Vec<Pass<S>>) -> Result<Vec<Node>, AllocError>
     requires { AreAllPasses passes.items }
     ensures left { IfOk result (λ left. (h : NodeSpec → ℕ)
         → all_gave h passes.items ≡ all_took h passes.items + sum_by h left.items) }
+    ensures order { IfOk result (λ left. IsLeftOf passes.items left.items) }
     ensures sound { IfOk result (λ left. All (λ node. S.sound node) left.items) }
 {
     let parts = taken_apart(alloc, passes)?;
@@ -46,6 +48,8 @@ fn taken_apart<S: Sound>(alloc: Global, passes: Vec<Pass<S>>) -> Result<Parts<S>
         → puts h p.owners.items + all_puts h p.sides.items + sum_by h p.left.items ≡ all_gave h passes.items) }
     ensures took { IfOk result (λ p. (h : NodeSpec → ℕ)
         → takes h p.owners.items + all_takes h p.sides.items ≡ all_took h passes.items) }
+    ensures put { IfOk result (λ p. map put_by p.owners.items ≡ map own_put passes.items) }
+    ensures lists { IfOk result (λ p. p.left.items ≡ flat_map list_of passes.items) }
     ensures sound { IfOk result (λ p. All (λ node. S.sound node) p.left.items) }
 {
     let mut owners = Vec::new(alloc);
@@ -78,6 +82,7 @@ fn unseat<S: Sound>(
     ensures gave { IfOk result (λ r. (h : NodeSpec → ℕ)
         → sum_by h r.0.hand.put + puts h r.1.items + sum_by h r.2.items ≡ gave h pass) }
     ensures took { IfOk result (λ r. (h : NodeSpec → ℕ) → sum_by h r.0.hand.taken + takes h r.1.items ≡ took h pass) }
+    ensures put { IfOk result (λ r. (r.0.hand.put ≡ pass.own.hand.put) × (r.2.items ≡ pass.list)) }
     ensures sound { IfOk result (λ r. All (λ node. S.sound node) r.2.items) }
 {
     let Pass {
@@ -110,7 +115,7 @@ fn rejoin<S: Sound>(
 ) -> Result<Vec<Owner<S>>, AllocError>
     requires { map queue_of side.items ≡ map queue_of owners.items }
     ensures all { IfOk result (λ all. all.items ≡ rejoined owners.items side.items) }
-    ensures ones { OnOk result (All (λ t. t.hand.parts ≡ 1) side.items) }
+    ensures ones { OnOk result (All (λ t. (t.hand.parts ≡ 1) × (t.hand.put ≡ [])) side.items) }
 {
     let mut all = Vec::new(alloc);
     let mut ends = side.into_iter();
@@ -137,6 +142,7 @@ fn rejoin_all<S: Sound>(
         → puts h all.items ≡ puts h owners.items + all_puts h sides.items) }
     ensures takes { IfOk result (λ all. (h : NodeSpec → ℕ)
         → takes h all.items ≡ takes h owners.items + all_takes h sides.items) }
+    ensures put { IfOk result (λ all. map put_by all.items ≡ map put_by owners.items) }
 {
     let mut all = owners;
     for side in sides {
@@ -150,6 +156,7 @@ fn drain_all<S: Sound>(alloc: Global, owners: Vec<Owner<S>>) -> Result<Vec<Node>
     requires { All (λ o. o.hand.parts ≡ 65) owners.items }
     ensures left { IfOk result (λ left. (h : NodeSpec → ℕ)
         → puts h owners.items ≡ takes h owners.items + sum_by h left.items) }
+    ensures last { IfOk result (λ left. left.items ≡ flat_map rest_of owners.items) }
     ensures sound { IfOk result (λ left. All (λ node. S.sound node) left.items) }
 {
     let mut left = Vec::new(alloc);

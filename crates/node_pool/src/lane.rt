@@ -1,10 +1,10 @@
-ghost use Rattle.std.specs.Prelude.{◌≡◌, ◌-◌, ◌<◌, ◌≤◌, ◌∷◌, ◌++◌, [], length, All, IfOk, OnOk, IfErr, IfSome, MatchOption};
+ghost use Rattle.std.specs.Prelude.{◌≡◌, ◌+◌, ◌-◌, ◌<◌, ◌≤◌, ◌∷◌, ◌++◌, [], length, drop, All, IfOk, OnOk, IfErr, IfNone, IfSome, MatchOption};
 ghost use Rattle.crossbeam_deque.specs.Steals.{MatchSteal};
-ghost use Rattle.node_pool.specs.Lane.{hand, first_hand, both, WasEmpty};
-ghost use Rattle.node_pool.specs.Ends.{IsLeft};
+ghost use Rattle.node_pool.specs.Lane.{hand, first_hand, both, AreNext, IsLeft};
 
 use crate::kept::{Kept, Sound};
-use crate::rule::{Both, Cut, Fair, Glance, Hand, Puts, Takes};
+use crate::looks::Looks;
+use crate::rule::{Both, Cut, Fair, Glance, Hand, Puts, Steals, Takes};
 use branching::Node;
 use crossbeam_deque::{Pass as Token, Steal, Stealer, Worker};
 use std::alloc::{AllocError, Global};
@@ -16,19 +16,21 @@ use std::thread;
 #[derive(Drop)]
 pub struct Owner<S: Sound> {
     worker: Worker<Kept<S>, Global, Hand, Fair<S>>,
+    looks: Looks,
 }
 
 impl<S: Sound> Model for Owner<S> {
     ghost use Rattle.std.specs.Prelude.{◌≡◌, ◌<◌, ◌≤◌, length};
-    ghost use Rattle.crossbeam_deque.specs.Handles.{worker_deque, worker_view, worker_flavor, worker_index, worker_capacity};
+    ghost use Rattle.crossbeam_deque.specs.Handles.{worker_deque, worker_port, worker_view, worker_flavor, worker_index, worker_capacity};
     ghost use Rattle.node_pool.specs.Ends.{End, end};
 
     ghost Value = { End };
 
-    ghost view = { λ o. end (worker_deque o.worker) (worker_view o.worker) };
+    ghost view = { λ o. end (worker_deque o.worker) (worker_view o.worker) o.looks.count };
 
     ghost invariant = { λ o. (worker_flavor o.worker ≡ 0) × (0 < (worker_view o.worker).parts)
-        × (worker_index o.worker ≤ length (worker_view o.worker).put) × (128 ≤ worker_capacity o.worker) };
+        × (worker_index o.worker ≤ length (worker_view o.worker).put) × (128 ≤ worker_capacity o.worker)
+        × (worker_port o.worker ≡ 0) };
 }
 
 // An end of a queue at which another worker takes nodes.
@@ -36,6 +38,7 @@ impl<S: Sound> Model for Owner<S> {
 pub struct Thief<S: Sound> {
     stealer: Stealer<Kept<S>, Global, Hand, Fair<S>>,
     token: Token<Kept<S>, Hand, Global>,
+    looks: Looks,
 }
 
 impl<S: Sound> Model for Thief<S> {
@@ -45,7 +48,7 @@ impl<S: Sound> Model for Thief<S> {
 
     ghost Value = { End };
 
-    ghost view = { λ t. end (stealer_deque t.stealer) (seen t.token) };
+    ghost view = { λ t. end (stealer_deque t.stealer) (seen t.token) t.looks.count };
 
     ghost invariant = { λ t. (stealer_flavor t.stealer ≡ 0) × ((seen t.token).parts ≡ 1)
         × ((seen t.token).put ≡ []) × IsPassOf (stealer_deque t.stealer) t.token };
@@ -57,7 +60,10 @@ impl<S: Sound> Owner<S> {
         ensures { IfOk result (λ o. o.hand ≡ first_hand) }
     {
         let worker = Worker::fifo_as(alloc, 128)?;
-        Ok(Owner { worker })
+        Ok(Owner {
+            worker,
+            looks: Looks::new(),
+        })
     }
 
     // Puts a node last, or hands it back. The first 128 puts succeed.
@@ -67,6 +73,7 @@ impl<S: Sound> Owner<S> {
         ensures put { OnOk result (self.new.hand
             ≡ hand self.old.hand.parts (self.old.hand.put ++ node ∷ []) self.old.hand.taken) }
         ensures back { IfErr result (λ back. (back ≡ node) × (self.new.hand ≡ self.old.hand)) }
+        ensures looks { self.new.looks ≡ self.old.looks }
         ensures room { IfErr result (λ back. 128 ≤ length self.old.hand.put) }
     {
         match self.worker.push_as::<Puts>(Kept::of(node)) {
@@ -75,26 +82,30 @@ impl<S: Sound> Owner<S> {
         }
     }
 
-    // Takes the first node. None only where at some moment of the call there was none.
+    // Takes the first node. None: the queue answered that it held none.
     pub fn take(&mut self) -> Option<Node>
         ensures same { self.new.queue ≡ self.old.queue }
-        ensures took { MatchOption result ((self.new.hand ≡ self.old.hand) × WasEmpty self.old.hand)
+        ensures took { MatchOption result
+            ((self.new.hand ≡ self.old.hand) × (self.new.looks ≡ self.old.looks + 1))
             (λ node. self.new.hand ≡ hand self.old.hand.parts self.old.hand.put (self.old.hand.taken ++ node ∷ [])) }
-        ensures alone { self.old.hand.parts ≡ 65
-            → IfSome result (λ _. length self.old.hand.taken < length self.old.hand.put) }
+        ensures none { IfNone result (self.old.hand.parts ≡ 65 → IsLeft self.old.hand []) }
+        ensures next { IfSome result (λ node. AreNext self.old.hand (node ∷ [])) }
         ensures sound { IfSome result (λ node. S.sound node) }
     {
         match self.worker.pop_as::<Takes>() {
             Some(kept) => Some(kept.into_node()),
-            None => None,
+            None => {
+                self.looks.rise();
+                None
+            }
         }
     }
 
-    // Whether the queue held nothing at a moment of this call.
-    pub fn is_empty(&mut self) -> bool
+    // How many nodes the queue held at a moment of this call.
+    pub fn len(&mut self) -> usize
         ensures { self.new ≡ self.old }
     {
-        self.worker.len_as::<Glance>() == 0
+        self.worker.len_as::<Glance>()
     }
 
     // An end for another worker.
@@ -107,7 +118,11 @@ impl<S: Sound> Owner<S> {
     {
         let stealer = self.worker.stealer()?;
         let token = self.worker.another::<Cut>();
-        Ok(Thief { stealer, token })
+        Ok(Thief {
+            stealer,
+            token,
+            looks: Looks::new(),
+        })
     }
 
     // Takes in an end of its queue.
@@ -115,16 +130,23 @@ impl<S: Sound> Owner<S> {
         requires { thief.queue ≡ self.old.queue }
         ensures same { self.new.queue ≡ self.old.queue }
         ensures both { self.new.hand ≡ both self.old.hand thief.hand }
-        ensures part { thief.hand.parts ≡ 1 }
+        ensures looks { self.new.looks ≡ self.old.looks }
+        ensures part { (thief.hand.parts ≡ 1) × (thief.hand.put ≡ []) }
     {
-        let Thief { stealer: _, token } = thief;
+        let Thief {
+            stealer: _,
+            token,
+            looks: _,
+        } = thief;
         self.worker.absorb::<Both>(token);
     }
 
-    // All nodes that are left, once each other end was taken in.
+    // All nodes that are left, once each other end was taken in: the last of what was put.
     pub fn drain(&mut self, alloc: Global) -> Result<Vec<Node>, AllocError>
         requires { self.old.hand.parts ≡ 65 }
         ensures left { IfOk result (λ left. IsLeft self.old.hand left.items) }
+        ensures last { IfOk result (λ left.
+            left.items ≡ drop (length self.old.hand.taken) self.old.hand.put) }
         ensures sound { IfOk result (λ left. All (λ node. S.sound node) left.items) }
     {
         let mut left = Vec::new(alloc);
@@ -139,21 +161,29 @@ impl<S: Sound> Owner<S> {
 }
 
 impl<S: Sound> Thief<S> {
-    // Takes the first node, unless another end was faster.
+    // Takes the first node, unless another end was faster. Empty: the queue answered that it held none.
     fn attempt(&mut self) -> Steal<Kept<S>>
         ensures same { self.new.queue ≡ self.old.queue }
         ensures took { MatchSteal result
-            ((self.new.hand ≡ self.old.hand) × WasEmpty self.old.hand)
-            (self.new.hand ≡ self.old.hand)
+            ((self.new.hand ≡ self.old.hand) × (self.new.looks ≡ self.old.looks + 1))
+            ((self.new.hand ≡ self.old.hand) × (self.new.looks ≡ self.old.looks))
             (λ node. self.new.hand ≡ hand self.old.hand.parts self.old.hand.put (self.old.hand.taken ++ node ∷ [])) }
     {
-        self.stealer.steal_as::<Takes>(&mut self.token)
+        match self.stealer.steal_as::<Steals>(&mut self.token) {
+            Steal::Success(kept) => Steal::Success(kept),
+            Steal::Empty => {
+                self.looks.rise();
+                Steal::Empty
+            }
+            Steal::Retry => Steal::Retry,
+        }
     }
 
-    // Takes the first node. None only where at some moment of the call there was none.
+    // Takes the first node. None: the queue answered that it held none.
     pub fn take<R: Wait>(&mut self, rt: &R) -> Option<Node>
         ensures same { self.new.queue ≡ self.old.queue }
-        ensures took { MatchOption result ((self.new.hand ≡ self.old.hand) × WasEmpty self.old.hand)
+        ensures took { MatchOption result
+            ((self.new.hand ≡ self.old.hand) × (self.new.looks ≡ self.old.looks + 1))
             (λ node. self.new.hand ≡ hand self.old.hand.parts self.old.hand.put (self.old.hand.taken ++ node ∷ [])) }
         ensures sound { IfSome result (λ node. S.sound node) }
     {

@@ -12,6 +12,7 @@ mod closing;
 mod kept;
 mod lane;
 mod law;
+mod looks;
 mod opening;
 mod pass;
 mod rule;

@@ -1,7 +1,6 @@
-ghost use Rattle.std.specs.Prelude.{◌≡◌, ◌+◌, ◌<◌, ◌∷◌, ◌++◌, ℕ, [], length, All, MatchOption, MatchResult, IfNone, IfSome, IsOk, map, slice_index_or};
+ghost use Rattle.std.specs.Prelude.{◌≡◌, ◌+◌, ◌<◌, ◌∷◌, ◌++◌, ℕ, [], length, MatchOption, MatchResult, IfNone, IfSome, IsOk, Some, map, slice_get, slice_index_or, slice_set};
 ghost use Rattle.branching.specs.declared.node.Node.{Node as NodeSpec};
-ghost use Rattle.node_pool.specs.Lane.{WasEmpty};
-ghost use Rattle.node_pool.specs.Ends.{queue_of};
+ghost use Rattle.node_pool.specs.Ends.{queue_of, look};
 ghost use Rattle.node_pool.specs.Pool.{takes, puts, Moves, SamePass, FoundNothing};
 
 use crate::kept::{Kept, Sound};
@@ -49,13 +48,13 @@ impl<S: Sound> Pass<S> {
     }
 
     /// Gives a node: last into the pass's own queue, or, where this can't grow, into the pass's own
-    /// list. Where there is no memory for that either, the node is handed back. The first 127
-    /// gives go into the queue.
+    /// list. Where there is no memory for that either, the node is handed back, and the pass is as
+    /// before. The first 127 gives go into the queue.
     pub fn give(&mut self, node: Node) -> Result<(), Node>
         requires { S.sound node }
         ensures same { SamePass self.old self.new }
         ensures gave { MatchResult result (λ _. Moves self.old self.new (node ∷ []) [])
-            (λ back. (back ≡ node) × Moves self.old self.new [] []) }
+            (λ back. (back ≡ node) × (self.new ≡ self.old)) }
         ensures room { length self.old.own.hand.put < 128
             → (self.new.own.hand.put ≡ self.old.own.hand.put ++ node ∷ []) × IsOk result }
     {
@@ -71,31 +70,33 @@ impl<S: Sound> Pass<S> {
         requires { S.sound node }
         ensures same { SamePass self.old self.new }
         ensures held { MatchResult result (λ _. Moves self.old self.new (node ∷ []) [])
-            (λ back. (back ≡ node) × Moves self.old self.new [] []) }
+            (λ back. (back ≡ node) × (self.new ≡ self.old)) }
     {
         keep(&mut self.list, node)
     }
 
-    /// Whether its own queue held no node at a moment of this call, so that others can take none there.
-    pub fn is_bare(&mut self) -> bool
+    /// How many nodes its own queue held at a moment of this call, which others could take there.
+    pub fn shown(&mut self) -> usize
         ensures { self.new ≡ self.old }
     {
-        self.own.is_empty()
+        self.own.len()
     }
 
     /// Takes a node: the last of the pass's own list, else the first of its own queue, else of another's.
-    /// None only where its list is empty and each queue was empty at a moment of this call; for a
-    /// pass alone in its pool with an empty list, None exactly where it took as many nodes from its
-    /// queue as it put there.
+    /// None only where its list is empty and each queue answered that it held nothing; for a pass
+    /// alone in its pool with an empty list, None exactly where it took as many nodes from its queue as
+    /// it put there, and else the next one of what it put.
     pub fn take<R: Wait>(&mut self, rt: &R) -> Option<Node>
         ensures same { SamePass self.old self.new }
-        ensures took { MatchOption result ((self.new ≡ self.old) × FoundNothing self.old)
+        ensures took { MatchOption result (FoundNothing self.old self.new)
             (λ node. Moves self.old self.new [] (node ∷ [])) }
         ensures sound { IfSome result (λ node. S.sound node) }
         ensures alone { self.old.others ≡ [] → IfNone result
             (length self.old.own.hand.taken ≡ length self.old.own.hand.put) }
         ensures left { self.old.others ≡ [] → self.old.list ≡ [] → IfSome result
             (λ _. length self.old.own.hand.taken < length self.old.own.hand.put) }
+        ensures next { self.old.others ≡ [] → self.old.list ≡ [] → IfSome result
+            (λ node. slice_get self.old.own.hand.put (length self.old.own.hand.taken) ≡ Some node) }
     {
         if let Some(kept) = self.list.pop_back() {
             return Some(kept.into_node());
@@ -122,7 +123,7 @@ fn keep<S: Sound>(list: &mut VecDeque<Kept<S>>, node: Node) -> Result<(), Node>
 // Takes a node at one of the ends.
 fn steal<S: Sound, R: Wait>(rt: &R, ends: &mut Vec<Thief<S>>) -> Option<Node>
     ensures queues { map queue_of ends.new.items ≡ map queue_of ends.old.items }
-    ensures none { IfNone result ((ends.new.items ≡ ends.old.items) × All (λ e. WasEmpty e.hand) ends.old.items) }
+    ensures none { IfNone result (ends.new.items ≡ map look ends.old.items) }
     ensures some { IfSome result (λ node. (h : NodeSpec → ℕ)
         → takes h ends.new.items ≡ takes h ends.old.items + h node) }
     ensures puts { (h : NodeSpec → ℕ) → puts h ends.new.items ≡ puts h ends.old.items }
@@ -141,8 +142,8 @@ fn steal<S: Sound, R: Wait>(rt: &R, ends: &mut Vec<Thief<S>>) -> Option<Node>
 fn steal_at<S: Sound, R: Wait>(rt: &R, ends: &mut Vec<Thief<S>>, k: usize) -> Option<Node>
     requires { k < length ends.old.items }
     ensures queues { map queue_of ends.new.items ≡ map queue_of ends.old.items }
-    ensures none { IfNone result ((ends.new.items ≡ ends.old.items)
-        × ((d : _) → WasEmpty (slice_index_or ends.old.items k d).hand)) }
+    ensures none { IfNone result ((d : _)
+        → ends.new.items ≡ slice_set ends.old.items k (look (slice_index_or ends.old.items k d))) }
     ensures some { IfSome result (λ node. (h : NodeSpec → ℕ)
         → takes h ends.new.items ≡ takes h ends.old.items + h node) }
     ensures puts { (h : NodeSpec → ℕ) → puts h ends.new.items ≡ puts h ends.old.items }

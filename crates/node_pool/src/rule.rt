@@ -1,6 +1,6 @@
 // The rule of one queue, and what its steps tell.
 ghost use Rattle.std.specs.Prelude.{◌≡◌, ◌-◌, ◌++◌, [], ⊤};
-ghost use Rattle.node_pool.specs.Lane.{hand, first_hand, Balanced, WasEmpty, both, took};
+ghost use Rattle.node_pool.specs.Lane.{hand, first_hand, Balanced, IsLeft, both, took};
 
 use crate::kept::{Kept, Sound};
 use branching::Node;
@@ -35,12 +35,20 @@ impl<S: Sound> Outcome<Kept<S>, Hand> for Puts {
     ghost then = { λ v xs w. w ≡ hand v.parts (v.put ++ xs) v.taken };
 }
 
+// What the owner's end takes.
 pub struct Takes;
 
 impl<S: Sound> Outcome<Kept<S>, Hand> for Takes {
     ghost then = { took };
 
-    ghost empty = { WasEmpty };
+    ghost empty = { λ v. v.parts ≡ 65 → IsLeft v [] };
+}
+
+// What any other end takes.
+pub struct Steals;
+
+impl<S: Sound> Outcome<Kept<S>, Hand> for Steals {
+    ghost then = { λ v xs w. w ≡ hand v.parts v.put (v.taken ++ xs) };
 }
 
 // A look at a queue from which nothing is learnt.

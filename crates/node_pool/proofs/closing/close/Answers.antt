@@ -1,9 +1,10 @@
-use Rattle.std.proofs.Common.{rules, arith, ◌≡◌, ◌++◌, subst, sym, ap}
+use Rattle.std.proofs.Common.{rules, arith, ◌≡◌, ◌++◌, subst, sym, ap, ◌∙◌}
 use Rattle.std.specs.Prelude.{All}
 use Rattle.std.specs.List.{sum_by}
 use Rattle.std.proofs.lemmas.List.Sums.{sum_by-append}
 use Rattle.branching.specs.declared.node.Node.{Node}
 use Rattle.node_pool.proofs.Lists.{all_join}
+use Rattle.node_pool.proofs.Rejoining.{left_in_order}
 use Rattle.node_pool.proofs.closing.close.Goals as goal
 
 pub returns-clause-left : goal.returns-clause-left
@@ -19,3 +20,9 @@ returns-clause-sound g c =
     let H : Node → Type 0 = λ node. g.S.Sound.sound node in
     let le : c.append.new.self.items ≡ c.in_ok-parts.parts.left.items ++ c.in_ok-more.more.items = search rules in
     subst (All H) (sym le) (all_join H c.in_ok-parts.parts.left.items c.in_ok-more.more.items c.in_ok-parts.ensures.sound c.in_ok-more.ensures.sound)
+
+pub returns-clause-order : goal.returns-clause-order
+returns-clause-order g c =
+    let le : c.append.new.self.items ≡ c.in_ok-parts.parts.left.items ++ c.in_ok-more.more.items = search rules in
+    left_in_order c.args.passes.items c.in_ok-owners.owners.items c.append.new.self.items c.in_ok-parts.parts.left.items c.in_ok-more.more.items le c.in_ok-parts.ensures.lists c.in_ok-more.ensures.last
+    (c.in_ok-owners.ensures.put ∙ c.in_ok-parts.ensures.put)

@@ -1,4 +1,4 @@
-use Rattle.std.proofs.Common.{rules, arith, ◌≡◌, ◌∷◌, length, subst, sym}
+use Rattle.std.proofs.Common.{rules, arith, ◌≡◌, ◌∷◌, [], length, subst, sym}
 use Rattle.std.specs.Prelude.{All}
 use Rattle.node_pool.specs.Ends.{End}
 use Rattle.node_pool.proofs.Rejoining.{lengths, extends}
@@ -13,8 +13,8 @@ loop-owner-preserved g c =
       tt,
       search rules,
       extends c.loop-owner.all.items c.push.new.self.items c.loop-owner.owner-iterator.rest.items c.next.new.self.rest.items c.loop-owner.ends.rest.items c.next-in-loop-owner.new.self.rest.items c.in-Some.owner c.in-Some-next.end c.take_in.new.self _
-          (search rules) is (search rules) c.take_in.ensures.same c.take_in.ensures.both i.3,
-      λ ones. i.4 (subst (All (λ (t : End). t.hand.parts ≡ 1)) (sym is) (all_cons (λ (t : End). t.hand.parts ≡ 1) c.in-Some-next.end c.next-in-loop-owner.new.self.rest.items c.take_in.ensures.part ones)),
+          (search rules) is (search rules) c.take_in.ensures.same c.take_in.ensures.both c.take_in.ensures.looks i.3,
+      λ ones. i.4 (subst (All (λ (t : End). (t.hand.parts ≡ 1) × (t.hand.put ≡ []))) (sym is) (all_cons (λ (t : End). (t.hand.parts ≡ 1) × (t.hand.put ≡ [])) c.in-Some-next.end c.next-in-loop-owner.new.self.rest.items c.take_in.ensures.part ones)),
     )
 
 pub returns-clause-ones : goal.returns-clause-ones

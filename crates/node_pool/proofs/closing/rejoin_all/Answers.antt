@@ -1,4 +1,4 @@
-use Rattle.std.proofs.Common.{rules, arith, ◌≡◌, ◌∷◌, ◌+◌, List, map, length, subst, ap}
+use Rattle.std.proofs.Common.{rules, arith, ◌≡◌, ◌∷◌, ◌+◌, List, map, length, subst, ap, ◌∙◌}
 use Rattle.std.specs.Prelude.{All}
 use Rattle.std.proofs.lemmas.List.Sums.{sum_by-cons}
 use Rattle.node_pool.specs.Ends.{End, queue_of}
@@ -23,6 +23,7 @@ loop-side-preserved g c =
       j.parts,
       (λ h. let a = i.4 h in let b = j.put h in let d = ap (all_puts h) is in let e = sum_by-cons (puts h) side now in omega arith),
       (λ h. let a = i.5 h in let b = j.taken h in let d = ap (all_takes h) is in let e = sum_by-cons (takes h) side now in omega arith),
+      j.same_put ∙ i.6,
     )
 
 pub rejoin-requires : goal.rejoin-requires

@@ -1,10 +1,10 @@
 use Rattle.std.proofs.Common.{rules, arith, ◌≡◌, ◌+◌, ◌∷◌, ◌++◌, [], List, map, length, subst, sym, ap, ◌∙◌, append-nil}
-use Rattle.std.specs.Prelude.{All}
+use Rattle.std.specs.Prelude.{All, flat_map}
 use Rattle.std.specs.List.{sum_by}
 use Rattle.branching.specs.declared.node.Node.{Node}
-use Rattle.node_pool.specs.Ends.{End, queue_of}
-use Rattle.node_pool.specs.Pool.{Station, own_queue, queues_at, all_gave, all_took}
-use Rattle.node_pool.proofs.Lists.{empty, all_push, all_join, map_long}
+use Rattle.node_pool.specs.Ends.{End, put_by, queue_of}
+use Rattle.node_pool.specs.Pool.{Station, own_put, own_queue, list_of, queues_at, all_gave, all_took}
+use Rattle.node_pool.proofs.Lists.{empty, all_push, all_join, flat_on, flat_whole, map_long, map_on, map_whole}
 use Rattle.node_pool.proofs.TakingApart.{first_is, queues_on, gave_on, took_on}
 use Rattle.node_pool.proofs.closing.taken_apart.Goals as goal
 
@@ -52,6 +52,8 @@ loop-pass-preserved g c =
       (λ h. took_on h (all_took h c.args.passes.items) owners c.push.new.self.items sides c.push-in-loop-pass.new.self.items rest now p o side is io si (c.in_ok-owner.ensures.took h) (i.7 h)),
       (λ k d lt. subst (λ m. queues_at (m + k) (Rattle.std.specs.Prelude.slice_index_or now k d) ≡ Q) (sym grown) (first.later k d lt)),
       subst (All H) (sym le) (all_join H left c.in_ok-owner.kept.items i.9 c.in_ok-owner.ensures.sound),
+      map_on put_by own_put (map own_put c.args.passes.items) owners c.push.new.self.items rest now p o is io c.in_ok-owner.ensures.put.0 i.10,
+      flat_on list_of (flat_map list_of c.args.passes.items) left c.append.new.self.items c.in_ok-owner.kept.items rest now p is le c.in_ok-owner.ensures.put.1 i.11,
     )
 
 pub returns-clause-sides : goal.returns-clause-sides
@@ -78,3 +80,11 @@ returns-clause-gave g c = λ h.
     let count : length c.loop-pass.pass-iterator.rest.items ≡ 0 = search rules in
     let none = empty c.loop-pass.pass-iterator.rest.items count in
     let z : all_gave h c.loop-pass.pass-iterator.rest.items ≡ 0 = ap (all_gave h) none in let e = c.loop-pass.invariant.6 h in omega arith
+
+pub returns-clause-put : goal.returns-clause-put
+returns-clause-put g c = let none : length c.loop-pass.pass-iterator.rest.items ≡ 0 = search rules in
+    map_whole put_by own_put (map own_put c.args.passes.items) c.loop-pass.owners.items c.loop-pass.pass-iterator.rest.items none c.loop-pass.invariant.10
+
+pub returns-clause-lists : goal.returns-clause-lists
+returns-clause-lists g c = let none : length c.loop-pass.pass-iterator.rest.items ≡ 0 = search rules in
+    flat_whole list_of (flat_map list_of c.args.passes.items) c.loop-pass.left.items c.loop-pass.pass-iterator.rest.items none c.loop-pass.invariant.11

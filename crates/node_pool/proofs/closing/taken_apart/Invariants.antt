@@ -1,8 +1,8 @@
 use Rattle.std.proofs.Common.{◌≡◌, ◌+◌, ◌++◌, ◌<◌, ℕ, All, length, map, slice_index_or}
-use Rattle.std.specs.List.{sum_by}
+use Rattle.std.specs.List.{flat_map, sum_by}
 use Rattle.branching.specs.declared.node.Node.{Node}
-use Rattle.node_pool.specs.Ends.{queue_of}
-use Rattle.node_pool.specs.Pool.{Station, own_queue, queues_at, puts, takes, all_gave, all_took}
+use Rattle.node_pool.specs.Ends.{put_by, queue_of}
+use Rattle.node_pool.specs.Pool.{Station, own_put, own_queue, list_of, queues_at, puts, takes, all_gave, all_took}
 use Rattle.node_pool.specs.Sides.{AreSides, all_puts, all_takes}
 use Rattle.node_pool.proofs.closing.taken_apart.Given as goal
 
@@ -17,3 +17,5 @@ invariant-loop-pass g l =
     × ((h : Node → ℕ) → takes h l.owners.items + all_takes h l.sides.items + all_took h l.pass-iterator.rest.items ≡ all_took h l.fn.passes.items)
     × ((k : ℕ) (d : Station) → k < length l.pass-iterator.rest.items → queues_at (length l.owners.items + k) (slice_index_or l.pass-iterator.rest.items k d) ≡ map own_queue l.fn.passes.items)
     × All (λ node. g.S.Sound.sound node) l.left.items
+    × (map put_by l.owners.items ++ map own_put l.pass-iterator.rest.items ≡ map own_put l.fn.passes.items)
+    × (l.left.items ++ flat_map list_of l.pass-iterator.rest.items ≡ flat_map list_of l.fn.passes.items)
