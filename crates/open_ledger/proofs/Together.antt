@@ -1,6 +1,6 @@
 -- What a place knows that took in seats.
-use Rattle.std.proofs.Common.{◌≡◌, ◌⊎◌, inl, inr, ℕ, suc, ◌+◌, ◌<◌, ◌≤◌, length, subst, List, [], ◌∷◌, sym, refl, ap, ◌∙◌, arith}
-use Rattle.std.specs.Prelude.{slice_index_or}
+use Rattle.std.proofs.Common.{◌≡◌, ◌⊎◌, inl, inr, ℕ, zero, suc, ◌+◌, ◌<◌, ◌≤◌, length, subst, List, [], ◌∷◌, sym, refl, ap, ◌∙◌, arith}
+use Rattle.std.specs.Prelude.{All, slice_index_or}
 use Rattle.std.specs.List.{sum_by}
 use Rattle.std.proofs.lemmas.List.Sums.{sum_by-cons}
 use Rattle.atomic_table.specs.Seated.{TableId}
@@ -8,7 +8,7 @@ use Rattle.open_ledger.specs.declared.rule.Tally.{Tally}
 use Rattle.open_ledger.specs.Tally.{both, with_busy}
 use Rattle.open_ledger.specs.Rule.{IsOpenWord, IsClaimWord, IsHaltWord}
 use Rattle.open_ledger.specs.Ledger.{IsUntouched}
-use Rattle.open_ledger.specs.Seat.{Known, ups_of, downs_of, granted_of, refused_of, halts_of, sights_of}
+use Rattle.open_ledger.specs.Seat.{Known, SaysWhy, SomeSaysWhy, ups_of, downs_of, granted_of, refused_of, halts_of, sights_of}
 use Rattle.open_ledger.specs.Joined.{joined}
 
 pub joined_budget : (v : Tally) (ss : List Known) → (joined v ss).budget ≡ v.budget
@@ -93,3 +93,21 @@ pub idle : (o busy : ℕ) (ss : List Known) → busy ≡ sum_by (λ (s : Known).
     → ((k : ℕ) (d : Known) → k < length ss → (slice_index_or ss k d).tally.busy ≡ 0) → o ≡ 0
 idle o busy ss is (inl x) each = x
 idle o busy ss is (inr x) each = let a = all_idle ss each in absurd (omega arith)
+
+-- Each seat says why, where the next one does and all that follow.
+pub says-cons : (s : Known) (rest now : List Known) → rest ≡ s ∷ now → SaysWhy s → All SaysWhy now → All SaysWhy rest
+says-cons s rest now is first later = subst (All SaysWhy) (sym is) each where
+  each : All SaysWhy (s ∷ now)
+  each zero d lt = first
+  each (suc k) d lt = later k d (omega arith)
+
+-- Where each seat that halted says why, and one did, some seat says why.
+pub someone : (ss : List Known) → All SaysWhy ss → 0 < halts_of ss → SomeSaysWhy ss
+someone [] each some = absurd (omega (arith, some))
+someone (s ∷ ss) each some = by_case s.tally.halts refl (someone ss (λ k d lt. each (suc k) d (omega arith))) where
+  by_case : (n : ℕ) → s.tally.halts ≡ n → (0 < halts_of ss → SomeSaysWhy ss) → SomeSaysWhy (s ∷ ss)
+  by_case (suc n) is later = (s, (0, omega arith, refl), each 0 s (omega arith) (omega arith))
+  by_case zero is later =
+      let a = sum_by-cons (λ (x : Known). x.tally.halts) s ss in
+      let rest = later (omega arith) in
+      (rest.0, (suc rest.1.0, omega (arith, rest.1.1), rest.1.2), rest.2)

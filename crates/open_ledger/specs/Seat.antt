@@ -1,5 +1,5 @@
 -- What a seat at a ledger knows, as its callers see it.
-use Rattle.std.specs.Prelude.{ℕ, List, Option, None}
+use Rattle.std.specs.Prelude.{◌≢◌, ℕ, ◌<◌, List, Contains, Option, None}
 use Rattle.std.specs.List.{sum_by}
 use Rattle.atomic_table.specs.Seated.{TableId}
 use Rattle.open_ledger.specs.declared.rule.Tally.{Tally}
@@ -38,3 +38,11 @@ halts_of = sum_by (λ (s : Known). s.tally.halts)
 
 abbrev pub sights_of : List Known → ℕ
 sights_of = sum_by (λ (s : Known). s.tally.sights)
+
+-- a seat that halted says why
+abbrev pub SaysWhy : Known → Type 0
+SaysWhy s = 0 < s.tally.halts → s.why ≢ None
+
+-- some seat of these halted, and says why
+abbrev pub SomeSaysWhy : List Known → Type 0
+SomeSaysWhy ss = (s : Known) × Contains ss s × (s.why ≢ None)

@@ -1,5 +1,5 @@
 ghost use Rattle.std.specs.Prelude.{◌≡◌, ◌+◌, ◌%◌, ◌^◌, ◌<◌, ◌≤◌, length, min, IfOk, All};
-ghost use Rattle.open_ledger.specs.Seat.{fresh, ups_of, downs_of, granted_of, refused_of, halts_of, sights_of};
+ghost use Rattle.open_ledger.specs.Seat.{fresh, ups_of, downs_of, granted_of, refused_of, halts_of, sights_of, SaysWhy, SomeSaysWhy};
 ghost use Rattle.open_ledger.specs.Joined.{joined};
 
 use crate::place::Place;
@@ -61,7 +61,7 @@ impl Ledger {
     /// What is open and what was claimed, where all seats are handed back: the open nodes are one
     /// and all ups less all downs, modulo 2^64, and none where each seat's last step on the open word
     /// saw 0; the claims granted are as many as the budget has, if there were so many. Where a seat
-    /// saw a halt, some seat halted.
+    /// saw a halt, some seat halted and says why.
     pub fn close(self, seats: Vec<LedgerSeat>) -> Totals
         requires own { All (λ s. s.ledger ≡ self.ledger) seats.items }
         requires all { length seats.items ≡ self.seats }
@@ -70,6 +70,7 @@ impl Ledger {
         ensures claimed { result.claimed ≡ granted_of seats.items }
         ensures within { result.claimed ≡ min self.budget (granted_of seats.items + refused_of seats.items) }
         ensures halted { 0 < sights_of seats.items → 0 < halts_of seats.items }
+        ensures why { 0 < sights_of seats.items → SomeSaysWhy seats.items }
     {
         let Ledger {
             mut own,
@@ -89,6 +90,7 @@ fn take_all(own: &mut Place, seats: Vec<LedgerSeat>)
     requires { All (λ s. s.ledger ≡ own.old.ledger) seats.items }
     ensures joined { own.new.tally ≡ joined own.old.tally seats.items }
     ensures parts { own.new.tally.parts ≡ own.old.tally.parts + length seats.items }
+    ensures why { All SaysWhy seats.items }
 {
     for seat in seats {
         own.take_in(seat.under());

@@ -1,6 +1,6 @@
 ghost use Rattle.std.specs.Prelude.{◌≡◌, ◌+◌, ◌<◌, ◌≤◌, ◌==◌, ◌^◌, if◌then◌else◌, None, Some, IsTrue};
 ghost use Rattle.open_ledger.specs.Tally.{newcomer, with_busy, with_down, with_grant, with_halt, with_refusal, with_sights, with_up};
-ghost use Rattle.open_ledger.specs.Seat.{counting};
+ghost use Rattle.open_ledger.specs.Seat.{counting, SaysWhy};
 
 use crate::place::Place;
 use crate::why::Why;
@@ -15,14 +15,15 @@ pub struct LedgerSeat {
 }
 
 impl Model for LedgerSeat {
-    ghost use Rattle.std.specs.Prelude.{◌≡◌};
+    ghost use Rattle.std.specs.Prelude.{◌≡◌, ◌≢◌, ◌<◌, None};
     ghost use Rattle.open_ledger.specs.Seat.{Known};
 
     ghost Value = { Known };
 
     ghost view = { λ s. record { ledger = s.place.ledger; tally = s.place.tally; why = s.why } };
 
-    ghost invariant = { λ s. (s.place.tally.parts ≡ 1) × (s.place.tally.budget ≡ s.budget) };
+    ghost invariant = { λ s. (s.place.tally.parts ≡ 1) × (s.place.tally.budget ≡ s.budget)
+        × (0 < s.place.tally.halts → s.why ≢ None) };
 }
 
 impl LedgerSeat {
@@ -43,6 +44,7 @@ impl LedgerSeat {
     // The place under the seat.
     pub(crate) fn under(self) -> Place
         ensures one { result.tally.parts ≡ 1 }
+        ensures why { SaysWhy self }
         ensures ledger { result.ledger ≡ self.ledger }
         ensures tally { result.tally ≡ self.tally }
     {

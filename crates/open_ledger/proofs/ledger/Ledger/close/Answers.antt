@@ -1,7 +1,7 @@
 use Rattle.std.proofs.Common.{rules, sym, subst}
 use Rattle.open_ledger.specs.Rule.{IsClaimWord}
 use Rattle.open_ledger.specs.Seat.{granted_of, refused_of}
-use Rattle.open_ledger.proofs.Together.{Whole, whole, whole_busy, busy_all, opened, claimed, halted, idle}
+use Rattle.open_ledger.proofs.Together.{Whole, whole, whole_busy, busy_all, opened, claimed, halted, idle, someone}
 use Rattle.open_ledger.proofs.ledger.Ledger.close.Goals as goal
 use Rattle.open_ledger.proofs.ledger.Ledger.close.Goals.{After-take_all, After-see_claims}
 
@@ -34,3 +34,7 @@ returns-clause-within c = let know = counted (goal.at.returns-clause-within c).A
 pub returns-clause-halted : goal.returns-clause-halted
 returns-clause-halted c = halted c.self.inside.budget c.see_halt.result c.args.seats.items c.see_claims.new.self.tally
     (subst (Whole c.self.inside.budget c.args.seats.items) (sym c.see_claims.ensures.tally) (looked (goal.at.returns-clause-halted c).After-see_claims)) c.see_halt.ensures.whole
+
+pub returns-clause-why : goal.returns-clause-why
+returns-clause-why c = λ some. someone c.args.seats.items c.take_all.ensures.why (halted c.self.inside.budget c.see_halt.result c.args.seats.items c.see_claims.new.self.tally
+    (subst (Whole c.self.inside.budget c.args.seats.items) (sym c.see_claims.ensures.tally) (looked (goal.at.returns-clause-why c).After-see_claims)) c.see_halt.ensures.whole some)
