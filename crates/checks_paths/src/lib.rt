@@ -1,6 +1,8 @@
-//! The tests of `short_paths`, `special_dist` and `flow_cuts`.
+//! The tests of `short_paths`, `few_terminals`, `special_dist` and `flow_cuts`.
 #![tactic(auto)]
 
+#[cfg(test)]
+mod few_terminals_tests;
 #[cfg(test)]
 mod flow_cuts_tests;
 #[cfg(test)]

@@ -1,0 +1,10 @@
+pub mod Tables
+pub mod Bits
+pub mod Going
+pub mod Counting
+pub mod Meanings
+pub mod Marking
+pub mod Offering
+pub mod Parts
+pub mod Finishing
+pub mod Optimal

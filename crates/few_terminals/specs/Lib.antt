@@ -1,0 +1,7 @@
+pub mod Fault
+pub mod Under
+pub mod Terminals
+pub mod Entries
+pub mod Rows
+pub mod Filling
+pub mod Back

@@ -1,0 +1,24 @@
+ghost use Rattle.std.specs.Prelude.{◌≡◌, []};
+
+use std::alloc::Global;
+
+// By vertex, the least that a tree from there costs that reaches the row's set, 2^63 where nothing
+// is known, and the place of its entry.
+#[derive(Drop)]
+pub struct Row {
+    pub costs: Vec<u64>,
+    pub places: Vec<u32>,
+}
+
+impl Row {
+    // What stands for the row of the empty set, which has none.
+    pub fn none(alloc: Global) -> Row
+        ensures costs { result.costs.items ≡ [] }
+        ensures places { result.places.items ≡ [] }
+    {
+        Row {
+            costs: Vec::new(alloc),
+            places: Vec::new(alloc),
+        }
+    }
+}
