@@ -1,0 +1,121 @@
+-- What joining one by one ends with: all are joined, or there is no tree.
+use Rattle.std.proofs.Common.{◌≡◌, ℕ, ◌^◌, ◌≤◌, List, [], ◌∷◌, Option, Some, None, refl, sym, ap, subst, ◌∙◌, arith}
+use Rattle.std.specs.Prelude.{All, IfSome, IsTrue, IsFalse}
+use Rattle.std.specs.declared.cmp.Reverse.{Reverse}
+use Rattle.std.proofs.lemmas.Bool.{false≢true}
+use Rattle.std.proofs.lemmas.List.Elements.{All-nil}
+use Rattle.st_model.specs.declared.tree.Tree.{Tree}
+use Rattle.st_model.specs.Arborescence.{IsArborescence, IsTree, arc_cost, cost, reached}
+use Rattle.st_model.specs.Branch.{AreThose, Belongs, IsBranch, all_trees}
+use Rattle.st_model.specs.Lists.{has, total}
+use Rattle.st_model.specs.Network.{Network, IsInstance, IsVertex, is_required}
+use Rattle.st_model.specs.Terminals.{IsTerminal, NobodyPays, terminal_count}
+use Rattle.st_model.proofs.Branches.{IsVertexSet-nil, IsVertexSet-member}
+use Rattle.st_model.proofs.Distinct.{has-cons_head, has-cons_tail}
+use Rattle.st_model.proofs.Members.{has-one}
+use Rattle.st_model.proofs.ThinGrowth.{has-reached_from}
+use Rattle.graph_store.specs.Graph.{Graph, IsGraph, is_in}
+use Rattle.graph_store.proofs.PutLinks.{in_range}
+use Rattle.short_paths.specs.Laid.{spent}
+use Rattle.tree_heuristic.specs.Reaching.{HasNoTree, ReachesPresent}
+use Rattle.twice_tree.specs.declared.cells.Cells.{Cells}
+use Rattle.twice_tree.specs.declared.joining.Joining.{Joining}
+use Rattle.twice_tree.specs.declared.offers.Offer.{Offer}
+use Rattle.twice_tree.specs.Cells.{AreCells}
+use Rattle.twice_tree.specs.Joining.{IsJoining}
+use Rattle.twice_tree.specs.Twice.{AreJoined, alone, next, IsWithinTwice}
+use Rattle.twice_tree.proofs.Joined.{none_is_nearer}
+use Rattle.twice_tree.proofs.Reached.{no_tree, free_cost, within_twice, tree_present, no_terminal}
+
+joined_first : (I : Network) (first : ℕ) (order : List ℕ) (paid : ℕ) → AreJoined I first order paid → IsTrue (has order first)
+joined_first I first order paid alone = has-cons_head [] first first refl
+joined_first I first order paid (next {joined} {spent = before} {k} {d} way new out near) = has-cons_tail joined k first (joined_first I first joined before way)
+
+-- what is listed is a terminal
+pub those_terminal : (I : Network) (terminals : List ℕ) (v : ℕ) → AreThose (is_required I) I.n terminals → IsTrue (has terminals v) → IsTerminal I v
+those_terminal I terminals v those there =
+    let vertex = IsVertexSet-member I.n terminals v those.set there in
+    record { vertex = vertex; required = sym (those.same v vertex) ∙ there }
+
+module _ (I : Network) (c : Cells) (j : Joining) (terminals : List ℕ) (is : IsJoining I c j) (those : AreThose (is_required I) I.n terminals) where
+  ordered : ((v : ℕ) → IsTrue (has terminals v) → IsTrue (has j.joined.members v)) → (v : ℕ) → IsTerminal I v → IsTrue (has is.order v)
+  ordered all v t = sym (is.same v) ∙ all v (those.same v t.vertex ∙ t.required)
+
+  -- all are joined
+  pub laid_tree : ((v : ℕ) → IsTrue (has terminals v) → IsTrue (has j.joined.members v)) → (t : Tree) → IsArborescence I t → ((v : ℕ) → has (reached t) v ≡ has j.laid.reached.members v) → IsTree I t
+  laid_tree all t arborescence same = record {
+    arborescence = arborescence;
+    required = λ v vertex required. same v ∙ is.reached v (ordered all v (record { vertex = vertex; required = required }));
+  }
+
+  pub laid_twice : ((v : ℕ) → IsTrue (has terminals v) → IsTrue (has j.joined.members v)) → IsInstance I → NobodyPays I → (t new : Tree) → total (arc_cost I) t.arcs ≡ spent I j.laid → cost I new ≤ cost I t → IsWithinTwice I new
+  laid_twice all instance free t new sum less =
+      let whole = free_cost I t free in
+      let cheap = is.cheap in
+      within_twice I new is.first is.order is.paid instance is.terminal is.are_joined (ordered all) (omega (arith, whole, cheap, sum, less))
+
+  -- or one isn't, and no link leads on
+  pub left_alone : AreCells I c → j.offers ≡ [] → (q : ℕ) → IsTrue (has terminals q) → IsFalse (has j.joined.members q) → (t : Tree) → IsTree I t → ⊥
+  left_alone cells none q listed out t tree =
+      let low = subst (All (λ (o : Reverse Offer). 2 ^ 64 ≤ o.0.cost)) (sym none) (All-nil (λ (o : Reverse Offer). 2 ^ 64 ≤ o.0.cost)) in
+      let near = none_is_nearer I c is.first is.order is.paid j.offers (2 ^ 64) cells.instance cells is.terminal is.are_joined is.offered (omega arith) low in
+      no_tree I t is.order is.first q cells.instance is.terminal (joined_first I is.first is.order is.paid is.are_joined) (those_terminal I terminals q those listed) (sym (is.same q) ∙ out) near tree
+
+-- ---- what is found
+
+pub found_present : (g : Graph) (v : ℕ) (found : Option Tree) → IsGraph g → IsTerminal g.network v → IsTrue (is_in g v) → IfSome found (IsTree g.network) → IfSome found (ReachesPresent g)
+found_present g v None graph terminal here tree = tt
+found_present g v (Some t) graph terminal here tree = tree_present g t v graph tree terminal here
+
+pub found_lone : (I : Network) (found : Option Tree) → 1 ≤ terminal_count I → IfSome found (λ t. terminal_count I ≡ 0 → t.arcs ≡ [])
+found_lone I None some = tt
+found_lone I (Some t) some = λ none. absurd (omega (arith, none, some))
+
+-- ---- a vertex alone
+
+lone_is : (t : Tree) → t.arcs ≡ [] → record { start = t.start; arcs = [] } ≡ t
+lone_is t none = ap (λ (arcs : List (ℕ × ℕ)). record { start = t.start; arcs = arcs }) (sym none)
+
+lone_tree : (g : Graph) (start : ℕ) → IsGraph g → ((v : ℕ) → IsTerminal g.network v → ⊥) → IsTrue (is_in g start) → IsTree g.network (record { start = start; arcs = [] })
+lone_tree g start graph none here = record {
+  arborescence = record { start = in_range g start graph here; grows = tt };
+  required = λ v vertex required. absurd (none v (record { vertex = vertex; required = required }));
+}
+
+lone_present : (g : Graph) (start : ℕ) → IsTrue (is_in g start) → ReachesPresent g (record { start = start; arcs = [] })
+lone_present g start here v there = subst (λ (w : ℕ). IsTrue (is_in g w)) (has-one start v there) here
+
+module _ (g : Graph) (graph : IsGraph g) (none : (v : ℕ) → IsTerminal g.network v → ⊥) where
+  pub lone_found_tree : (found : Option Tree) → IfSome found (λ t. IsTrue (is_in g t.start)) → IfSome found (λ t. t.arcs ≡ []) → IfSome found (IsTree g.network)
+  lone_found_tree None here lone = tt
+  lone_found_tree (Some t) here lone = subst (IsTree g.network) (lone_is t lone) (lone_tree g t.start graph none here)
+
+  pub lone_found_present : (found : Option Tree) → IfSome found (λ t. IsTrue (is_in g t.start)) → IfSome found (λ t. t.arcs ≡ []) → IfSome found (ReachesPresent g)
+  lone_found_present None here lone = tt
+  lone_found_present (Some t) here lone = subst (ReachesPresent g) (lone_is t lone) (lone_present g t.start here)
+
+  pub lone_found_twice : (found : Option Tree) → IfSome found (IsWithinTwice g.network)
+  lone_found_twice None = tt
+  lone_found_twice (Some t) = λ s tree some. absurd (let zero_of = no_terminal g.network none in omega (arith, zero_of, some))
+
+pub lone_found_lone : (I : Network) (found : Option Tree) → IfSome found (λ t. t.arcs ≡ []) → IfSome found (λ t. terminal_count I ≡ 0 → t.arcs ≡ [])
+lone_found_lone I None lone = tt
+lone_found_lone I (Some t) lone = λ none. lone
+
+-- where nobody is present
+pub none_present : (g : Graph) → ((v : ℕ) → IsVertex g.network.n v → IsFalse (is_in g v)) → HasNoTree g all_trees
+none_present g none t tree belongs present =
+    let here = present t.start (has-reached_from (t.start ∷ []) t.arcs t.start (has-cons_head [] t.start t.start refl)) in
+    false≢true (sym (none t.start tree.arborescence.start) ∙ here)
+
+-- ---- the branch of all trees
+
+pub everything : (I : Network) → IsBranch I all_trees
+everything I = record { inside = IsVertexSet-nil I.n; outside = IsVertexSet-nil I.n; apart = λ v there. absurd (false≢true there) }
+
+pub belongs_to_all : (t : Tree) → Belongs all_trees t
+belongs_to_all t = record { inside = λ v there. absurd (false≢true there); outside = λ v there. absurd (false≢true there) }
+
+-- where all that are listed are in an empty set, there is none
+pub none_listed : (I : Network) (terminals set : List ℕ) → AreThose (is_required I) I.n terminals → set ≡ [] → ((v : ℕ) → IsTrue (has terminals v) → IsTrue (has set v)) → (v : ℕ) → IsTerminal I v → ⊥
+none_listed I terminals set those empty all v terminal = false≢true (ap (λ (xs : List ℕ). has xs v) (sym empty) ∙ all v (those.same v terminal.vertex ∙ terminal.required))

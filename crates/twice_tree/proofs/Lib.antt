@@ -1,0 +1,13 @@
+pub mod Walks
+pub mod Gaps
+pub mod Tours
+pub mod Within
+pub mod Crossing
+pub mod Nearest
+pub mod Ways
+pub mod Cheapest
+pub mod Listed
+pub mod Opened
+pub mod Joined
+pub mod Reached
+pub mod Ended
