@@ -1,4 +1,6 @@
-use command_line::{CheckWords, Cmd, DrawWords, SolveWords, WordFault, read_words};
+use command_line::{
+    CheckWords, Cmd, DrawWords, FewWords, SolveWords, VerifyWords, WordFault, read_words,
+};
 use std::alloc::{AllocError, Global};
 use std::test::Fail;
 
@@ -89,7 +91,7 @@ const TRIED: [(&str, [u32; 4], u32); 4] = [
 ];
 
 // Lines that mean no command.
-const REFUSED: [&str; 41] = [
+const REFUSED: [&str; 48] = [
     "",
     "solve",
     "solve a.stp b.stp",
@@ -131,6 +133,13 @@ const REFUSED: [&str; 41] = [
     "trial 1 3 3 2 --workers 0",
     "trial 1 3 3 2 --workers 65",
     "trial 1 3 3 2 --workers 2 --workers 2",
+    "few",
+    "few a.stp b.stp",
+    "few a.stp --nodes 1",
+    "few -a.stp",
+    "verify a.stp",
+    "verify a.stp b.sol c.sol",
+    "verify a.stp -b.sol",
 ];
 
 #[test]
@@ -148,6 +157,23 @@ fn reads_what_is_to_be_checked(rt: HostRuntime) -> Result<(), Fail> {
         log_name: "a.log",
     };
     assert!(rt; means(rt.alloc(), "check a.stp a.log", Cmd::Check(expected))?);
+    Ok(())
+}
+
+#[test]
+fn reads_whose_best_tree_is_wanted(rt: HostRuntime) -> Result<(), Fail> {
+    let expected = FewWords { file: "a.stp" };
+    assert!(rt; means(rt.alloc(), "few a.stp", Cmd::Few(expected))?);
+    Ok(())
+}
+
+#[test]
+fn reads_what_is_to_be_verified(rt: HostRuntime) -> Result<(), Fail> {
+    let expected = VerifyWords {
+        file: "a.stp",
+        solution: "a.sol",
+    };
+    assert!(rt; means(rt.alloc(), "verify a.stp a.sol", Cmd::Verify(expected))?);
     Ok(())
 }
 

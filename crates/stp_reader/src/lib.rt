@@ -26,11 +26,14 @@ mod terminals;
 mod words;
 
 pub use fault::{ReadError, StpFault};
+pub use keyword::is_word;
 pub use law::refused_exactly;
+pub use lines::{next_piece, without_cr};
 use read::file_in;
 pub use reason::Reason;
 use st_model::Instance;
 use std::alloc::Global;
+pub use words::{has_magic, is_remark, next_word};
 
 /// Reads an STP file, all of the bytes. Memory grows with the lines that were read and the number
 /// of vertices that they state.

@@ -1,0 +1,15 @@
+pub mod Agreeing
+pub mod WholeTexts
+pub mod Claims
+pub mod OneClaim
+pub mod EdgesOnce
+pub mod Lengths
+pub mod TreeFits
+pub mod MadeTree
+pub mod WalkedEdges
+pub mod Repeating
+pub mod FirstFault
+pub mod Testing
+pub mod WrittenWords
+pub mod WrittenLines
+pub mod WrittenTrees

@@ -1,0 +1,14 @@
+use Rattle.std.proofs.Common.{◌≡◌, ◌+◌, ◌≤◌, length}
+use Rattle.stp_reader.specs.Lines.{word_lines}
+use Rattle.solution_reader.specs.Judging.{stated_from, stated}
+use Rattle.solution_reader.specs.Seen.{place_of}
+use Rattle.solution_reader.proofs.read.whole_in.Given as goal
+
+abbrev pub invariant-loop-piece : goal.invariant-loop-piece
+invariant-loop-piece l = record {
+  decides : stated_from l.number (place_of l.stage) (word_lines l.rest) ≡ stated l.bytes;
+  few : l.number + length l.rest ≤ length l.bytes + 1;
+}
+
+abbrev pub decreases-loop-piece : goal.decreases-loop-piece
+decreases-loop-piece l = length l.rest

@@ -1,0 +1,14 @@
+pub mod Reason
+pub mod Words
+pub mod Forms
+pub mod Numbers
+pub mod Place
+pub mod Reasons
+pub mod Claim
+pub mod Reads
+pub mod Laws
+pub mod Judging
+pub mod Seen
+pub mod Stated
+pub mod Fitting
+pub mod Written

@@ -1,0 +1,19 @@
+ghost use Rattle.std.specs.Prelude.{ℕ, List};
+ghost use Rattle.solution_reader.specs.Laws.{RefusedExactly};
+ghost use Rattle.solution_reader.specs.Stated.{StatedHasNoFault};
+ghost use Rattle.solution_reader.specs.Written.{WrittenIsRead};
+
+/// Bytes make one claim, or are refused at one line for one reason.
+pub fn solutions_refused_exactly()
+    ensures { (bytes : List ℕ) → RefusedExactly bytes }
+{}
+
+/// A claim that is a tree of an instance, at the cost that it states, has no fault.
+pub fn stated_has_no_fault()
+    ensures { StatedHasNoFault }
+{}
+
+/// The solution text of a tree of an instance at its cost is read, and is judged as this tree.
+pub fn written_solutions_are_read()
+    ensures { WrittenIsRead }
+{}
