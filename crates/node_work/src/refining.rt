@@ -17,6 +17,12 @@ use std::thread::Threads;
 // How many links are looked at for the turns of one packing, about.
 const LINKS: u64 = 400_000;
 
+// From how many links for each vertex on a network is dense, and after how many turns without a gain no more
+// follow there.
+const DENSE: u64 = 4;
+
+const PATIENCE: u64 = 3;
+
 // How many links there are for each thread, at least: to start one takes as long as an attempt over few.
 const LINKS_FOR_A_THREAD: usize = 100;
 
@@ -88,7 +94,7 @@ pub fn refine<R: Threads + Sync>(
         tree: &tree,
         least,
     };
-    let patience = guide.effort.patience();
+    let patience = patience_for(whole, guide.effort);
     let mut refined = extension;
     let mut idle: u64 = 0;
     for _ in 0..turns_for(whole, turns) / guide.effort.attempts() {
@@ -172,6 +178,17 @@ fn heaviest(
 fn turns_for(whole: &Whole, turns: u64) -> u64 {
     let links = whole.instance.links().len() as u64;
     turns.min(LINKS / links.max(1))
+}
+
+// After how many turns in a row without a gain refining ends: soon in a dense network, where cuts that are drawn
+// again weigh the same once they weigh what they can.
+fn patience_for(whole: &Whole, effort: Effort) -> u64 {
+    let (links, vertices) = (whole.instance.links().len(), whole.instance.vertices());
+    if links as u64 >= u64::from(vertices) * DENSE {
+        effort.patience().min(PATIENCE)
+    } else {
+        effort.patience()
+    }
 }
 
 // In how many threads attempts are made of so many: fewer, where there are few links.
