@@ -1,5 +1,5 @@
 -- How a worker's steps go on from what it did so far.
-use Rattle.std.proofs.Common.{◌≡◌, ℕ, Bool, true, subst, ◌+◌, ◌<◌, ◌≤◌, List, [], ◌∷◌, ◌++◌, length, append-nil, Option, None, refl, sym, ap, ◌∙◌, length-append, arith}
+use Rattle.std.proofs.Common.{◌≡◌, ℕ, Bool, true, subst, ◌+◌, ◌<◌, ◌≤◌, List, [], ◌∷◌, ◌++◌, length, append-nil, Option, Some, None, refl, sym, ap, ◌∙◌, length-append, arith}
 use Rattle.std.specs.Prelude.{map, if◌then◌else◌}
 use Rattle.std.specs.List.{flat_map, sum_by}
 use Rattle.std.proofs.lemmas.List.{map-append}
@@ -15,6 +15,7 @@ use Rattle.incumbent.proofs.Least.{least_at_start}
 use Rattle.incumbent.specs.Seat.{Known as Sight, fresh as new_sight, having_seen}
 use Rattle.open_ledger.specs.Seat.{Known as Account, counting, fresh as new_account}
 use Rattle.open_ledger.specs.Tally.{with_grant, with_refusal, with_sights}
+use Rattle.open_ledger.specs.declared.why.Why.TheVariants.{Memory, Refused}
 use Rattle.node_pool.specs.Pool.{Station, Moves, gave, took}
 use Rattle.search_core.specs.declared.done.Done.{Done}
 use Rattle.search_core.specs.declared.done.Done.TheVariants.{Split, Close}
@@ -51,6 +52,7 @@ looked I R start seat workers p q u u' s next k held l (tasks, h) = (
       downs = l.downs ∙ h.counts.downs;
       granted = l.granted ∙ h.counts.granted;
       halted = λ some. let had = h.counts.halted (omega (arith, some, l.halts)) in omega (arith, had, l.refused);
+      spared = λ e. h.counts.spared (sym l.why ∙ e);
     };
   },
 )
@@ -58,9 +60,9 @@ looked I R start seat workers p q u u' s next k held l (tasks, h) = (
 -- a claim was refused, and the worker halted
 pub refused : (I : Network) (R : Branch) (start seat workers : ℕ) (p q : Station) (u u' : Account) (s : Sight) (next : ℕ) (k : Work) (held : List Node) → u'.tally.ups ≡ u.tally.ups
     → u'.tally.downs ≡ u.tally.downs
-    → u'.tally.granted ≡ u.tally.granted → 0 < u'.tally.refused
+    → u'.tally.granted ≡ u.tally.granted → 0 < u'.tally.refused → u'.why ≡ Some Refused
     → HasWorked I R start seat workers p (as_of q u s next k) held → HasWorked I R start seat workers p (as_of q u' s next k) held
-refused I R start seat workers p q u u' s next k held ups downs granted some (tasks, h) = (
+refused I R start seat workers p q u u' s next k held ups downs granted some why (tasks, h) = (
   tasks,
   record {
     records = h.records;
@@ -69,9 +71,29 @@ refused I R start seat workers p q u u' s next k held ups downs granted some (ta
     nodes = h.nodes;
     drawn = h.drawn;
     seen = h.seen;
-    counts = record { ups = ups ∙ h.counts.ups; downs = downs ∙ h.counts.downs; granted = granted ∙ h.counts.granted; halted = λ _. some };
+    counts = record { ups = ups ∙ h.counts.ups; downs = downs ∙ h.counts.downs; granted = granted ∙ h.counts.granted; halted = λ _. some; spared = λ e. let no : Some Refused ≡ Some Memory = sym why ∙ e in cc };
   },
 )
+
+-- looks at the pool that found nothing change nothing that counts
+pub found_none : (I : Network) (R : Branch) (start seat workers : ℕ) (p q q' : Station) (u : Account) (s : Sight) (next : ℕ) (k : Work) (held : List Node) → Moves q q' [] []
+    → HasWorked I R start seat workers p (as_of q u s next k) held → HasWorked I R start seat workers p (as_of q' u s next k) held
+found_none I R start seat workers p q q' u s next k held moves (tasks, h) = (
+  tasks,
+  record {
+    records = h.records;
+    tasks_right = h.tasks_right;
+    held_sound = h.held_sound;
+    nodes = λ w. balance (gave w q) (gave w q') (gave w p) (took w q) (took w q') (took w p) (sum_by w (map node_of tasks)) (sum_by w (flat_map halves_of tasks)) (sum_by w held) (h.nodes w)
+        (moves w);
+    drawn = h.drawn;
+    seen = h.seen;
+    counts = h.counts;
+  },
+)
+  where
+    balance : (gq gq' gp tq tq' tp S F n : ℕ) → gq + tp + S + n ≡ gp + tq + F → gq' + tq + 0 ≡ gq + tq' + 0 → gq' + tp + S + n ≡ gp + tq' + F
+    balance gq gq' gp tq tq' tp S F n a b = omega arith
 
 -- a node that was taken is in hand
 pub took_up : (I : Network) (R : Branch) (start seat workers : ℕ) (p q q' : Station) (u : Account) (s : Sight) (next : ℕ) (k : Work) (N : Node) → IsSound I R N → Moves q q' [] (N ∷ [])
@@ -134,6 +156,7 @@ worked I R start seat workers p q u u' s next k N m held d claim on (tasks, h) =
           downs = counted closes k.done.items m.work.done.items d u.tally.downs u'.tally.downs m.account.tally.downs on.records h.counts.downs claim.downs on.downs;
           granted = longer k.done.items m.work.done.items d u.tally.granted u'.tally.granted m.account.tally.granted on.records h.counts.granted claim.granted on.granted;
           halted = λ some. let had = h.counts.halted (omega (arith, some, on.halts, claim.halts)) in omega (arith, had, on.refused, claim.refused);
+          spared = λ e. h.counts.spared (sym claim.why ∙ (sym on.why ∙ e));
         };
       },
     )
@@ -173,13 +196,14 @@ begun I R start seat workers next r p u s s' k some first account sight low look
           last = now ∙ sym last;
           low = subst (λ (xs : List ℕ). s'.lowest ≤ least_of start xs) (sym no_offer) (omega (arith, now, low, at_start));
           offered = subst (λ (xs : List ℕ). IsOffered I R start k.best xs) (sym no_offer)
-              (subst (λ (t : Option Tree). IsOffered I R start t []) (sym no_tree) (record { found = tt; least = refl }));
+              (subst (λ (t : Option Tree). IsOffered I R start t []) (sym no_tree) (record { found = tt; least = refl; none = λ _. refl; some = λ _. refl }));
         };
         counts = subst (λ (ds : List Done). CountsOf ds u) (sym none) (record {
           ups = ap (λ (v : Account). v.tally.ups) account;
           downs = ap (λ (v : Account). v.tally.downs) account;
           granted = ap (λ (v : Account). v.tally.granted) account;
           halted = λ lt. let h : u.tally.halts ≡ 0 = ap (λ (v : Account). v.tally.halts) account in absurd (omega (arith, lt, h));
+          spared = λ e. let h : u.why ≡ None = ap (λ (v : Account). v.why) account in let no : Some Memory ≡ None = sym e ∙ h in cc;
         });
       },
     )
@@ -208,6 +232,7 @@ ran_so I R start seat workers p q u s next k left end segment is few ending (tas
         downs = h.counts.downs;
         granted = h.counts.granted;
         halted = h.counts.halted;
+        spared = h.counts.spared;
         ending = ending;
       },
     )
@@ -218,7 +243,7 @@ pub granted_so : (u u' v : Account) (more : ℕ) (b : Bool) → u' ≡ counting 
 granted_so u u' v more b looks is_true claimed =
     let is : v ≡ counting u' (with_grant u'.tally) = subst (λ (c : Bool). v ≡ counting u' (if c then with_grant u'.tally else with_refusal u'.tally)) is_true claimed in
     let all : v ≡ counting (counting u (with_sights u.tally more)) (with_grant (with_sights u.tally more)) = subst (λ (x : Account). v ≡ counting x (with_grant x.tally)) looks is in
-    subst (IsGranted u) (sym all) (record { ups = refl; downs = refl; granted = refl; refused = refl; halts = refl })
+    subst (IsGranted u) (sym all) (record { ups = refl; downs = refl; granted = refl; refused = refl; halts = refl; why = refl })
 
 pub same_worker : {Q : Type 0} (a b c : Worker Q) → SameWorker a b → SameWorker b c → SameWorker a c
 same_worker a b c h k = record {

@@ -1,5 +1,5 @@
 -- What a team found: trees that are cheaper than the start, of which the incumbent is the least.
-use Rattle.std.proofs.Common.{◌≡◌, ℕ, ◌+◌, ◌<◌, ◌≤◌, min, List, [], ◌∷◌, ◌++◌, Option, Some, None, refl, arith}
+use Rattle.std.proofs.Common.{◌≡◌, ℕ, ◌+◌, ◌<◌, ◌≤◌, min, List, [], ◌∷◌, Option, Some, None, refl, arith}
 use Rattle.std.specs.Prelude.{All, IfSome}
 use Rattle.std.proofs.lemmas.List.Elements.{All-cons, All-nil, All-weaker}
 use Rattle.st_model.specs.declared.branch.Branch.{Branch}
@@ -8,19 +8,12 @@ use Rattle.st_model.specs.Network.{Network}
 use Rattle.st_model.specs.Arborescence.{IsTree, cost}
 use Rattle.st_model.specs.Branch.{Belongs}
 use Rattle.incumbent.specs.Least.{least_of}
+use Rattle.incumbent.proofs.Least.{least_append, least_at_start}
 use Rattle.incumbent.specs.Seat.{all_offers}
 use Rattle.search_core.specs.declared.gathered.Segment.{Segment}
 use Rattle.search_core.specs.Complete.{least_found, less_found}
 use Rattle.worker_loop.specs.Run.{IsFound}
 use Rattle.worker_loop.specs.Team.{HaveRun, Member, segments_of, sights}
-
-least_low : (start : ℕ) (xs : List ℕ) → least_of start xs ≤ start
-least_low start [] = omega arith
-least_low start (x ∷ xs) = omega (arith, least_low start xs)
-
-least_joined : (start : ℕ) (xs ys : List ℕ) → least_of start (xs ++ ys) ≡ min (least_of start xs) (least_of start ys)
-least_joined start [] ys = omega (arith, least_low start ys)
-least_joined start (x ∷ xs) ys = omega (arith, least_joined start xs ys)
 
 -- the less of what is no more than the start
 less_low : (I : Network) (best : Option Tree) (start least : ℕ) → least ≤ start → less_found I best least ≡ min (less_found I best start) least
@@ -53,10 +46,10 @@ module _ (I : Network) (R : Branch) (start workers : ℕ) where
       let rest = least_so (seat + 1) Ms ran.1 in
       omega (
         arith,
-        least_joined start M.sight.offers (all_offers (sights Ms)),
+        least_append start M.sight.offers (all_offers (sights Ms)),
         ran.0.1.offered.least,
         rest,
-        less_low I M.segment.best start (least_found I start (segments_of Ms)) (omega (arith, rest, least_low start (all_offers (sights Ms)))),
+        less_low I M.segment.best start (least_found I start (segments_of Ms)) (omega (arith, rest, least_at_start start (all_offers (sights Ms)))),
       )
 
   all_found : (seat : ℕ) (team : List Member) → HaveRun I R start workers seat team → All (FindsFound I R start) (segments_of team)

@@ -1,5 +1,5 @@
 -- What a worker does with a node that it claimed.
-use Rattle.std.proofs.Common.{◌≡◌, ℕ, Bool, true, false, ◌+◌, ◌<◌, ◌≤◌, min, List, [], ◌∷◌, ◌++◌, Option, Some, None, ◌⊎◌, inl, inr, refl, sym, ap, ◌∙◌, subst, arith}
+use Rattle.std.proofs.Common.{◌≡◌, ℕ, Bool, true, false, ◌+◌, ◌<◌, ◌≤◌, min, List, [], ◌∷◌, ◌++◌, length, length-append, Option, Some, None, ◌⊎◌, inl, inr, refl, sym, ap, ◌∙◌, subst, arith}
 use Rattle.std.specs.Prelude.{IfSome}
 use Rattle.std.specs.List.{sum_by}
 use Rattle.std.proofs.lemmas.List.Elements.{All-cons, All-nil}
@@ -65,9 +65,17 @@ seen_better I R start r N p s best seen seen' sound low b under h =
     record {
       last = refl;
       low = lowest _ (least_of start s.offers) p.price start r seen' s.lowest pushed first under b.cheaper low h.low;
-      offered = record { found = found; least = same_least _ (least_of start s.offers) p.price start r _ s.lowest pushed first b.cheaper low h.low b.is_price };
+      offered = record {
+        found = found;
+        least = same_least _ (least_of start s.offers) p.price start r _ s.lowest pushed first b.cheaper low h.low b.is_price;
+        none = λ nothing. absurd (pushed_some s.offers p.price nothing);
+        some = λ no_tree. let no : Some p.tree ≡ None = no_tree in absurd cc;
+      };
     }
   where
+    pushed_some : (xs : List ℕ) (x : ℕ) → xs ++ x ∷ [] ≡ [] → ⊥
+    pushed_some xs x e = let long : length (xs ++ x ∷ []) ≡ 0 = ap (λ (ys : List ℕ). length ys) e in omega (arith, long, length-append xs (x ∷ []))
+
     lowest : (after before price start r seen' low : ℕ) → after ≡ min before (min price start) → before ≤ start → seen' ≤ min r price → price < r → r ≤ low → low ≤ before → seen' ≤ after
     lowest after before price start r seen' low a b c d e f = omega arith
 
@@ -127,6 +135,7 @@ closed_on I R start seat workers r N q u s s' next k k' m better P sound low is_
       granted = ap (λ (v : Account). v.tally.granted) closed.account;
       refused = ap (λ (v : Account). v.tally.refused) closed.account;
       halts = ap (λ (v : Account). v.tally.halts) closed.account;
+      why = ap (λ (v : Account). v.why) closed.account;
     }
   where
     balance : (g g' t t' : ℕ) → g' ≡ g → t' ≡ t → g' + t + 0 ≡ g + t' + 0
@@ -226,6 +235,7 @@ split_on I R start seat workers r N M half v deleted q u s s' next k k' m better
       granted = ap (λ (v : Account). v.tally.granted) halved.account;
       refused = ap (λ (v : Account). v.tally.refused) halved.account;
       halts = ap (λ (v : Account). v.tally.halts) halved.account;
+      why = ap (λ (v : Account). v.why) halved.account;
     }
   where
     balance : (g g' t t' here half other inner outer both : ℕ) → g' + t + 0 ≡ g + t' + (0 + other) → here ≡ 0 + half → half + other ≡ inner + outer → both ≡ 0 + inner + outer → g' + t + here ≡ g + t' + both

@@ -1,5 +1,5 @@
 -- What a worker did since its run began, at some moment of it. Of this the clauses of `Worker::run` cite `IsAim`, `IsUnused` and `SameWorker`.
-use Rattle.std.specs.Prelude.{◌≡◌, ℕ, Bool, if◌then◌else◌, ◌+◌, ◌*◌, ◌<◌, ◌≤◌, min, List, [], ◌∷◌, ◌++◌, length, map, All, Option, Some, None}
+use Rattle.std.specs.Prelude.{◌≡◌, ◌≢◌, ℕ, Bool, if◌then◌else◌, ◌+◌, ◌*◌, ◌<◌, ◌≤◌, min, List, [], ◌∷◌, ◌++◌, length, map, All, Option, Some, None}
 use Rattle.std.specs.List.{flat_map, sum_by}
 use Rattle.std.specs.Option.{option_to_list}
 use Rattle.st_model.specs.declared.branch.Branch.{Branch}
@@ -13,6 +13,7 @@ use Rattle.branching.specs.Node.{inside_half, outside_half}
 use Rattle.incumbent.specs.Least.{least_of}
 use Rattle.incumbent.specs.Seat.{Known as Sight, fresh as new_sight, having_offered}
 use Rattle.open_ledger.specs.Seat.{Known as Account, counting, fresh as new_account}
+use Rattle.open_ledger.specs.declared.why.Why.TheVariants.{Memory}
 use Rattle.open_ledger.specs.Tally.{with_down, with_up}
 use Rattle.node_pool.specs.Pool.{Station, Moves, SamePass, gave, took}
 use Rattle.search_core.specs.Complete.{times}
@@ -73,12 +74,13 @@ pub record HasSeen (I : Network) (R : Branch) (start : ℕ) (m : Sight) (best : 
   pub low : m.lowest ≤ least_of start m.offers
   pub offered : IsOffered I R start best m.offers
 
--- what an account counts of these records; it halted only where its claim was refused
+-- what an account counts of these records; it halted only where its claim was refused, and not for want of memory
 pub record CountsOf (done : List Done) (u : Account) : Type 0 where
   pub ups : u.tally.ups ≡ sum_by splits done
   pub downs : u.tally.downs ≡ sum_by closes done
   pub granted : u.tally.granted ≡ length done
   pub halted : 0 < u.tally.halts → 0 < u.tally.refused
+  pub spared : u.why ≢ Some Memory
 
 -- these tasks were done since its pass was p and its seats were new, and it has these nodes in hand
 pub record HasDone (I : Network) (R : Branch) (start seat workers : ℕ) (p : Station) (m : Moment) (held : List Node) (tasks : List Task) : Type 0 where
@@ -141,6 +143,7 @@ pub record IsWorkedOn (I : Network) (R : Branch) (start seat workers : ℕ) (N :
   pub granted : m'.account.tally.granted ≡ m.account.tally.granted
   pub refused : m'.account.tally.refused ≡ m.account.tally.refused
   pub halts : m'.account.tally.halts ≡ m.account.tally.halts
+  pub why : m'.account.why ≡ m.account.why
 
 -- what holds after a turn: the worker goes on, or ends and leaves a node
 abbrev pub HasTurned : Network → Branch → ℕ → ℕ → ℕ → Station → Moment → Turn → Type 0
@@ -154,6 +157,7 @@ pub record IsGranted (u u' : Account) : Type 0 where
   pub granted : u'.tally.granted ≡ u.tally.granted + 1
   pub refused : u'.tally.refused ≡ u.tally.refused
   pub halts : u'.tally.halts ≡ u.tally.halts
+  pub why : u'.why ≡ u.why
 
 -- an account on which nothing but looks was done
 pub record HasLooked (u u' : Account) : Type 0 where
@@ -163,3 +167,4 @@ pub record HasLooked (u u' : Account) : Type 0 where
   pub granted : u'.tally.granted ≡ u.tally.granted
   pub refused : u'.tally.refused ≡ u.tally.refused
   pub halts : u'.tally.halts ≡ u.tally.halts
+  pub why : u'.why ≡ u.why

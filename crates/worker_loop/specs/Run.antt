@@ -1,5 +1,5 @@
 -- What one worker did in a whole run.
-use Rattle.std.specs.Prelude.{◌≡◌, ℕ, ◌+◌, ◌*◌, ◌<◌, ◌≤◌, List, [], ◌∷◌, length, map, Option, All, IfSome}
+use Rattle.std.specs.Prelude.{◌≡◌, ◌≢◌, ℕ, ◌+◌, ◌*◌, ◌<◌, ◌≤◌, List, [], ◌∷◌, length, map, Option, Some, None, All, IfSome}
 use Rattle.std.specs.List.{flat_map, sum_by}
 use Rattle.st_model.specs.declared.branch.Branch.{Branch}
 use Rattle.st_model.specs.declared.tree.Tree.{Tree}
@@ -15,6 +15,7 @@ use Rattle.branching.specs.Node.{inside_half, outside_half}
 use Rattle.incumbent.specs.Least.{least_of}
 use Rattle.incumbent.specs.Seat.{Known as Sight}
 use Rattle.open_ledger.specs.Seat.{Known as Account}
+use Rattle.open_ledger.specs.declared.why.Why.TheVariants.{Memory}
 use Rattle.node_pool.specs.Pool.{Station, gave, took}
 use Rattle.search_core.specs.Complete.{done_id, half_ids, less_found, times}
 use Rattle.search_core.specs.Needs.{AllowsSplit}
@@ -97,10 +98,12 @@ pub record IsFound (I : Network) (R : Branch) (start : ℕ) (t : Tree) : Type 0 
   pub belongs : Belongs R t
   pub cheaper : cost I t < start
 
--- the best tree that was found, if there is one: its cost is the least that was offered
+-- the best tree that was found: there is none exactly where nothing was offered, and its cost is the least that was
 pub record IsOffered (I : Network) (R : Branch) (start : ℕ) (best : Option Tree) (offers : List ℕ) : Type 0 where
   pub found : IfSome best (IsFound I R start)
   pub least : least_of start offers ≡ less_found I best start
+  pub none : offers ≡ [] → best ≡ None
+  pub some : best ≡ None → offers ≡ []
 
 -- why a worker ended: nothing was open; or its claim was refused; or it saw that another one halted
 abbrev pub IsEnding : End → Account → Type 0
@@ -122,6 +125,7 @@ pub record HasRun (I : Network) (R : Branch) (start seat workers : ℕ) (p q : S
   pub ups : u.tally.ups ≡ sum_by splits s.done
   pub downs : u.tally.downs ≡ sum_by closes s.done
   pub granted : u.tally.granted ≡ length s.done
-  -- it halted only where its claim was refused
+  -- it halted only where its claim was refused, and not for want of memory
   pub halted : 0 < u.tally.halts → 0 < u.tally.refused
+  pub spared : u.why ≢ Some Memory
   pub ending : IsEnding s.end u

@@ -2,15 +2,19 @@ use crate::processors::Processors;
 use better_trees::{Priced, least_after, tree_of};
 use branching::Node;
 use node_work::Plan;
-use st_model::{Listed, Tree};
+use st_model::Tree;
 use std::alloc::{AllocError, Global};
-use std::sync::{Mutex, MutexGuard, Wait};
+use std::sync::Mutex;
+use std::sync::atomic::{AtomicUsize, Ordering};
 
 /// What the workers of a team let each other know: the cheapest tree that was found, which they take a copy
-/// of to see where trees branch, and whether one of them has all processors at work. Nothing is claimed of it.
+/// of to see where trees branch, how many of them look for a node, and whether one of them has all processors
+/// at work. Nothing is claimed of it, and nobody waits for it: who finds the tree in another's hands goes on
+/// without.
 #[derive(Drop)]
 pub struct Hint {
     cheapest: Mutex<Option<Priced>>,
+    looks: AtomicUsize,
     pub(crate) processors: Processors,
 }
 
@@ -19,14 +23,32 @@ impl Hint {
     pub fn none() -> Hint {
         Hint {
             cheapest: Mutex::new(None),
+            looks: AtomicUsize::new(0),
             processors: Processors::free(),
         }
     }
 
-    // Keeps a copy of a tree, unless one is kept that costs no more.
-    fn keep<R: Wait>(&self, rt: &R, alloc: Global, found: &Priced) -> Result<(), AllocError> {
-        let copy = copied(alloc, found)?;
-        let mut cheapest = self.cheapest.lock(rt);
+    // One worker more looks for a node.
+    pub(crate) fn begin_look(&self) {
+        self.looks.fetch_add(1, Ordering::SeqCst);
+    }
+
+    // One worker less looks for a node. Only one that began calls this.
+    pub(crate) fn end_look(&self) {
+        self.looks.fetch_sub(1, Ordering::SeqCst);
+    }
+
+    // How many workers look for a node.
+    pub(crate) fn looks(&self) -> usize {
+        self.looks.load(Ordering::SeqCst)
+    }
+
+    // Keeps a copy of a tree, unless one is kept that costs no more, or another worker looks at it.
+    fn keep(&self, alloc: Global, found: &Priced) -> Result<(), AllocError> {
+        let copy = found.copied(alloc)?;
+        let Some(mut cheapest) = self.cheapest.try_lock() else {
+            return Ok(());
+        };
         let is_cheaper = match &*cheapest {
             Some(kept) => copy.price < kept.price,
             None => true,
@@ -37,18 +59,15 @@ impl Hint {
         Ok(())
     }
 
-    // A copy of the tree that is kept, if it costs less than a price.
-    fn below<R: Wait>(
-        &self,
-        rt: &R,
-        alloc: Global,
-        price: u64,
-    ) -> Result<Option<Priced>, AllocError> {
-        let cheapest = self.cheapest.lock(rt);
+    // A copy of the tree that is kept, if it costs less than a price, and no other worker looks at it.
+    fn below(&self, alloc: Global, price: u64) -> Result<Option<Priced>, AllocError> {
+        let Some(cheapest) = self.cheapest.try_lock() else {
+            return Ok(None);
+        };
         match &*cheapest {
             Some(kept) => {
                 if kept.price < price {
-                    Ok(Some(copied(alloc, kept)?))
+                    Ok(Some(kept.copied(alloc)?))
                 } else {
                     Ok(None)
                 }
@@ -82,18 +101,21 @@ impl<'a> Known<'a> {
         }
     }
 
-    /// Takes all processors for a node without cuts, unless another worker has them.
-    pub fn take_processors<R: Wait>(&self, rt: &R, node: &Node) -> Option<MutexGuard<'a, ()>> {
-        if node.packing.cuts.as_slice().is_empty() {
-            self.hint.processors.take(rt)
-        } else {
-            None
-        }
+    /// Takes all processors for a node without cuts, unless another worker has them: whether it did.
+    pub fn take_processors(&self, node: &Node) -> bool {
+        node.packing.cuts.as_slice().is_empty() && self.hint.processors.take()
     }
 
     /// Gives the processors back, if they were taken.
-    pub fn give_back<R: Wait>(&self, rt: &R, held: Option<MutexGuard<'a, ()>>) {
-        self.hint.processors.give_back(rt, held);
+    pub fn give_back(&self, were_taken: bool) {
+        if were_taken {
+            self.hint.processors.give_back();
+        }
+    }
+
+    /// What the workers let each other know.
+    pub fn hint(&self) -> &'a Hint {
+        self.hint
     }
 
     /// The tree.
@@ -103,45 +125,23 @@ impl<'a> Known<'a> {
 
     /// Looks for a tree of others, where some tree is known to cost less. All that others show cost less
     /// than the first tree, whose price isn't asked for.
-    pub fn catch_up<R: Wait>(
-        &mut self,
-        rt: &R,
-        alloc: Global,
-        least: u64,
-    ) -> Result<(), AllocError> {
+    pub fn catch_up(&mut self, alloc: Global, least: u64) -> Result<(), AllocError> {
         let price = least_after(u64::MAX, &self.better);
         if least >= price {
             return Ok(());
         }
-        if let Some(found) = self.hint.below(rt, alloc, price)? {
+        if let Some(found) = self.hint.below(alloc, price)? {
             self.better = Some(found);
         }
         Ok(())
     }
 
     /// Shows others a better tree, if one was found.
-    pub fn show<R: Wait>(
-        &mut self,
-        rt: &R,
-        alloc: Global,
-        found: &Option<Priced>,
-    ) -> Result<(), AllocError> {
+    pub fn show(&mut self, alloc: Global, found: &Option<Priced>) -> Result<(), AllocError> {
         if let Some(found) = found {
-            self.better = Some(copied(alloc, found)?);
-            self.hint.keep(rt, alloc, found)?;
+            self.better = Some(found.copied(alloc)?);
+            self.hint.keep(alloc, found)?;
         }
         Ok(())
     }
-}
-
-fn copied(alloc: Global, found: &Priced) -> Result<Priced, AllocError> {
-    let tree = &found.tree;
-    let arcs = Vec::from_slice(alloc, tree.arcs.as_slice())?;
-    Ok(Priced {
-        tree: Tree {
-            start: tree.start,
-            arcs: Listed::of(arcs),
-        },
-        price: found.price,
-    })
 }

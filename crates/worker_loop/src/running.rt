@@ -50,7 +50,6 @@ pub fn run_all<R: Threads + Wait + Sync, G: Gate>(
     gate: &G,
 ) -> Result<Gathered, AllocError>
     requires branch { IsBranch whole.now.instance branch.now }
-    requires required { LeavesRequired whole.now.instance branch.now }
     requires tree { IsTree whole.now.instance start.now }
     requires belongs { Belongs branch.now start.now }
     // Where nobody has to be reached, the start is no dearer than leaving everybody out.

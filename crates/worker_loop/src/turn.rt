@@ -8,7 +8,7 @@ ghost use Rattle.worker_loop.specs.Sound.{IsSound};
 
 use crate::aim::Aim;
 use crate::gate::Gate;
-use crate::hint::Known;
+use crate::hint::{Hint, Known};
 use crate::work::Work;
 use crate::worker::Worker;
 use better_trees::Priced;
@@ -90,11 +90,11 @@ impl<Q: Aim> Worker<Q> {
     {
         let id = node.id;
         work.seen = self.best.see();
-        known.catch_up(rt, alloc, work.seen)?;
+        known.catch_up(alloc, work.seen)?;
         let plan = known.plan.take();
-        let held = known.take_processors(rt, &node);
-        let threads = if held.is_some() { self.workers } else { 1 };
-        let Step { better, end } = expand(
+        let has_all = known.take_processors(&node);
+        let threads = if has_all { self.workers } else { 1 };
+        let step = expand(
             rt,
             alloc,
             whole,
@@ -103,9 +103,10 @@ impl<Q: Aim> Worker<Q> {
             known.tree(),
             plan,
             threads as usize,
-        )?;
-        known.give_back(rt, held);
-        known.show(rt, alloc, &better)?;
+        );
+        known.give_back(has_all);
+        let Step { better, end } = step?;
+        known.show(alloc, &better)?;
         self.adopt(better, work);
         match end {
             End::Close(packing) => {
@@ -115,7 +116,7 @@ impl<Q: Aim> Worker<Q> {
             End::Split(node, vertex, plan) => {
                 let is_deleted = plan.is_some();
                 known.plan = plan;
-                let half = self.split(alloc, id, node, vertex, is_deleted, work)?;
+                let half = self.split(alloc, known.hint(), id, node, vertex, is_deleted, work)?;
                 Ok(Some(half))
             }
         }
@@ -149,6 +150,7 @@ impl<Q: Aim> Worker<Q> {
     fn split(
         &mut self,
         alloc: Global,
+        hint: &Hint,
         id: u64,
         node: Node,
         vertex: u32,
@@ -180,7 +182,7 @@ impl<Q: Aim> Worker<Q> {
             (inside, outside)
         };
         let is_shared = is_for_others(id, work.done.len());
-        self.give(other, is_shared)?;
+        self.give(hint, other, is_shared)?;
         Ok(half)
     }
 }

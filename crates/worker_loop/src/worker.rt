@@ -17,11 +17,14 @@ use std::thread;
 use std::thread::Parker;
 use std::time::Duration;
 
-// After how many looks in vain a worker sleeps before the next one, and for how many microseconds: it would keep a
+// After how many looks in vain a worker naps before the next one, and for how many microseconds: it would keep a
 // processor busy that others need.
 const LOOKS: u32 = 200;
 
 const NAP: u64 = 100;
+
+// And for how many while another worker has all processors.
+const NAP_BESIDE: u64 = 1000;
 
 /// A worker of a team: its seat, how many workers there are, the next id that it draws, its pass of
 /// the pool, and its seats at the ledger and the incumbent.
@@ -72,14 +75,30 @@ impl<Q: Aim> Worker<Q> {
         (self.pass, self.ledger, self.best)
     }
 
-    // Takes a node of the pool, and tries again where it finds none. Err: why the worker ends.
+    // Takes a node of the pool, and counts as one that looks for it meanwhile. Err: why the worker ends.
     pub(crate) fn fetch<R: Wait>(&mut self, rt: &R, hint: &Hint) -> Result<Node, End>
         ensures seat { (self.new.seat ≡ self.old.seat) × (self.new.workers ≡ self.old.workers)
             × (self.new.next ≡ self.old.next) × (self.new.best ≡ self.old.best) }
         ensures same { SamePass self.old.pass self.new.pass }
         ensures looks { HasLooked self.old.ledger self.new.ledger }
         ensures took { MatchResult result (λ node. Moves self.old.pass self.new.pass [] (node ∷ []))
-            (λ end. (self.new.pass ≡ self.old.pass) × IsEnding end self.new.ledger) }
+            (λ end. Moves self.old.pass self.new.pass [] [] × IsEnding end self.new.ledger) }
+        ensures sound { IfOk result (λ node. IsSound Q.instance Q.branch node) }
+    {
+        hint.begin_look();
+        let taken = self.look(rt, hint);
+        hint.end_look();
+        taken
+    }
+
+    // Looks for a node in the pool until it finds one. Err: why the worker ends.
+    fn look<R: Wait>(&mut self, rt: &R, hint: &Hint) -> Result<Node, End>
+        ensures seat { (self.new.seat ≡ self.old.seat) × (self.new.workers ≡ self.old.workers)
+            × (self.new.next ≡ self.old.next) × (self.new.best ≡ self.old.best) }
+        ensures same { SamePass self.old.pass self.new.pass }
+        ensures looks { HasLooked self.old.ledger self.new.ledger }
+        ensures took { MatchResult result (λ node. Moves self.old.pass self.new.pass [] (node ∷ []))
+            (λ end. Moves self.old.pass self.new.pass [] [] × IsEnding end self.new.ledger) }
         ensures sound { IfOk result (λ node. IsSound Q.instance Q.branch node) }
     {
         let rest = Parker::new();
@@ -95,8 +114,9 @@ impl<Q: Aim> Worker<Q> {
             if self.ledger.see_halt() {
                 return Err(End::HaltSeen);
             }
-            hint.processors.wait(rt);
-            if looks < LOOKS {
+            if hint.processors.are_taken() {
+                rest.park_timeout(rt, Duration::from_micros(NAP_BESIDE));
+            } else if looks < LOOKS {
                 looks += 1;
                 thread::yield_now();
             } else {
@@ -120,16 +140,22 @@ impl<Q: Aim> Worker<Q> {
         Ok((first, second))
     }
 
-    // Gives a node to the pool: to where others can take it only if they may and find none there, so that
-    // the worker goes on with its newest nodes.
-    pub(crate) fn give(&mut self, node: Node, is_shared: bool) -> Result<(), AllocError>
+    // Gives a node to the pool: to where others can take it only if they may and find fewer there than look for
+    // one, or none, so that the worker goes on with its newest nodes.
+    pub(crate) fn give(
+        &mut self,
+        hint: &Hint,
+        node: Node,
+        is_shared: bool,
+    ) -> Result<(), AllocError>
         requires { IsSound Q.instance Q.branch node }
         ensures same { (self.new.seat ≡ self.old.seat) × (self.new.workers ≡ self.old.workers)
             × (self.new.next ≡ self.old.next) × (self.new.ledger ≡ self.old.ledger) × (self.new.best ≡ self.old.best) }
         ensures pass { SamePass self.old.pass self.new.pass }
         ensures gave { OnOk result (Moves self.old.pass self.new.pass (node ∷ []) []) }
     {
-        let given = if is_shared && self.workers > 1 && self.pass.is_bare() {
+        let wanted = hint.looks().max(1);
+        let given = if is_shared && self.workers > 1 && self.pass.shown() < wanted {
             self.pass.give(node)
         } else {
             self.pass.hold(node)
