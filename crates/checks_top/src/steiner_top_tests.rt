@@ -1,5 +1,5 @@
 use log_format::Claim;
-use st_edge::{MemoryShelf, MemorySink, Shelf};
+use st_edge::{MemoryShelf, MemorySink, SaveFault, Shelf};
 use std::alloc::{AllocError, Global};
 use std::sync::Wait;
 use std::thread::Threads;
@@ -9,14 +9,18 @@ mod checks;
 mod drawn;
 mod draws;
 mod faults;
+mod few;
 mod gates;
 mod lines;
+mod meeting;
 mod reduced;
 mod solves;
+mod twice;
+mod verified;
 mod worked;
 
 const USAGE: &str =
-    "usage: steiner solve FILE [--workers W] [--nodes N] [--log NAME] [--plain] | check FILE LOG | gen SEED N M T [--prizes] | trial SEED N M T [--workers W]\n";
+    "usage: steiner solve FILE [--workers W] [--nodes N] [--log NAME] [--plain] | check FILE LOG | gen SEED N M T [--prizes] | trial SEED N M T [--workers W] | few FILE | verify FILE SOLUTION\n";
 
 /// A triangle of required vertices with sides of cost 4, and a centre at cost 2 from each. The
 /// lines of a test's text stand apart by ` / `, and H stands for the header.
@@ -65,6 +69,11 @@ fn shelf_of(alloc: Global, lines: &str, failing: &[u64]) -> Result<MemoryShelf, 
     let text = text_of(alloc, lines)?;
     texts.push((String::from_str(alloc, "a.stp")?, text))?;
     Ok(MemoryShelf::of(alloc, texts, Vec::from_slice(alloc, failing)?))
+}
+
+/// Whether a text is saved under a name.
+fn saves_as(shelf: &mut MemoryShelf, name: &str, text: &[u8]) -> bool {
+    shelf.save(name, text).is_ok()
 }
 
 /// A sink with room enough, none of whose writes fails.

@@ -42,12 +42,20 @@ gen_app = with_rule (draw_app (new_app (codes "gen"))) (flag (codes "prizes"))
 abbrev pub trial_app : App
 trial_app = with_rule (draw_app (new_app (codes "trial"))) (option (codes "workers"))
 
--- the four commands, of which one stands
+-- `few FILE`
+abbrev pub few_app : App
+few_app = with_rule (new_app (codes "few")) (place (codes "FILE"))
+
+-- `verify FILE SOLUTION`
+abbrev pub verify_app : App
+verify_app = with_rule (with_rule (new_app (codes "verify")) (place (codes "FILE"))) (place (codes "SOLUTION"))
+
+-- the six commands, of which one stands
 abbrev pub no_command : App
 no_command = on_top (λ s. record s { no_binary_name = true }) (new_app (codes "steiner"))
 
 abbrev pub program : App
-program = with_subcommand (with_subcommand (with_subcommand (with_subcommand no_command solve_app.top) check_app.top) gen_app.top) trial_app.top
+program = with_subcommand (with_subcommand (with_subcommand (with_subcommand (with_subcommand (with_subcommand no_command solve_app.top) check_app.top) gen_app.top) trial_app.top) few_app.top) verify_app.top
 
 -- ---- what the words mean
 
@@ -81,11 +89,22 @@ pub record TrialWords : Type 0 where
   pub drawn : DrawWords
   pub workers : ℕ
 
+-- a file whose best tree is wanted, where few vertices have to be reached
+pub record FewWords : Type 0 where
+  pub file : Text
+
+-- a file, and a solution that is to be judged
+pub record VerifyWords : Type 0 where
+  pub file : Text
+  pub solution : Text
+
 pub data Command : Type 0 where
   solve : SolveWords → Command
   check : CheckWords → Command
   gen : GenWords → Command
   trial : TrialWords → Command
+  few : FewWords → Command
+  verify : VerifyWords → Command
 
 -- a hyphen stands in front
 abbrev pub is_hyphened : Text → Bool
@@ -155,13 +174,28 @@ trial_of rows = do
   workers ← number_of 1 1 64 (first_of (codes "workers") rows)
   Some (record { drawn = drawn; workers = workers })
 
+-- what the words after `few` mean
+unfoldable pub few_of : List Row → Option FewWords
+few_of rows = do
+  file ← name_of (first_of (codes "FILE") rows)
+  Some (record { file = file })
+
+-- what the words after `verify` mean
+unfoldable pub verify_of : List Row → Option VerifyWords
+verify_of rows = do
+  file ← name_of (first_of (codes "FILE") rows)
+  solution ← name_of (first_of (codes "SOLUTION") rows)
+  Some (record { file = file; solution = solution })
+
 -- what a subcommand with these arguments means
 abbrev pub meant : Text × List Row → Option Command
 meant (name, rows) =
     if bytes_eq name (codes "solve") then (solve_of rows >>= λ words. Some (solve words)) else (
     if bytes_eq name (codes "check") then (check_of rows >>= λ words. Some (check words)) else (
     if bytes_eq name (codes "gen") then (gen_of rows >>= λ words. Some (gen words)) else (
-    if bytes_eq name (codes "trial") then (trial_of rows >>= λ words. Some (trial words)) else None)))
+    if bytes_eq name (codes "trial") then (trial_of rows >>= λ words. Some (trial words)) else (
+    if bytes_eq name (codes "few") then (few_of rows >>= λ words. Some (few words)) else (
+    if bytes_eq name (codes "verify") then (verify_of rows >>= λ words. Some (verify words)) else None)))))
 
 -- what the words mean: clap takes them for the program, and the names and numbers are in form
 unfoldable pub command_of : List Text → Option Command

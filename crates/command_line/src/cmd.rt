@@ -7,6 +7,8 @@ pub enum Cmd<'a> {
     Check(CheckWords<'a>),
     Gen(GenWords),
     Trial(TrialWords),
+    Few(FewWords<'a>),
+    Verify(VerifyWords<'a>),
 }
 
 /// `solve FILE [--workers W] [--nodes N] [--log NAME] [--plain]`.
@@ -70,4 +72,20 @@ pub struct TrialWords {
     pub drawn: DrawWords,
     /// How many workers search, 1 to 64; 1 where the words don't say.
     pub workers: u32,
+}
+
+/// `few FILE`.
+#[derive(Clone, Copy, Debug, PartialEq, Eq)]
+pub struct FewWords<'a> {
+    /// The name of the STP file.
+    pub file: &'a str,
+}
+
+/// `verify FILE SOLUTION`.
+#[derive(Clone, Copy, Debug, PartialEq, Eq)]
+pub struct VerifyWords<'a> {
+    /// The name of the STP file.
+    pub file: &'a str,
+    /// The name of the solution.
+    pub solution: &'a str,
 }

@@ -11,5 +11,7 @@ mod meaning;
 mod parse;
 mod program;
 
-pub use cmd::{CheckWords, Cmd, DrawWords, GenWords, SolveWords, TrialWords};
+pub use cmd::{
+    CheckWords, Cmd, DrawWords, FewWords, GenWords, SolveWords, TrialWords, VerifyWords,
+};
 pub use parse::{WordFault, read_words};

@@ -1,11 +1,11 @@
 ghost use Rattle.std.specs.Prelude.{◌≡◌, ◌-◌, ◌^◌, ◌<◌, ◌≤◌, IfSome, option_map, option_copied};
 ghost use Rattle.clap.specs.Matches.{found_of};
 ghost use Rattle.clap.specs.Walk.{first_of, rows_of};
-ghost use Rattle.command_line.specs.Seen.{solve_words, check_words, draw_words, gen_words, trial_words};
-ghost use Rattle.command_line.specs.Words.{solve_of, check_of, draw_of, gen_of, trial_of};
+ghost use Rattle.command_line.specs.Seen.{solve_words, check_words, draw_words, gen_words, trial_words, few_words, verify_words};
+ghost use Rattle.command_line.specs.Words.{solve_of, check_of, draw_of, gen_of, trial_of, few_of, verify_of};
 ghost use Rattle.command_line.specs.Words.{name_of, optional_name_of, number_of, needed_number_of, is_set, is_hyphened};
 
-use crate::{CheckWords, DrawWords, GenWords, SolveWords, TrialWords};
+use crate::{CheckWords, DrawWords, FewWords, GenWords, SolveWords, TrialWords, VerifyWords};
 use clap::ArgMatches;
 use plain_text::number;
 
@@ -155,4 +155,23 @@ pub fn trial_words(matches: &ArgMatches<'_>) -> Option<TrialWords>
         drawn,
         workers: workers as u32,
     })
+}
+
+// What the words after `few` mean.
+#[tactic(auto, unfolding(crate::specs::Words::few_of))]
+pub fn few_words<'a>(matches: &ArgMatches<'a>) -> Option<FewWords<'a>>
+    ensures { option_map few_words result ≡ few_of (rows_of (found_of matches.now)) }
+{
+    let file = name(word(matches, "FILE"))?;
+    Some(FewWords { file })
+}
+
+// What the words after `verify` mean.
+#[tactic(auto, unfolding(crate::specs::Words::verify_of))]
+pub fn verify_words<'a>(matches: &ArgMatches<'a>) -> Option<VerifyWords<'a>>
+    ensures { option_map verify_words result ≡ verify_of (rows_of (found_of matches.now)) }
+{
+    let file = name(word(matches, "FILE"))?;
+    let solution = name(word(matches, "SOLUTION"))?;
+    Some(VerifyWords { file, solution })
 }

@@ -1,7 +1,7 @@
 ghost use Rattle.std.specs.Prelude.{◌≡◌, false, IfOk};
 ghost use Rattle.clap.specs.Words.{app_of, rule_of, with_rule, with_subcommand};
 ghost use Rattle.clap.specs.declared.builder.command.Command.TheViews.{out-Command};
-ghost use Rattle.command_line.specs.Words.{program, solve_app, check_app, gen_app, trial_app, draw_app, place, option, flag};
+ghost use Rattle.command_line.specs.Words.{program, solve_app, check_app, gen_app, trial_app, few_app, verify_app, draw_app, place, option, flag};
 
 use clap::{Arg, ArgAction, Command};
 use std::alloc::{AllocError, Global};
@@ -97,6 +97,27 @@ fn trial<'a>(alloc: Global) -> Result<Command<'a>, AllocError>
     Ok(command)
 }
 
+// `few FILE`
+fn few<'a>(alloc: Global) -> Result<Command<'a>, AllocError>
+    ensures app { IfOk result (λ c. app_of c ≡ few_app) }
+    ensures local { IfOk result (λ c. (out-Command c).has_globals ≡ false) }
+{
+    let command = Command::new(alloc, "few");
+    let command = with(command, place(alloc, "FILE"))?;
+    Ok(command)
+}
+
+// `verify FILE SOLUTION`
+fn verify<'a>(alloc: Global) -> Result<Command<'a>, AllocError>
+    ensures app { IfOk result (λ c. app_of c ≡ verify_app) }
+    ensures local { IfOk result (λ c. (out-Command c).has_globals ≡ false) }
+{
+    let command = Command::new(alloc, "verify");
+    let command = with(command, place(alloc, "FILE"))?;
+    let command = with(command, place(alloc, "SOLUTION"))?;
+    Ok(command)
+}
+
 // The command with one subcommand more.
 fn with_command<'a>(command: Command<'a>, inner: Command<'a>) -> Result<Command<'a>, AllocError>
     requires { (out-Command inner).has_globals ≡ false }
@@ -115,5 +136,7 @@ pub fn program<'a>(alloc: Global) -> Result<Command<'a>, AllocError>
     let command = with_command(command, check(alloc)?)?;
     let command = with_command(command, generate(alloc)?)?;
     let command = with_command(command, trial(alloc)?)?;
+    let command = with_command(command, few(alloc)?)?;
+    let command = with_command(command, verify(alloc)?)?;
     Ok(command)
 }

@@ -23,6 +23,33 @@ pub fn tell<R: Threads + Wait + Sync, F: Shelf, K: Sink>(
     Ok(())
 }
 
+/// Writes how a file is answered as one of few terminals.
+pub fn tell_few<R: Threads + Wait + Sync, F: Shelf, K: Sink>(
+    rt: &R,
+    alloc: Global,
+    title: &str,
+    file: &str,
+    shelf: &mut F,
+    out: &mut K,
+) -> Result<(), AllocError> {
+    let title = format!(in alloc; "{title}, of few terminals")?;
+    tell(rt, alloc, &title, &["few", file], shelf, out)
+}
+
+/// Writes how a text is answered as a solution of a file.
+pub fn tell_solution<R: Threads + Wait + Sync, F: Shelf, K: Sink>(
+    rt: &R,
+    alloc: Global,
+    title: &str,
+    file: &str,
+    text: &str,
+    shelf: &mut F,
+    out: &mut K,
+) -> Result<(), AllocError> {
+    let title = format!(in alloc; "{title}, as a solution")?;
+    tell(rt, alloc, &title, &["verify", file, text], shelf, out)
+}
+
 /// Writes a title, the code with which a run by these words ends, and how many bytes it sends.
 pub fn tell_length<R: Threads + Wait + Sync, F: Shelf, K: Sink>(
     rt: &R,

@@ -1,4 +1,4 @@
-use crate::answer::{tell, tell_length};
+use crate::answer::{tell, tell_few, tell_length, tell_solution};
 use st_edge::{MemoryShelf, Shelf, Sink};
 use std::alloc::{AllocError, Global};
 use std::sync::Wait;
@@ -7,19 +7,23 @@ use std::thread::Threads;
 /// The words of a line, or the bytes of a name, that is far too long.
 const MANY: usize = 1 << 20;
 
-/// The lines that say what one vertex pays.
+/// The lines that say what one vertex pays, or that it is reached.
 const MILLION: usize = 1_000_000;
 
 /// The lines of a file before those.
 const BEFORE_PRIZES: &str =
     "33D32945 STP File, STP Format Version 1.0\nSECTION Graph\nNodes 2\nEdges 1\nE 1 2 5\nEND\nSECTION Terminals\nTerminals 1000000\n";
 
-/// Files that say how many vertices there are, and nothing else.
+/// Texts that say how many vertices there are, and little else.
 const SIZES: &[(&str, &str)] = &[
     ("a file of the line Nodes 1000000", "Nodes 1000000\n"),
     (
         "a file that ends after Nodes 1000000",
         "33D32945 STP File, STP Format Version 1.0\nSECTION Graph\nNodes 1000000\n",
+    ),
+    (
+        "a text that counts 1000000 vertices and names one",
+        "SECTION Finalsolution\nVertices 1000000\nV 1\nEND\nEOF\n",
     ),
 ];
 
@@ -91,8 +95,9 @@ pub fn tell_extremes<R: Threads + Wait + Sync, K: Sink>(
     tell_lines(rt, alloc, triangle, out)?;
     tell_names(rt, alloc, triangle, out)?;
     tell_counts(rt, alloc, triangle, out)?;
-    tell_prizes(rt, alloc, out)?;
-    tell_sizes(rt, alloc, out)
+    tell_prizes(rt, alloc, triangle, out)?;
+    tell_vertices(rt, alloc, triangle, out)?;
+    tell_sizes(rt, alloc, triangle, out)
 }
 
 // A shelf with a text under a name.
@@ -103,16 +108,16 @@ fn shelf_of(alloc: Global, name: &str, text: &[u8]) -> Result<MemoryShelf, Alloc
     Ok(MemoryShelf::of(alloc, texts, Vec::new(alloc)))
 }
 
-// A shelf with a file under `a.stp` and a log under `b`.
-fn shelf_with_log(alloc: Global, file: &[u8], log: &str) -> Result<MemoryShelf, AllocError> {
+// A shelf with a file under `a.stp` and another text under `b`.
+fn shelf_with(alloc: Global, file: &[u8], text: &str) -> Result<MemoryShelf, AllocError> {
     let mut shelf = shelf_of(alloc, "a.stp", file)?;
-    match shelf.save("b", log.as_bytes()) {
+    match shelf.save("b", text.as_bytes()) {
         Ok(()) => Ok(shelf),
         Err(_) => Err(AllocError),
     }
 }
 
-// One line of many words, as a file and as a log.
+// One line of many words, as a file, as a log and as a solution.
 fn tell_lines<R: Threads + Wait + Sync, K: Sink>(
     rt: &R,
     alloc: Global,
@@ -121,11 +126,13 @@ fn tell_lines<R: Threads + Wait + Sync, K: Sink>(
 ) -> Result<(), AllocError> {
     let mut line = "w ".repeat(alloc, MANY)?;
     line.push('\n')?;
-    let mut shelf = shelf_with_log(alloc, triangle, &line)?;
+    let mut shelf = shelf_with(alloc, triangle, &line)?;
     let title = "a file of one line of 1048576 words";
     tell(rt, alloc, title, &["solve", "b"], &mut shelf, out)?;
+    tell_few(rt, alloc, title, "b", &mut shelf, out)?;
     let title = "a log of one line of 1048576 words";
-    tell(rt, alloc, title, &["check", "a.stp", "b"], &mut shelf, out)
+    tell(rt, alloc, title, &["check", "a.stp", "b"], &mut shelf, out)?;
+    tell_solution(rt, alloc, title, "a.stp", "b", &mut shelf, out)
 }
 
 // A long name under which there is a file, and one under which there is none until its log is saved.
@@ -154,8 +161,11 @@ fn tell_pair<R: Threads + Wait + Sync, F: Shelf, K: Sink>(
     tell(rt, alloc, title, &["solve", log], shelf, out)?;
     let title = "a file under a name of 1048576 bytes";
     tell_length(rt, alloc, title, &["solve", name, "--log", log], shelf, out)?;
+    let title = "the same, of few terminals";
+    tell_length(rt, alloc, title, &["few", name], shelf, out)?;
     let title = "a log under a name of 1048576 bytes";
-    tell(rt, alloc, title, &["check", name, log], shelf, out)
+    tell(rt, alloc, title, &["check", name, log], shelf, out)?;
+    tell_solution(rt, alloc, title, name, log, shelf, out)
 }
 
 fn log_of(alloc: Global, counts: &Counts) -> Result<String, AllocError> {
@@ -189,40 +199,62 @@ fn tell_log<R: Threads + Wait + Sync, K: Sink>(
     log: &str,
     out: &mut K,
 ) -> Result<(), AllocError> {
-    let mut shelf = shelf_with_log(alloc, file, log)?;
-    tell(rt, alloc, title, &["check", "a.stp", "b"], &mut shelf, out)
+    let mut shelf = shelf_with(alloc, file, log)?;
+    tell(rt, alloc, title, &["check", "a.stp", "b"], &mut shelf, out)?;
+    tell_solution(rt, alloc, title, "a.stp", "b", &mut shelf, out)
 }
 
 // Many lines of what one vertex pays.
 fn tell_prizes<R: Threads + Wait + Sync, K: Sink>(
     rt: &R,
     alloc: Global,
+    triangle: &[u8],
     out: &mut K,
 ) -> Result<(), AllocError> {
     let mut text = String::from_str(alloc, BEFORE_PRIZES)?;
     text.push_str(&"TP 1 3\n".repeat(alloc, MILLION)?)?;
     text.push_str("END\nEOF\n")?;
-    tell_file(rt, alloc, "a million prizes of one vertex", &text, out)
+    let title = "a million prizes of one vertex";
+    tell_text(rt, alloc, title, triangle, &text, out)
 }
 
-fn tell_file<R: Threads + Wait + Sync, K: Sink>(
+// Many lines of one vertex that is reached.
+fn tell_vertices<R: Threads + Wait + Sync, K: Sink>(
+    rt: &R,
+    alloc: Global,
+    triangle: &[u8],
+    out: &mut K,
+) -> Result<(), AllocError> {
+    let mut text = String::from_str(alloc, "SECTION Finalsolution\nVertices 1000000\n")?;
+    text.push_str(&"V 1\n".repeat(alloc, MILLION)?)?;
+    text.push_str("END\nEOF\n")?;
+    let title = "a million lines of one vertex";
+    tell_text(rt, alloc, title, triangle, &text, out)
+}
+
+// How a text is answered as a file, and as a solution of the triangle.
+fn tell_text<R: Threads + Wait + Sync, K: Sink>(
     rt: &R,
     alloc: Global,
     title: &str,
-    file: &str,
+    triangle: &[u8],
+    text: &str,
     out: &mut K,
 ) -> Result<(), AllocError> {
-    let mut shelf = shelf_of(alloc, "a.stp", file.as_bytes())?;
-    tell(rt, alloc, title, &["solve", "a.stp"], &mut shelf, out)
+    let mut shelf = shelf_with(alloc, triangle, text)?;
+    tell(rt, alloc, title, &["solve", "b"], &mut shelf, out)?;
+    tell_few(rt, alloc, title, "b", &mut shelf, out)?;
+    tell_solution(rt, alloc, title, "a.stp", "b", &mut shelf, out)
 }
 
 fn tell_sizes<R: Threads + Wait + Sync, K: Sink>(
     rt: &R,
     alloc: Global,
+    triangle: &[u8],
     out: &mut K,
 ) -> Result<(), AllocError> {
     for (title, text) in SIZES {
-        tell_file(rt, alloc, title, text, out)?;
+        tell_text(rt, alloc, title, triangle, text, out)?;
     }
     Ok(())
 }

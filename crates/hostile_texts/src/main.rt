@@ -3,7 +3,8 @@
 //! ends, and what `run` sends.
 //!
 //! Its words name files: one whose name ends in `.log` is checked with `triangle.stp`, and any other
-//! is solved. Its own data are that file and one change of it each, and one change each of a log of
+//! is solved, and once more as one of few terminals. Each is also verified, as if it were a solution
+//! of that file. Its own data are that file and one change of it each, and one change each of a log of
 //! it, named after the change. The texts that are too long for a file of the repository it makes
 //! itself.
 #![tactic(auto)]
@@ -11,7 +12,7 @@
 mod answer;
 mod extremes;
 
-use answer::tell;
+use answer::{tell, tell_few, tell_solution};
 use extremes::tell_extremes;
 use st_edge::{DiskShelf, LoadFault, Shelf, Sink, StdSink};
 use std::alloc::{AllocError, Global};
@@ -61,10 +62,12 @@ fn tell_file<R: Threads + Wait + Sync, F: Shelf, K: Sink>(
     out: &mut K,
 ) -> Result<(), AllocError> {
     if name.ends_with(".log") {
-        tell(rt, alloc, name, &["check", TRIANGLE, name], shelf, out)
+        tell(rt, alloc, name, &["check", TRIANGLE, name], shelf, out)?;
     } else {
-        tell(rt, alloc, name, &["solve", name], shelf, out)
+        tell(rt, alloc, name, &["solve", name], shelf, out)?;
+        tell_few(rt, alloc, name, name, shelf, out)?;
     }
+    tell_solution(rt, alloc, name, TRIANGLE, name, shelf, out)
 }
 
 // Tells how the texts are answered that are made here.

@@ -7,7 +7,7 @@ ghost use Rattle.st_edge.specs.Shelf.{Loads};
 
 use crate::{LoadFault, SaveFault, Shelf};
 use std::alloc::{AllocError, Global};
-use std::fs::File;
+use std::fs::{File, OpenFile};
 use std::io;
 use std::io::{ErrorKind, Read, Write};
 use std::marker::Model;
@@ -56,7 +56,8 @@ impl<R: Files> Shelf for DiskShelf<R> {
 
     ghost write_faults = { λ s. s.write_faults };
 
-    /// A directory, a name that isn't there and a name without permission are `Failed`.
+    /// A directory, a name that isn't there and a name without permission are `Failed`. A file whose length the
+    /// system knows to be above `limit` is `TooLong` before any of it is read; of a pipe `limit + 1` bytes are read.
     fn load(&mut self, alloc: Global, name: &str, limit: u64) -> Result<Vec<u8>, LoadFault>
         ensures counted { IsErrOf result LoadFault.Failed
             → self.new ≡ record self.old { read_faults = one_more self.old.read_faults } }
@@ -93,6 +94,14 @@ impl<R: Files> Shelf for DiskShelf<R> {
     }
 }
 
+// Whether this is a file of more bytes than `limit`, as the system says. Of a pipe or a device it says nothing.
+fn is_longer<T: OpenFile>(file: &T, limit: u64) -> bool {
+    match file.metadata() {
+        Ok(metadata) => metadata.is_file() && metadata.len() > limit,
+        Err(_) => false,
+    }
+}
+
 fn load_file<R: Files>(
     files: &R,
     alloc: Global,
@@ -102,6 +111,9 @@ fn load_file<R: Files>(
     ensures { IfOk result (λ bytes. length bytes.items ≤ limit) }
 {
     let mut file = File::open(files, name).map_err(load_fault_of)?;
+    if is_longer(&file, limit) {
+        return Err(LoadFault::TooLong);
+    }
     let mut piece = zeros(alloc, PIECE)?;
     read_within(alloc, &mut file, &mut piece, limit)
 }

@@ -6,6 +6,7 @@ use Rattle.std.proofs.lemmas.Bool.Decides.{nat_tests}
 use Rattle.st_model.specs.declared.tree.Tree.{Tree}
 use Rattle.st_model.specs.Network.{Network, IsInstance}
 use Rattle.st_model.specs.Arborescence.{IsBound}
+use Rattle.st_model.specs.Terminals.{NobodyPays}
 use Rattle.st_model.specs.Wall.{IsWall}
 use Rattle.lift_back.specs.declared.step.Step.{Step}
 use Rattle.lift_back.specs.State.{State, whole}
@@ -13,18 +14,20 @@ use Rattle.lift_back.specs.Steps.{Applies}
 use Rattle.log_format.specs.declared.log.Log.{Log}
 use Rattle.log_format.specs.declared.log.Claim.{Claim}
 use Rattle.log_format.specs.declared.log.Claim.TheVariants as claim
-use Rattle.log_format.specs.Accepts.{AcceptedHolds, Holds, ProvesIn, left_of, left_over}
+use Rattle.log_format.specs.Accepts.{AcceptedHolds, Holds, ProvesFrom, left_of, left_over}
 use Rattle.log_format.specs.Text.{IsWritableSet}
 use Rattle.search_core.specs.FreeVertices.{free_count}
 use Rattle.search_core.specs.ReadOff.{least_weight}
 use Rattle.certificate_log.specs.Assembled.{IsAssembled}
 use Rattle.certificate_log.specs.Spent.{IsSpent}
+use Rattle.twice_tree.specs.Twice.{IsWithinTwice}
 use Rattle.steiner_top.specs.declared.best.Best.{Best}
 use Rattle.steiner_top.specs.declared.outcome.Outcome.{Outcome}
 use Rattle.steiner_top.specs.declared.outcome.Outcome.TheVariants.{Found, NoTree}
 use Rattle.steiner_top.specs.Left.{IsBestOf, IsClaimOf, IsShownBy}
 use Rattle.steiner_top.specs.Outcome.{AreSteps, IsCertificate, IsFound, IsGreatestBound, IsOutcome, IsWithoutTree, free_vertices}
 use Rattle.steiner_top.proofs.Remaining.{few_to_split, proved_of_both}
+use Rattle.steiner_top.proofs.WithinTwice.{outcome_within}
 
 -- a bound of what is left, and what is paid besides
 bound_back : (x offset least light primal dual : ℕ) → primal ≡ least + offset → dual ≡ min primal (offset + light) → x - offset ≤ min least light → x ≤ dual
@@ -44,7 +47,7 @@ module _ (nodes : ℕ) (plain : Bool) (I : Network) (steps : List Step) (s : Sta
 
   greatest : IsGreatestBound I steps a.primal a.dual a.proof
   greatest x below (t, applies, proves) =
-      let here : ProvesIn s x a.proof = proved_of_both I steps t s x a.proof applies h.applies proves in
+      let here : ProvesFrom s x a.proof = proved_of_both I steps t s x a.proof applies h.applies proves in
       let primal = a.is_primal in
       let less : x - s.offset ≤ b.search.gathered.least = omega (arith, below, primal) in
       bound_back x s.offset b.search.gathered.least (least_weight s.instance (left_over s) a.read) a.primal a.dual primal a.is_dual (a.greatest (left_of x s) less here)
@@ -91,12 +94,21 @@ module _ (nodes : ℕ) (plain : Bool) (I : Network) (steps : List Step) (s : Sta
   is_bound : AcceptedHolds → IsBound I a.dual
   is_bound holds = (subst (Holds I) a.claims (holds I log h.instance a.accepted)).2
 
+  -- the tree is the best one of what is left, led back
+  near : NobodyPays I → IsWithinTwice I a.tree
+  near free =
+      let cost_is = a.is_cost in
+      let primal = a.is_primal in
+      let least = h.best.is_least in
+      outcome_within I steps s b.tree a.tree h.instance h.applies h.best.near (omega (arith, cost_is, primal, least)) free
+
   own : AcceptedHolds → IsFound nodes plain I a.tree a.primal a.dual b.search.gathered.claimed (b.search ∷ []) log
   own holds = record {
     is_tree = a.is_tree;
     is_cost = a.is_cost;
     is_bound = is_bound holds;
     is_below = a.is_below;
+    near = near;
     certified = certified;
     enough = enough;
   }

@@ -11,22 +11,26 @@ use Rattle.st_edge.specs.Faults.{Rose}
 use Rattle.st_model.specs.declared.tree.Tree.{Tree}
 use Rattle.st_model.specs.Arborescence.{IsTree}
 use Rattle.stp_reader.specs.Laws.{RefusedExactly}
+use Rattle.solution_reader.specs.Laws.{RefusedExactly as SolutionsRefusedExactly}
 use Rattle.cert_checker.specs.declared.fault.CheckFault.{CheckFault}
 use Rattle.cert_checker.specs.declared.fault.CheckFault.TheVariants as fault
 use Rattle.cert_checker.specs.declared.verdict.Verdict.{Verdict}
 use Rattle.cert_checker.specs.declared.verdict.Verdict.TheVariants as verdict
-use Rattle.command_line.specs.Words.{Command, SolveWords, CheckWords, GenWords, TrialWords, solve, check, gen, trial}
+use Rattle.command_line.specs.Words.{Command, SolveWords, CheckWords, GenWords, TrialWords, solve, check, gen, trial, few, verify}
 use Rattle.steiner_top.specs.declared.outcome.Outcome.{Outcome}
 use Rattle.steiner_top.specs.declared.outcome.Outcome.TheVariants.{Found, NoTree}
 use Rattle.steiner_top.specs.declared.status.Status.{Status}
-use Rattle.steiner_top.specs.declared.status.Status.TheVariants.{Optimal, Usage, Budget, Infeasible, RefusedFile, RefusedLog, ReadFault, WriteFault, NoMemory, TooLong}
+use Rattle.steiner_top.specs.declared.status.Status.TheVariants.{Optimal, Usage, Budget, Infeasible, RefusedFile, RefusedLog, ReadFault, WriteFault, NoMemory, TooLong, NotFew, NotTree, RefusedSolution}
 use Rattle.steiner_top.specs.Outcome.{IsFound}
 use Rattle.steiner_top.specs.Answer.{IsSolution, SolveAnswer, CheckAnswer, IsLineOf}
-use Rattle.steiner_top.specs.Causes.{Texts, EndsWith, IsLoaded, IsSaved, IsStopped}
+use Rattle.steiner_top.specs.Causes.{Texts, EndsWith, IsSaved, IsStopped}
 use Rattle.steiner_top.specs.Drawn.{IsDrawn, IsTried}
 use Rattle.steiner_top.specs.Checked.{ChecksExactly, ChecksBothWays}
 use Rattle.steiner_top.specs.Headline.{Headline, NothingFails, SolvesFile, ChecksLog, Sends}
 use Rattle.steiner_top.specs.Output.{status_of_verdict}
+use Rattle.steiner_top.proofs.Loaded.{known_loaded}
+use Rattle.steiner_top.proofs.Counting.{counts_file}
+use Rattle.steiner_top.proofs.Verifying.{verifies_solution}
 
 -- a check accepts the certificate of a solution
 certificate_checks : (w : SolveWords) (bytes : List ℕ) (tree : Tree) (primal dual expanded : ℕ) (searches : List Searched) (log : Log) (sent : List ℕ) → IsSolution w bytes tree primal dual expanded searches log sent → IsAnswer bytes (log_text log) (Ok (cond (eqb dual primal) (verdict.Optimal primal) (verdict.Bound dual primal)))
@@ -94,12 +98,9 @@ answered_file w bytes RefusedLog outcome texts taken now sent law short s took s
 answered_file w bytes TooLong outcome texts taken now sent law short s took saved = absurd s
 answered_file w bytes Usage outcome texts taken now sent law short s took saved = absurd s
 answered_file w bytes WriteFault outcome texts taken now sent law short s took saved = absurd s
-
--- what is known of a text is what was loaded
-known_loaded : (known : Option (List ℕ)) (loaded bytes : List ℕ) → known ≡ Some bytes → IsLoaded known loaded → (loaded ≡ bytes) × (length bytes ≤ 2 ^ 34)
-known_loaded known loaded bytes is h =
-    let same : loaded ≡ bytes = subst (λ o. IfSome o (λ t. loaded ≡ t)) is h.same in
-    (same, subst (λ b. length b ≤ 2 ^ 34) same h.short)
+answered_file w bytes NotFew outcome texts taken now sent law short s took saved = absurd s
+answered_file w bytes NotTree outcome texts taken now sent law short s took saved = absurd s
+answered_file w bytes RefusedSolution outcome texts taken now sent law short s took saved = absurd s
 
 -- a file whose text is too long isn't answered
 long_file : (w : SolveWords) (bytes : List ℕ) (outcome : Option Outcome) (texts : Texts) (taken now : Option (List ℕ)) → 2 ^ 34 < length bytes → SolvesFile w bytes TooLong outcome texts taken now
@@ -131,6 +132,9 @@ solves_file w bytes old new Infeasible outcome taken now sent law known read mem
 solves_file w bytes old new RefusedFile outcome taken now sent law known read memory (inr h) took saved = absurd h.0
 solves_file w bytes old new RefusedLog outcome taken now sent law known read memory (inr h) took saved = absurd h.0
 solves_file w bytes old new WriteFault outcome taken now sent law known read memory (inr h) took saved = absurd h.0
+solves_file w bytes old new NotFew outcome taken now sent law known read memory (inr h) took saved = absurd h.0
+solves_file w bytes old new NotTree outcome taken now sent law known read memory (inr h) took saved = absurd h.0
+solves_file w bytes old new RefusedSolution outcome taken now sent law known read memory (inr h) took saved = absurd h.0
 
 -- a verdict ends no run as too long, or with the usage line
 verdict_ends : (v : Verdict) → (status_of_verdict v ≡ TooLong → ⊥) × (status_of_verdict v ≡ Usage → ⊥)
@@ -195,6 +199,9 @@ log_ends w stp log old Infeasible outcome sent known known' read memory (inr h) 
 log_ends w stp log old RefusedFile outcome sent known known' read memory (inr h) = absurd h.0
 log_ends w stp log old RefusedLog outcome sent known known' read memory (inr h) = absurd h.0
 log_ends w stp log old WriteFault outcome sent known known' read memory (inr h) = absurd h.0
+log_ends w stp log old NotFew outcome sent known known' read memory (inr h) = absurd h.0
+log_ends w stp log old NotTree outcome sent known known' read memory (inr h) = absurd h.0
+log_ends w stp log old RefusedSolution outcome sent known known' read memory (inr h) = absurd h.0
 
 -- how a run ends decides how a log is answered, where nothing fails
 pub checks_log : (w : CheckWords) (stp log : List ℕ) (old : Texts) (status : Status) (outcome : Option Outcome) (taken now : Option (List ℕ)) (sent : List ℕ)
@@ -232,6 +239,9 @@ none_stops texts Infeasible memory h = h
 none_stops texts RefusedFile memory h = h
 none_stops texts RefusedLog memory h = h
 none_stops texts WriteFault memory h = h
+none_stops texts NotFew memory h = h
+none_stops texts NotTree memory h = h
+none_stops texts RefusedSolution memory h = h
 
 -- so what is drawn is sent
 sends_drawn : (w : GenWords) (texts : Texts) (status : Status) (outcome : Option Outcome) (taken now : Option (List ℕ)) (sent : List ℕ)
@@ -254,10 +264,14 @@ no_usage (trial w) texts outcome sent (inl h) = elim h.ends [
   | inl e ↦ let bad : Usage ≡ Optimal = e.0 in absurd cc
   | inr e ↦ let bad : Usage ≡ Budget = e.0 in absurd cc
 ]
+no_usage (few w) texts outcome sent (inl h) = absurd h.2.line
+no_usage (verify w) texts outcome sent (inl h) = absurd h.4.line.line
 no_usage (gen w) texts outcome sent (inr h) = absurd h.0
 no_usage (trial w) texts outcome sent (inr h) = absurd h.0
 no_usage (solve w) texts outcome sent (inr h) = absurd h.0
 no_usage (check w) texts outcome sent (inr h) = absurd h.0
+no_usage (few w) texts outcome sent (inr h) = absurd h.0
+no_usage (verify w) texts outcome sent (inr h) = absurd h.0
 
 -- the usage line ends a run exactly where the words are no command
 pub usage_ends : (command : Option Command) (texts : Texts) (status : Status) (outcome : Option Outcome) (sent : List ℕ) → (status ≡ NoMemory → ⊥) → EndsWith command texts status outcome sent → (status ≡ Usage) ↔ (command ≡ None)
@@ -272,17 +286,20 @@ usage_ends (Some command) texts status outcome sent memory h =
 -- the words and the texts decide, where nothing fails
 pub decides : (command : Option Command) (old new : Texts) (reads reads_now saves saves_now writes writes_now : ℕ) (status : Status) (outcome : Option Outcome) (taken now : Option (List ℕ))
     → ((bytes : List ℕ) → RefusedExactly bytes)
+    → ((bytes : List ℕ) → SolutionsRefusedExactly bytes)
     → (status ≢ WriteFault → (sent : List ℕ) × EndsWith command old status outcome sent × (now ≡ append_known taken sent))
     → IsSaved command new outcome
     → (status ≡ ReadFault → Rose reads reads_now)
     → (status ≡ WriteFault → Rose saves saves_now ⊎ Rose writes writes_now)
     → Headline command old new reads reads_now saves saves_now writes writes_now status outcome taken now
-decides command old new reads reads_now saves saves_now writes writes_now status outcome taken now law sent saved read write = record {
+decides command old new reads reads_now saves saves_now writes writes_now status outcome taken now law law_of_solutions sent saved read write = record {
   usage = λ fine. let e = ended fine in usage_ends command old status outcome e.0 fine.memory e.1;
   solves = λ w bytes is known fine. let e = ended fine in solves_file w bytes old new status outcome taken now e.0 (law bytes) known (λ r. fine.loaded (read r)) fine.memory (subst (λ c. EndsWith c old status outcome e.0) is e.1) e.2 (subst (λ c. IsSaved c new outcome) is saved);
   checks = λ w stp log is known known' fine. let e = ended fine in checks_log w stp log old status outcome taken now e.0 known known' (λ r. fine.loaded (read r)) fine.memory (subst (λ c. EndsWith c old status outcome e.0) is e.1) e.2;
   draws = λ w is fine. let e = ended fine in sends_drawn w old status outcome taken now e.0 fine.memory (subst (λ c. EndsWith c old status outcome e.0) is e.1) e.2;
   tries = λ w is fine. let e = ended fine in sends_tried w old status outcome taken now e.0 fine.memory (subst (λ c. EndsWith c old status outcome e.0) is e.1) e.2;
+  verifies = λ w stp solution is known known' fine. let e = ended fine in verifies_solution w stp solution old status outcome taken now e.0 (law stp) (law_of_solutions solution) known known' (λ r. fine.loaded (read r)) fine.memory (subst (λ c. EndsWith c old status outcome e.0) is e.1) e.2;
+  counts = λ w bytes is known fine. let e = ended fine in counts_file w bytes old status outcome taken now e.0 (law bytes) known (λ r. fine.loaded (read r)) fine.memory (subst (λ c. EndsWith c old status outcome e.0) is e.1) e.2;
 } where
   no_write : NothingFails reads reads_now saves saves_now writes writes_now status → status ≢ WriteFault
   no_write fine failed = elim (write failed) [

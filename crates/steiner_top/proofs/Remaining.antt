@@ -8,7 +8,7 @@ use Rattle.st_model.specs.declared.tree.Tree.{Tree}
 use Rattle.st_model.specs.Lists.{has, sum_to}
 use Rattle.st_model.specs.Network.{Network, IsInstance, IsVertex, is_needed, is_required, need_of}
 use Rattle.st_model.specs.Arborescence.{IsTree}
-use Rattle.st_model.specs.Branch.{IsBranch, LeavesRequired, avoiding, is_free}
+use Rattle.st_model.specs.Branch.{IsBranch, avoiding, is_free}
 use Rattle.st_model.proofs.Sums.{sum_to_le, sum_to_same}
 use Rattle.cut_packing.specs.ProofTree.{Proves}
 use Rattle.lift_back.specs.declared.step.Step.{Step}
@@ -18,7 +18,7 @@ use Rattle.lift_back.specs.Steps.{Applies, Takes}
 use Rattle.lift_back.proofs.Beginning.{whole_state}
 use Rattle.lift_back.proofs.Stepwise.{steps_keep_the_least}
 use Rattle.log_format.specs.declared.proof_line.ProofLine.{ProofLine}
-use Rattle.log_format.specs.Accepts.{ProvesIn, left_of, left_over}
+use Rattle.log_format.specs.Accepts.{ProvesFrom, left_of, left_over}
 use Rattle.log_format.proofs.Alike.{AreAlike, alike-refl, proves_alike, takes_alike}
 use Rattle.log_format.proofs.AllTrees.{left_over-branch}
 use Rattle.search_core.specs.FreeVertices.{free_count}
@@ -40,10 +40,6 @@ pub some_left : (I : Network) (steps : List Step) (left : State) → IsInstance 
 some_left I steps left instance applies (t, tree) =
     let (new, new_is, less) = steps_keep_the_least steps (whole I) left t (whole_state I instance) applies (record { tree = tree; avoids = λ v gone. absurd cc }) in
     (new, new_is)
-
--- who is gone needs nothing, so nobody required is outside
-pub leaves_required : (s : State) → IsState s → LeavesRequired s.instance (left_over s)
-leaves_required s is v gone = ap is_needed (is.idle v gone)
 
 pub is_branch : (s : State) → IsState s → IsBranch s.instance (left_over s)
 is_branch s is = left_over-branch s is.gone
@@ -143,7 +139,7 @@ applies_alike (step ∷ steps) s t s' t' alike (next, next_is, here, later) (oth
     applies_alike steps next other s' t' (takes_alike step s t next other alike next_is other_is here there) later rest
 
 -- what is proved of one is proved of the other
-pub proved_of_both : (I : Network) (steps : List Step) (s t : State) (x : ℕ) (lines : List ProofLine) → Applies steps (whole I) s → Applies steps (whole I) t → ProvesIn s x lines → ProvesIn t x lines
+pub proved_of_both : (I : Network) (steps : List Step) (s t : State) (x : ℕ) (lines : List ProofLine) → Applies steps (whole I) s → Applies steps (whole I) t → ProvesFrom s x lines → ProvesFrom t x lines
 proved_of_both I steps s t x lines one other (p, written, proves) =
     let alike = applies_alike steps (whole I) (whole I) s t (alike-refl (whole I)) one other in
     let moved = proves_alike s.instance t.instance alike.instance (left_over s) (left_of x s) p proves in

@@ -28,7 +28,7 @@ writable_wall I wall is set h = record {
 }
 
 -- each tree of the instance reaches present vertices alone
-reaches_present : (I : Network) (g : Graph) (t : Tree) → IsWholeOf I g → IsInstance I → IsTree I t → ReachesPresent g t
+pub reaches_present : (I : Network) (g : Graph) (t : Tree) → IsWholeOf I g → IsInstance I → IsTree I t → ReachesPresent g t
 reaches_present I g t of is h v r = of.whole v (subst (λ (N : Network). IsVertex N.n v) (sym of.network) (tree-vertex I t v is h.arborescence r))
 
 -- a branch that has a tree has a first tree

@@ -1,22 +1,24 @@
 -- Why a run ends as it does, and what it has to send then.
-use Rattle.std.specs.Prelude.{◌≡◌, ◌≢◌, ◌⊎◌, ℕ, ◌^◌, ◌<◌, ◌≤◌, List, [], ◌∷◌, length, Option, Some, None, IfSome}
+use Rattle.std.specs.Prelude.{◌≡◌, ◌≢◌, ◌⊎◌, ℕ, ◌^◌, ◌<◌, ◌≤◌, List, [], ◌∷◌, ◌++◌, length, All, Option, Some, None, IfSome}
 use Rattle.st_edge.specs.declared.shelf.LoadFault.{LoadFault}
 use Rattle.st_edge.specs.declared.shelf.LoadFault.TheVariants as load
 use Rattle.st_edge.specs.declared.shelf.SaveFault.{SaveFault}
 use Rattle.st_edge.specs.declared.shelf.SaveFault.TheVariants as save
-use Rattle.st_edge.specs.Shelf.{SameTexts, SameOtherTexts}
+use Rattle.st_edge.specs.Shelf.{AsksFor, SameTexts, SameOtherTexts}
 use Rattle.st_edge.specs.Sink.{TakesFront}
 use Rattle.log_format.specs.Text.{log_text}
 use Rattle.command_line.specs.declared.parse.WordFault.{WordFault}
 use Rattle.command_line.specs.declared.parse.WordFault.TheVariants as word
-use Rattle.command_line.specs.Words.{Command, SolveWords, CheckWords, solve, check, gen, trial}
+use Rattle.command_line.specs.Words.{Command, SolveWords, CheckWords, FewWords, VerifyWords, solve, check, gen, trial, few, verify}
 use Rattle.steiner_top.specs.declared.outcome.Outcome.{Outcome}
 use Rattle.steiner_top.specs.declared.status.Status.{Status}
 use Rattle.steiner_top.specs.declared.status.Status.TheVariants.{Usage, ReadFault, WriteFault, NoMemory, TooLong}
 use Rattle.steiner_top.specs.Answer.{SolveAnswer, CheckAnswer}
+use Rattle.steiner_top.specs.Counted.{FewAnswer}
 use Rattle.steiner_top.specs.Drawn.{IsDrawn, IsTried}
 use Rattle.steiner_top.specs.Outcome.{certificate_of}
 use Rattle.steiner_top.specs.Output.{line_of}
+use Rattle.steiner_top.specs.Verified.{VerifyAnswer}
 
 -- the text under each name, as far as the shelf tells
 abbrev pub Texts : Type 0
@@ -57,6 +59,20 @@ IsStopped names texts NoMemory = Unit {0}
 IsStopped names texts TooLong = IsTooLong names texts
 IsStopped names texts _ = ⊥
 
+-- a load ended the run at one of these names: those before it were asked for and loaded, it was asked for last, and none after it was
+pub record StopsAtOne (names : List (List ℕ)) (texts : Texts) (asked asked_now : Option (List (List ℕ))) (status : Status) : Type 0 where
+  pub before : List (List ℕ)
+  pub name : List ℕ
+  pub after : List (List ℕ)
+  pub split : names ≡ before ++ name ∷ after
+  pub asks : AsksFor asked asked_now (before ++ name ∷ [])
+  pub loaded : All (λ other. IfSome (texts other) (λ text. length text ≤ 2 ^ 34)) before
+  pub long : status ≡ TooLong → IfSome (texts name) (λ text. 2 ^ 34 < length text)
+
+-- where a load failed, or a text was too long, that ended the run
+abbrev pub StopsAtLoad : List (List ℕ) → Texts → Option (List (List ℕ)) → Option (List (List ℕ)) → Status → Type 0
+StopsAtLoad names texts asked asked_now status = (status ≡ ReadFault) ⊎ (status ≡ TooLong) → StopsAtOne names texts asked asked_now status
+
 -- the file is loaded and answered
 abbrev pub IsSolveAnswered : SolveWords → Texts → Status → Option Outcome → List ℕ → Type 0
 IsSolveAnswered w texts status outcome sent = (bytes : List ℕ) × IsLoaded (texts w.file) bytes × SolveAnswer w bytes status outcome sent
@@ -65,6 +81,14 @@ IsSolveAnswered w texts status outcome sent = (bytes : List ℕ) × IsLoaded (te
 abbrev pub IsCheckAnswered : CheckWords → Texts → Status → Option Outcome → List ℕ → Type 0
 IsCheckAnswered w texts status outcome sent = (stp log : List ℕ) × IsLoaded (texts w.file) stp × IsLoaded (texts w.log_name) log × CheckAnswer stp log status sent × (outcome ≡ None)
 
+-- the file is loaded and answered with a best tree, or why not
+abbrev pub IsFewAnswered : FewWords → Texts → Status → Option Outcome → List ℕ → Type 0
+IsFewAnswered w texts status outcome sent = (bytes : List ℕ) × IsLoaded (texts w.file) bytes × FewAnswer w bytes status sent × (outcome ≡ None)
+
+-- the file and the solution are loaded and answered
+abbrev pub IsVerifyAnswered : VerifyWords → Texts → Status → Option Outcome → List ℕ → Type 0
+IsVerifyAnswered w texts status outcome sent = (stp solution : List ℕ) × IsLoaded (texts w.file) stp × IsLoaded (texts w.solution) solution × VerifyAnswer stp solution status sent × (outcome ≡ None)
+
 -- what the words ask for is answered
 abbrev pub IsAnswered : Option Command → Texts → Status → Option Outcome → List ℕ → Type 0
 IsAnswered None texts status outcome sent = ⊥
@@ -72,6 +96,8 @@ IsAnswered (Some (solve w)) texts status outcome sent = IsSolveAnswered w texts 
 IsAnswered (Some (check w)) texts status outcome sent = IsCheckAnswered w texts status outcome sent
 IsAnswered (Some (gen w)) texts status outcome sent = IsDrawn w status outcome sent
 IsAnswered (Some (trial w)) texts status outcome sent = IsTried w status outcome sent
+IsAnswered (Some (few w)) texts status outcome sent = IsFewAnswered w texts status outcome sent
+IsAnswered (Some (verify w)) texts status outcome sent = IsVerifyAnswered w texts status outcome sent
 
 -- the names of the texts that the words ask for
 abbrev pub names_of : Command → List (List ℕ)
@@ -79,6 +105,8 @@ names_of (solve w) = w.file ∷ []
 names_of (check w) = w.file ∷ w.log_name ∷ []
 names_of (gen w) = []
 names_of (trial w) = []
+names_of (few w) = w.file ∷ []
+names_of (verify w) = w.file ∷ w.solution ∷ []
 
 -- the names of the texts that are loaded, in this order
 abbrev pub loads_of : Option Command → List (List ℕ)
@@ -101,6 +129,8 @@ log_name_of (Some (solve w)) = w.log_name
 log_name_of (Some (check w)) = None
 log_name_of (Some (gen w)) = None
 log_name_of (Some (trial w)) = None
+log_name_of (Some (few w)) = None
+log_name_of (Some (verify w)) = None
 
 -- the certificate's text stands under the log's name
 abbrev pub IsSaved : Option Command → Texts → Option Outcome → Type 0
@@ -111,9 +141,10 @@ abbrev pub SameBut : Option (List ℕ) → Texts → Texts → Type 0
 SameBut None old new = SameTexts old new
 SameBut (Some name) old new = SameOtherTexts name old new
 
--- an answer was made and couldn't be handed out: nothing of it was taken, or a front
-abbrev pub IsCutShort : Option Command → Texts → Option (List ℕ) → Option (List ℕ) → Type 0
-IsCutShort command texts taken now = (status : Status) × (outcome : Option Outcome) × (sent : List ℕ) × EndsWith command texts status outcome sent × ((now ≡ taken) ⊎ TakesFront taken now sent)
+-- an answer was made and couldn't be handed out: nothing of it was taken, or a front; its log stands where no save failed
+abbrev pub IsCutShort : Option Command → Texts → Texts → Type 0 → Option (List ℕ) → Option (List ℕ) → Type 0
+IsCutShort command old new failed taken now = (status : Status) × (outcome : Option Outcome) × (sent : List ℕ)
+    × EndsWith command old status outcome sent × ((now ≡ taken) ⊎ TakesFront taken now sent) × ((failed → ⊥) → IsSaved command new outcome)
 
 -- the shelf keeps each text, but for that of a log that was saved or couldn't be
 abbrev pub KeepsTexts : Option Command → Status → Option Outcome → Texts → Texts → Type 0

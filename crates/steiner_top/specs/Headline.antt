@@ -14,15 +14,17 @@ use Rattle.dimacs_writer.specs.Solution.{IsSolutionText}
 use Rattle.cert_checker.specs.declared.verdict.Verdict.{Verdict}
 use Rattle.cert_checker.specs.declared.verdict.Verdict.TheVariants as verdict
 use Rattle.cert_checker.specs.Checking.{IsAnswer}
-use Rattle.command_line.specs.Words.{Command, SolveWords, CheckWords, GenWords, TrialWords, solve, check, gen, trial}
+use Rattle.command_line.specs.Words.{Command, SolveWords, CheckWords, GenWords, TrialWords, FewWords, VerifyWords, solve, check, gen, trial, few, verify}
 use Rattle.steiner_top.specs.declared.outcome.Outcome.{Outcome}
 use Rattle.steiner_top.specs.declared.outcome.Outcome.TheVariants.{Found}
 use Rattle.steiner_top.specs.declared.status.Status.{Status}
 use Rattle.steiner_top.specs.declared.status.Status.TheVariants.{Optimal, Usage, Budget, Infeasible, RefusedFile, NoMemory, TooLong}
 use Rattle.steiner_top.specs.Causes.{Texts}
+use Rattle.steiner_top.specs.Counted.{CountsFile}
 use Rattle.steiner_top.specs.Drawn.{IsDrawn, IsTried}
 use Rattle.steiner_top.specs.Outcome.{IsFound}
 use Rattle.steiner_top.specs.Output.{status_of_verdict, verdict_line}
+use Rattle.steiner_top.specs.Verified.{VerifiesSolution}
 
 -- no load, save or write failed, and memory sufficed
 pub record NothingFails (reads reads_now saves saves_now writes writes_now : ℕ) (status : Status) : Type 0 where
@@ -73,3 +75,5 @@ pub record Headline (command : Option Command) (old new : Texts) (reads reads_no
   pub checks : (w : CheckWords) (stp log : List ℕ) → command ≡ Some (check w) → old w.file ≡ Some stp → old w.log_name ≡ Some log → NothingFails reads reads_now saves saves_now writes writes_now status → ChecksLog stp log status taken now
   pub draws : (w : GenWords) → command ≡ Some (gen w) → NothingFails reads reads_now saves saves_now writes writes_now status → Sends (IsDrawn w) status outcome taken now
   pub tries : (w : TrialWords) → command ≡ Some (trial w) → NothingFails reads reads_now saves saves_now writes writes_now status → Sends (IsTried w) status outcome taken now
+  pub counts : (w : FewWords) (bytes : List ℕ) → command ≡ Some (few w) → old w.file ≡ Some bytes → NothingFails reads reads_now saves saves_now writes writes_now status → CountsFile w bytes status taken now
+  pub verifies : (w : VerifyWords) (stp solution : List ℕ) → command ≡ Some (verify w) → old w.file ≡ Some stp → old w.solution ≡ Some solution → NothingFails reads reads_now saves saves_now writes writes_now status → VerifiesSolution stp solution status taken now

@@ -1,8 +1,12 @@
 -- What steps leave of an instance. Helpers' clauses cite this, and no public one.
-use Rattle.std.specs.Prelude.{◌≡◌, ℕ, ◌<◌, ◌^◌, Bool, [], ◌∷◌, length, ⊤}
+use Rattle.std.specs.Prelude.{◌≡◌, ℕ, ◌<◌, ◌^◌, Bool, [], ◌∷◌, length, None, IsTrue, IsFalse, ⊤}
 use Rattle.st_model.specs.declared.tree.Tree.{Tree}
-use Rattle.st_model.specs.Network.{Network}
+use Rattle.st_model.specs.Network.{Network, is_required, link}
+use Rattle.st_model.specs.declared.branch.Branch.{Branch}
 use Rattle.st_model.specs.Arborescence.{cost}
+use Rattle.st_model.specs.Lists.{has}
+use Rattle.st_model.specs.Terminals.{NobodyPays}
+use Rattle.twice_tree.specs.Twice.{IsWithinTwice}
 use Rattle.lift_back.specs.declared.step.Step.{Step}
 use Rattle.lift_back.specs.declared.step.Step.TheVariants.{Pendant, Through, Forced, Detour}
 use Rattle.lift_back.specs.State.{State, IsTreeOf, whole}
@@ -29,10 +33,17 @@ pub record IsLeftOf (I : Network) (plain : Bool) (l : Left) : Type 0 where
 abbrev pub HasSomeTree : State → Type 0
 HasSomeTree s = (t : Tree) × IsTreeOf s t
 
+-- a branch of all trees but those that reach some who have no links and aren't required
+pub record LeavesOutLone (I : Network) (B : Branch) : Type 0 where
+  pub inside : B.inside ≡ []
+  pub free : (v : ℕ) → IsTrue (has B.outside v) → IsFalse (is_required I v)
+  pub alone : (v w : ℕ) → IsTrue (has B.outside v) → link I.links v w ≡ None
+
 -- a search of what is left and the best tree that it found, all of which can be written in a log
 pub record IsBestOf (s : State) (budget : ℕ) (b : Best) : Type 0 where
   pub is_left : IsTreeOf s b.tree
   pub is_least : b.search.gathered.least ≡ cost s.instance b.tree
+  pub near : NobodyPays s.instance → IsWithinTwice s.instance b.tree
   pub searched : IsSearchOf s budget b.search
   pub writable : AllPackings IsWritablePacking b.search.gathered
 

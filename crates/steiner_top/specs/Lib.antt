@@ -6,3 +6,5 @@ pub mod Left
 pub mod Causes
 pub mod Checked
 pub mod Headline
+pub mod Counted
+pub mod Verified

@@ -4,6 +4,8 @@ use Rattle.st_model.specs.declared.tree.Tree.{Tree}
 use Rattle.st_model.specs.Lists.{sum_to}
 use Rattle.st_model.specs.Network.{Network, is_required}
 use Rattle.st_model.specs.Arborescence.{IsTree, IsBound, cost}
+use Rattle.st_model.specs.Terminals.{NobodyPays}
+use Rattle.twice_tree.specs.Twice.{IsWithinTwice}
 use Rattle.stp_reader.specs.declared.fault.ReadError.{ReadError}
 use Rattle.stp_reader.specs.declared.fault.ReadError.TheVariants.{Fault, NoMemory as NoMemoryToRead}
 use Rattle.stp_reader.specs.Reads.{Reads, Refused}
@@ -79,6 +81,8 @@ pub record IsFound (nodes : ℕ) (plain : Bool) (I : Network) (tree : Tree) (pri
   pub is_cost : primal ≡ cost I tree
   pub is_bound : IsBound I dual
   pub is_below : dual ≤ primal
+  -- where nobody pays it costs at most twice what each tree costs, less a share, whatever the budget
+  pub near : NobodyPays I → IsWithinTwice I tree
   pub certified : IsCertificate nodes plain I tree primal dual expanded searches log
   -- a budget that is sure to suffice
   pub enough : 2 ^ (free_vertices I + 1) ≤ nodes → dual ≡ primal

@@ -6,10 +6,16 @@ use Rattle.stp_reader.specs.Reason as reason
 use Rattle.log_format.specs.declared.kind.Kind.{Kind}
 use Rattle.log_format.specs.Kind as kind
 use Rattle.dimacs_writer.specs.Solution.{remark}
+use Rattle.few_terminals.specs.declared.fault.FewFault.{FewFault}
+use Rattle.few_terminals.specs.Fault as few_fault
+use Rattle.solution_reader.specs.declared.reason.SolReason.{SolReason}
+use Rattle.solution_reader.specs.declared.verify_fault.VerifyFault.{VerifyFault}
+use Rattle.solution_reader.specs.Reason as sol_reason
+use Rattle.solution_reader.specs.Stated.{number_of, fault_name}
 use Rattle.cert_checker.specs.declared.verdict.Verdict.{Verdict}
 use Rattle.cert_checker.specs.declared.verdict.Verdict.TheVariants as verdict
 use Rattle.steiner_top.specs.declared.status.Status.{Status}
-use Rattle.steiner_top.specs.declared.status.Status.TheVariants.{Optimal, Usage, Budget, Infeasible, RefusedFile, RefusedLog, ReadFault, WriteFault, NoMemory, TooLong}
+use Rattle.steiner_top.specs.declared.status.Status.TheVariants.{Optimal, Usage, Budget, Infeasible, RefusedFile, RefusedLog, ReadFault, WriteFault, NoMemory, TooLong, NotFew, NotTree, RefusedSolution}
 
 abbrev pub code_of : Status → ℕ
 code_of Optimal = 0
@@ -22,10 +28,13 @@ code_of ReadFault = 7
 code_of WriteFault = 8
 code_of NoMemory = 9
 code_of TooLong = 10
+code_of NotFew = 11
+code_of NotTree = 12
+code_of RefusedSolution = 13
 
 -- what is sent where a status alone says it
 abbrev pub line_of : Status → List ℕ
-line_of Usage = codes "usage: steiner solve FILE [--workers W] [--nodes N] [--log NAME] [--plain] | check FILE LOG | gen SEED N M T [--prizes] | trial SEED N M T [--workers W]\n"
+line_of Usage = codes "usage: steiner solve FILE [--workers W] [--nodes N] [--log NAME] [--plain] | check FILE LOG | gen SEED N M T [--prizes] | trial SEED N M T [--workers W] | few FILE | verify FILE SOLUTION\n"
 line_of ReadFault = codes "read fault\n"
 line_of TooLong = codes "too long\n"
 line_of _ = []
@@ -39,6 +48,22 @@ refused_stp line r = codes "refused stp " ++ (decimal line ++ (codes " " ++ (dec
 
 abbrev pub refused_log : ℕ → Kind → List ℕ
 refused_log line k = codes "refused log " ++ (decimal line ++ (codes " " ++ (decimal (kind.code_of k) ++ (codes " " ++ (kind.name_of k ++ codes "\n")))))
+
+-- an instance isn't one of few terminals, by the number and the name of its fault
+abbrev pub not_few_line : FewFault → List ℕ
+not_few_line f = codes "not few " ++ (decimal (few_fault.code_of f) ++ (codes " " ++ (few_fault.name_of f ++ codes "\n")))
+
+-- what is claimed is a tree of this cost
+abbrev pub tree_line : ℕ → List ℕ
+tree_line cost = codes "tree " ++ (decimal cost ++ codes "\n")
+
+-- or it isn't, by the number and the name of what is wrong
+abbrev pub not_tree_line : VerifyFault → List ℕ
+not_tree_line f = codes "not a tree " ++ (decimal (number_of f) ++ (codes " " ++ (fault_name f ++ codes "\n")))
+
+-- a solution is refused at a line
+abbrev pub refused_solution : ℕ → SolReason → List ℕ
+refused_solution line r = codes "refused solution " ++ (decimal line ++ (codes " " ++ (decimal (sol_reason.code_of r) ++ (codes " " ++ (sol_reason.name_of r ++ codes "\n")))))
 
 -- the verdict on a log
 abbrev pub verdict_line : Verdict → List ℕ

@@ -2,7 +2,7 @@ ghost use Rattle.std.specs.Prelude.{◌≡◌, ◌≢◌, ℕ, List, Option, IfO
 ghost use Rattle.st_edge.specs.Faults.{HasCause};
 ghost use Rattle.st_edge.specs.Shelf.{AsksForFront, SameTexts};
 ghost use Rattle.command_line.specs.Words.{command_of};
-ghost use Rattle.steiner_top.specs.Causes.{IsAnswered, IsUnanswered, IsSaved, SameBut, loads_of, log_name_of};
+ghost use Rattle.steiner_top.specs.Causes.{IsAnswered, IsUnanswered, IsSaved, SameBut, StopsAtLoad, loads_of, log_name_of};
 ghost use Rattle.steiner_top.specs.declared.outcome.Outcome.{Outcome as Given};
 ghost use Rattle.steiner_top.specs.declared.status.Status.{Status as Ending};
 ghost use Rattle.steiner_top.specs.declared.status.Status.TheVariants.{WriteFault};
@@ -10,9 +10,11 @@ ghost use Rattle.steiner_top.specs.declared.status.Status.TheVariants.{WriteFaul
 use crate::Status;
 use crate::answer::Answer;
 use crate::check_command::check_command;
+use crate::few_command::few_command;
 use crate::gen_command::gen_command;
 use crate::solve_command::solve_command;
 use crate::trial_command::trial_command;
+use crate::verify_command::verify_command;
 use command_line::{Cmd, read_words};
 use st_edge::Shelf;
 use std::alloc::Global;
@@ -36,6 +38,8 @@ pub fn answer<R: Threads + Wait + Sync, F: Shelf, G: Gate>(
     ensures unsaved { IsErrOf result Status.WriteFault
         → (status : Ending) × (outcome : Option Given) × (sent : List ℕ)
         × IsAnswered (command_of (map string_bytes words.now)) (F.text shelf.old) status outcome sent }
+    ensures first { IfErr result (StopsAtLoad (loads_of (command_of (map string_bytes words.now)))
+        (F.text shelf.old) (F.asked shelf.old) (F.asked shelf.new)) }
     ensures asked { AsksForFront (F.asked shelf.old) (F.asked shelf.new)
         (loads_of (command_of (map string_bytes words.now))) }
     ensures saved { IfOk result (λ a. IsSaved (command_of (map string_bytes words.now)) (F.text shelf.new) a.outcome) }
@@ -54,6 +58,8 @@ pub fn answer<R: Threads + Wait + Sync, F: Shelf, G: Gate>(
         Ok(Cmd::Check(words)) => check_command(alloc, &words, shelf),
         Ok(Cmd::Gen(words)) => Ok(gen_command(alloc, &words)?),
         Ok(Cmd::Trial(words)) => Ok(trial_command(rt, alloc, &words, gate)?),
+        Ok(Cmd::Few(words)) => few_command(alloc, &words, shelf),
+        Ok(Cmd::Verify(words)) => verify_command(alloc, &words, shelf),
         Err(fault) => Err(Status::from(fault)),
     }
 }

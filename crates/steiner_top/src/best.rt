@@ -4,7 +4,7 @@ ghost use Rattle.st_model.specs.Branch.{Belongs};
 ghost use Rattle.search_core.specs.Complete.{least_found, less_found};
 
 use search_core::{Searched, Segment};
-use st_model::{Branch, Instance, Listed, Tree, tree_cost};
+use st_model::{Branch, Instance, Tree, tree_cost};
 use std::alloc::{AllocError, Global};
 
 // A search, and the best tree that it found.
@@ -77,19 +77,8 @@ fn cheaper(
         ≡ min (cost instance.now second.now) (cost instance.now first)) }
 {
     if tree_cost(instance, second) < tree_cost(instance, &first) {
-        copy_of(alloc, second)
+        second.copied(alloc)
     } else {
         Ok(first)
     }
-}
-
-/// The same tree once more.
-pub fn copy_of(alloc: Global, tree: &Tree) -> Result<Tree, AllocError>
-    ensures { IfOk result (λ copy. copy ≡ tree.now) }
-{
-    let arcs = Vec::from_slice(alloc, tree.arcs.as_slice())?;
-    Ok(Tree {
-        start: tree.start,
-        arcs: Listed::of(arcs),
-    })
 }

@@ -1,9 +1,9 @@
-ghost use Rattle.std.specs.Prelude.{◌≡◌, [], ◌∷◌, IfOk, IfErr, IsErrOf, None, string_bytes};
+ghost use Rattle.std.specs.Prelude.{◌≡◌, [], ◌∷◌, IfOk, IfErr, IsErrOf, None};
 ghost use Rattle.st_edge.specs.Faults.{HasCause};
 ghost use Rattle.st_edge.specs.Shelf.{AsksForFront, SameTexts};
 ghost use Rattle.command_line.specs.Seen.{check_words};
 ghost use Rattle.steiner_top.specs.Answer.{CheckAnswer, IsLineOf};
-ghost use Rattle.steiner_top.specs.Causes.{IsCheckAnswered, IsStopped};
+ghost use Rattle.steiner_top.specs.Causes.{IsCheckAnswered, IsStopped, StopsAtLoad};
 
 use crate::Status;
 use crate::answer::Answer;
@@ -14,31 +14,18 @@ use command_line::CheckWords;
 use st_edge::Shelf;
 use std::alloc::{AllocError, Global};
 
-// An answer of one line.
-fn line_answer(status: Status, line: String) -> Answer
-    ensures status { result.status ≡ status }
-    ensures outcome { result.outcome ≡ None }
-    ensures text { result.text.items ≡ string_bytes line }
-{
-    Answer {
-        status,
-        outcome: None,
-        text: line.into_bytes(),
-    }
-}
-
 // How what a check found is answered.
 fn answer_to(alloc: Global, found: Result<Verdict, CheckFault>) -> Result<Answer, AllocError>
     ensures line { IfOk result (λ a. IsLineOf found a.status a.text.items) }
     ensures outcome { IfOk result (λ a. a.outcome ≡ None) }
 {
     match found {
-        Ok(concluded) => Ok(line_answer(Status::of(concluded), verdict(alloc, concluded)?)),
-        Err(CheckFault::Stp(fault)) => Ok(line_answer(
+        Ok(concluded) => Ok(Answer::of_line(Status::of(concluded), verdict(alloc, concluded)?)),
+        Err(CheckFault::Stp(fault)) => Ok(Answer::of_line(
             Status::RefusedFile,
             refused_stp(alloc, fault)?,
         )),
-        Err(CheckFault::Log(fault)) => Ok(line_answer(
+        Err(CheckFault::Log(fault)) => Ok(Answer::of_line(
             Status::RefusedLog,
             refused_log(alloc, fault)?,
         )),
@@ -65,6 +52,8 @@ pub fn check_command<F: Shelf>(
         IsCheckAnswered (check_words words.now) (F.text shelf.old) a.status a.outcome a.text.items) }
     ensures stopped { IfErr result
         (IsStopped (words.now.file.now ∷ words.now.log_name.now ∷ []) (F.text shelf.old)) }
+    ensures first { IfErr result (StopsAtLoad (words.now.file.now ∷ words.now.log_name.now ∷ [])
+        (F.text shelf.old) (F.asked shelf.old) (F.asked shelf.new)) }
     ensures asked { AsksForFront (F.asked shelf.old) (F.asked shelf.new)
         (words.now.file.now ∷ words.now.log_name.now ∷ []) }
     ensures texts { SameTexts (F.text shelf.old) (F.text shelf.new) }

@@ -9,10 +9,12 @@ mod answer;
 mod answering;
 mod best;
 mod check_command;
+mod few_command;
 mod gen_command;
 mod left;
 mod lines;
 mod loading;
+mod nearing;
 mod outcome;
 mod reducing;
 mod running;
@@ -21,9 +23,11 @@ mod solving;
 mod start;
 mod status;
 mod trial_command;
+mod verify_command;
 
 pub use command_line::{
-    CheckWords, Cmd, DrawWords, GenWords, SolveWords, TrialWords, WordFault, read_words,
+    CheckWords, Cmd, DrawWords, FewWords, GenWords, SolveWords, TrialWords, VerifyWords, WordFault,
+    read_words,
 };
 pub use outcome::{Outcome, SolveFault};
 pub use running::{Ended, run};

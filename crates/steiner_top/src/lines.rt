@@ -1,9 +1,11 @@
 ghost use Rattle.std.specs.Prelude.{◌≡◌, IfOk, string_bytes};
 ghost use Rattle.dimacs_writer.specs.Solution.{remark};
-ghost use Rattle.steiner_top.specs.Output.{infeasible_line, refused_stp, refused_log, summary, verdict_line};
+ghost use Rattle.steiner_top.specs.Output.{infeasible_line, not_few_line, not_tree_line, refused_stp, refused_log, refused_solution, summary, tree_line, verdict_line};
 
 use cert_checker::Verdict;
+use few_terminals::FewFault;
 use log_format::LogFault;
+use solution_reader::{SolFault, VerifyFault};
 use std::alloc::{AllocError, Global};
 use stp_reader::StpFault;
 
@@ -28,6 +30,37 @@ pub fn refused_log(alloc: Global, fault: LogFault) -> Result<String, AllocError>
 {
     let (code, name) = (fault.kind.code(), fault.kind.name());
     format!(in alloc; "refused log {} {} {}\n", fault.line, code, name)
+}
+
+/// The line that an instance isn't one of few terminals.
+pub fn not_few(alloc: Global, fault: FewFault) -> Result<String, AllocError>
+    ensures { IfOk result (λ line. string_bytes line ≡ not_few_line fault) }
+{
+    let (code, name) = (fault.code(), fault.name());
+    format!(in alloc; "not few {} {}\n", code, name)
+}
+
+/// The line of the cost of a tree that was claimed.
+pub fn claimed_tree(alloc: Global, cost: u64) -> Result<String, AllocError>
+    ensures { IfOk result (λ line. string_bytes line ≡ tree_line cost) }
+{
+    format!(in alloc; "tree {cost}\n")
+}
+
+/// The line that what was claimed isn't a tree.
+pub fn not_tree(alloc: Global, fault: VerifyFault) -> Result<String, AllocError>
+    ensures { IfOk result (λ line. string_bytes line ≡ not_tree_line fault) }
+{
+    let (number, name) = (fault.number(), fault.name());
+    format!(in alloc; "not a tree {} {}\n", number, name)
+}
+
+/// The line that a solution is refused.
+pub fn refused_claim(alloc: Global, fault: SolFault) -> Result<String, AllocError>
+    ensures { IfOk result (λ line. string_bytes line ≡ refused_solution fault.line fault.reason) }
+{
+    let (code, name) = (fault.reason.code(), fault.reason.name());
+    format!(in alloc; "refused solution {} {} {}\n", fault.line, code, name)
 }
 
 /// The line of a verdict.

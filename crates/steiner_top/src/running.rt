@@ -6,7 +6,7 @@ ghost use Rattle.st_edge.specs.Sink.{TakesFront};
 ghost use Rattle.command_line.specs.Words.{command_of};
 ghost use Rattle.steiner_top.specs.Headline.{Headline, NothingFails};
 ghost use Rattle.steiner_top.specs.Checked.{ChecksBothWays};
-ghost use Rattle.steiner_top.specs.Causes.{EndsWith, IsCutShort, IsSaved, KeepsTexts, loads_of};
+ghost use Rattle.steiner_top.specs.Causes.{EndsWith, IsCutShort, IsSaved, KeepsTexts, StopsAtLoad, loads_of};
 ghost use Rattle.steiner_top.specs.declared.status.Status.TheVariants.{ReadFault, WriteFault};
 
 use crate::answering::answer;
@@ -31,6 +31,8 @@ pub struct Ended {
 /// budget of nodes, by a search of what reduction steps leave of it unless the words say `--plain`,
 /// saves the log if the words ask for it, and then sends the solution to the sink.
 /// `check FILE LOG` loads both, and sends what may be concluded of the file from the log.
+/// `few FILE` sends a best tree of a file with at most twelve terminals in which no other vertex pays, without a search.
+/// `verify FILE SOLUTION` loads both, and sends what the tree costs that the solution claims, or what is wrong with it.
 /// `gen SEED N M T` draws an instance and sends its text. `trial SEED N M T` draws one and solves it within a budget of
 /// 1,000,000 nodes, and sends the cost of its tree and a bound; where they are equal the words say which cost that is.
 pub fn run<R: Threads + Wait + Sync, F: Shelf, K: Sink, G: Gate>(
@@ -54,11 +56,15 @@ pub fn run<R: Threads + Wait + Sync, F: Shelf, K: Sink, G: Gate>(
         × EndsWith (command_of (map string_bytes words.now)) (F.text shelf.old) result.status result.outcome sent
         × (K.taken out.new ≡ append_known (K.taken out.old) sent) }
     ensures cut_short { result.status ≡ WriteFault
-        → IsCutShort (command_of (map string_bytes words.now)) (F.text shelf.old) (K.taken out.old) (K.taken out.new) }
+        → IsCutShort (command_of (map string_bytes words.now)) (F.text shelf.old) (F.text shelf.new)
+        (Rose (F.write_faults shelf.old) (F.write_faults shelf.new)) (K.taken out.old) (K.taken out.new) }
     ensures no_outcome { result.status ≡ WriteFault → result.outcome ≡ None }
     // The file is loaded, and then the log that is to be checked, and no other text.
     ensures asked { AsksForFront (F.asked shelf.old) (F.asked shelf.new)
         (loads_of (command_of (map string_bytes words.now))) }
+    // The first text that fails to load ends the run.
+    ensures first { StopsAtLoad (loads_of (command_of (map string_bytes words.now))) (F.text shelf.old)
+        (F.asked shelf.old) (F.asked shelf.new) result.status }
     // A log that was asked for stands where an outcome was sent, and nothing is sent where it doesn't.
     ensures saved { IsSaved (command_of (map string_bytes words.now)) (F.text shelf.new) result.outcome }
     ensures unsaved { result.status ≡ WriteFault → (Rose (K.faults out.old) (K.faults out.new) → ⊥)
@@ -72,6 +78,7 @@ pub fn run<R: Threads + Wait + Sync, F: Shelf, K: Sink, G: Gate>(
     ensures counts { (F.write_faults shelf.old ≤ F.write_faults shelf.new) × (K.faults out.old ≤ K.faults out.new) }
 {
     stp_reader::refused_exactly();
+    solution_reader::solutions_refused_exactly();
     match answer(rt, alloc, words, shelf, gate) {
         Ok(answer) => send(out, answer.status, answer.outcome, &answer.text),
         Err(status) => send(out, status, None, status.line().as_bytes()),

@@ -5,7 +5,7 @@ ghost use Rattle.log_format.specs.Text.{IsLog};
 ghost use Rattle.command_line.specs.Seen.{solve_words};
 ghost use Rattle.command_line.specs.Words.{solve};
 ghost use Rattle.steiner_top.specs.Answer.{IsOutcomeText, SolveAnswer, status_of_outcome};
-ghost use Rattle.steiner_top.specs.Causes.{IsSolveAnswered, IsSaved, IsStopped, SameBut, log_name_of};
+ghost use Rattle.steiner_top.specs.Causes.{IsSolveAnswered, IsSaved, IsStopped, SameBut, StopsAtLoad, log_name_of};
 ghost use Rattle.steiner_top.specs.Outcome.{certificate_of};
 ghost use Rattle.steiner_top.specs.declared.outcome.Outcome.{Outcome as Given};
 ghost use Rattle.steiner_top.specs.declared.status.Status.{Status as Ending};
@@ -140,6 +140,8 @@ pub fn solve_command<R: Threads + Wait + Sync, F: Shelf, G: Gate>(
         → IsStopped (words.now.file.now ∷ []) (F.text shelf.old) status) }
     ensures unsaved { IsErrOf result Status.WriteFault → (status : Ending) × (outcome : Option Given)
         × (sent : List ℕ) × IsSolveAnswered (solve_words words.now) (F.text shelf.old) status outcome sent }
+    ensures first { IfErr result (StopsAtLoad (words.now.file.now ∷ [])
+        (F.text shelf.old) (F.asked shelf.old) (F.asked shelf.new)) }
     ensures asked { AsksForFront (F.asked shelf.old) (F.asked shelf.new) (words.now.file.now ∷ []) }
     ensures saved { IfOk result (λ a. IsSaved (Some (solve (solve_words words.now))) (F.text shelf.new) a.outcome) }
     ensures others { SameBut (log_name_of (Some (solve (solve_words words.now))))

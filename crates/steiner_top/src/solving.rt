@@ -11,11 +11,12 @@ ghost use Rattle.steiner_top.specs.declared.outcome.SolveFault.TheVariants.{Stp,
 ghost use Rattle.steiner_top.specs.Left.{HasSomeTree, IsBestOf, IsClaimOf, IsFoundClaim, IsLeftOf, IsShownBy};
 ghost use Rattle.steiner_top.specs.Outcome.{IsOutcome, Solves};
 
-use crate::best::{Best, cheapest, copy_of};
+use crate::best::{Best, cheapest};
 use crate::left::Left;
+use crate::nearing::near_start;
 use crate::outcome::{Outcome, SolveFault};
 use crate::reducing::{count_steps, left_of, left_over};
-use crate::start::{start_tree, wall_of};
+use crate::start::wall_of;
 use certificate_log::assemble;
 use graph_store::Whole;
 use lift_back::Reduced;
@@ -142,7 +143,7 @@ fn search_from<R: Threads + Wait + Sync, G: Gate>(
     requires sides { sides.now ≡ left_over reduced.now.state }
     ensures { IfOk result (IsBestOf reduced.now.state nodes) }
 {
-    let start = start_tree(alloc, whole, sides)?;
+    let start = near_start(alloc, whole, sides)?;
     let branch = sides.branch();
     let first = tree_cost(&whole.instance, &start);
     let gathered = run_all(rt, alloc, whole, branch, &start, workers, nodes, gate)?;
@@ -215,7 +216,7 @@ fn claimed(alloc: Global, log: &Log) -> Result<(Tree, u64, u64), AllocError>
             primal,
             dual,
             ..
-        } => Ok((copy_of(alloc, tree)?, *primal, *dual)),
+        } => Ok((tree.copied(alloc)?, *primal, *dual)),
         Claim::NoTree { .. } => unreachable!(),
     }
 }

@@ -30,6 +30,12 @@ pub enum Status {
     NoMemory,
     /// A text is longer than 2^34 bytes.
     TooLong,
+    /// The file's instance has more than few terminals, or prizes, or is too large for the table.
+    NotFew,
+    /// The solution's claim isn't a tree of the file's instance that costs what it says.
+    NotTree,
+    /// The bytes are no solution.
+    RefusedSolution,
 }
 
 impl Status {
@@ -48,6 +54,9 @@ impl Status {
             Status::WriteFault => 8,
             Status::NoMemory => 9,
             Status::TooLong => 10,
+            Status::NotFew => 11,
+            Status::NotTree => 12,
+            Status::RefusedSolution => 13,
         }
     }
 
@@ -57,7 +66,7 @@ impl Status {
     {
         match self {
             Status::Usage => {
-                "usage: steiner solve FILE [--workers W] [--nodes N] [--log NAME] [--plain] | check FILE LOG | gen SEED N M T [--prizes] | trial SEED N M T [--workers W]\n"
+                "usage: steiner solve FILE [--workers W] [--nodes N] [--log NAME] [--plain] | check FILE LOG | gen SEED N M T [--prizes] | trial SEED N M T [--workers W] | few FILE | verify FILE SOLUTION\n"
             }
             Status::ReadFault => "read fault\n",
             Status::TooLong => "too long\n",
@@ -67,7 +76,10 @@ impl Status {
             | Status::RefusedFile
             | Status::RefusedLog
             | Status::WriteFault
-            | Status::NoMemory => "",
+            | Status::NoMemory
+            | Status::NotFew
+            | Status::NotTree
+            | Status::RefusedSolution => "",
         }
     }
 

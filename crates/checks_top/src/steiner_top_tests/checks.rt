@@ -1,5 +1,7 @@
-use super::{APART, PRIZES, TRIANGLE, WHEEL, ending_of, ends, shelf_of, sink_of, text_of};
-use st_edge::{MemoryShelf, SaveFault, Shelf};
+use super::{
+    APART, PRIZES, TRIANGLE, WHEEL, ending_of, ends, saves_as, shelf_of, sink_of, text_of,
+};
+use st_edge::{MemoryShelf, Shelf};
 use std::alloc::{AllocError, Global};
 use std::sync::Wait;
 use std::test::Fail;
@@ -50,7 +52,7 @@ fn have_names(asked: Option<&[String]>, want: &[&str]) -> bool {
 /// Whether a log is saved under `b`.
 fn saves(alloc: Global, shelf: &mut MemoryShelf, log: &str) -> Result<bool, AllocError> {
     let text = text_of(alloc, log)?;
-    Ok(shelf.save("b", &text).is_ok())
+    Ok(saves_as(shelf, "b", &text))
 }
 
 /// Whether a log is answered so with the triangle, and both are asked for, once.

@@ -7,7 +7,7 @@ use std::thread::Threads;
 use steiner_top::Status;
 
 /// The next of some numbers that look random (Park and Miller 1988).
-fn draw(state: &mut u64, below: u64) -> u64 {
+pub fn draw(state: &mut u64, below: u64) -> u64 {
     *state = state.wrapping_mul(48_271) % 2_147_483_647;
     1 + *state % below.max(1)
 }
@@ -38,16 +38,15 @@ fn file_of(alloc: Global, seed: u64) -> Result<String, AllocError> {
     Ok(text)
 }
 
-/// A shelf with a drawn file under `a.stp`.
-fn shelf_with(alloc: Global, seed: u64) -> Result<MemoryShelf, AllocError> {
-    let text = file_of(alloc, seed)?;
+/// A shelf with a file under `a.stp`.
+pub fn shelf_with(alloc: Global, text: String) -> Result<MemoryShelf, AllocError> {
     let mut texts = Vec::new(alloc);
     texts.push((String::from_str(alloc, "a.stp")?, text.into_bytes()))?;
     Ok(MemoryShelf::of(alloc, texts, Vec::new(alloc)))
 }
 
 /// What a file's tree comes to that is found by these words.
-fn found_by<R: Threads + Wait + Sync>(
+pub fn found_by<R: Threads + Wait + Sync>(
     rt: &R,
     alloc: Global,
     line: &str,
@@ -76,7 +75,7 @@ fn is_accepted<R: Threads + Wait + Sync>(
     seed: u64,
     line: &str,
 ) -> Result<bool, Fail> {
-    let mut shelf = shelf_with(alloc, seed)?;
+    let mut shelf = shelf_with(alloc, file_of(alloc, seed)?)?;
     match found_by(rt, alloc, line, &mut shelf)? {
         Some(found) if found.primal == found.dual => {
             shows_cost(rt, alloc, &mut shelf, found.primal)

@@ -21,6 +21,12 @@ const NO_COMMANDS: &[&str] = &[
     "gen 2147483647 3 3 2",
     "trial 1 3 1 2",
     "trial 1 3 3 4",
+    "few",
+    "few a.stp b",
+    "few a.stp --nodes 1",
+    "verify a.stp",
+    "verify a.stp b c",
+    "verify a.stp b --plain",
     "help",
     "--version",
 ];

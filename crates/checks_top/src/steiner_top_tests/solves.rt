@@ -142,6 +142,60 @@ fn starts_from_an_improved_tree(rt: HostRuntime) -> Result<(), Fail> {
     Ok(())
 }
 
+/// Files in which nobody pays, how many vertices are required, and the cost of their best trees.
+const FREE: &[(&str, u64, u64)] = &[
+    (TRIANGLE, 3, 6),
+    (WHEEL, 4, 10),
+    (
+        "H / SECTION Graph / Nodes 3 / Edges 2 / E 1 2 4 / E 2 3 1 / END / SECTION Terminals / Terminals 1 / T 2 / END / EOF",
+        1,
+        0,
+    ),
+    // The spokes cost 1 more than half of a side.
+    (
+        "H / SECTION Graph / Nodes 5 / Edges 8 / E 1 5 6 / E 2 5 6 / E 3 5 6 / E 4 5 6 / E 1 2 10 / E 2 3 10 / E 3 4 10 / E 4 1 10 / END / SECTION Terminals / Terminals 4 / T 1 / T 2 / T 3 / T 4 / END / EOF",
+        4,
+        24,
+    ),
+];
+
+/// Whether a cost is at most twice the least, less a share of one in as many as are required.
+pub fn is_within_twice(required: u64, cost: u64, least: u64) -> bool {
+    let most = required
+        .saturating_sub(1)
+        .saturating_mul(2)
+        .saturating_mul(least);
+    required.saturating_mul(cost) <= most
+}
+
+/// Whether the tree from which the search of a file starts costs no more than that.
+fn starts_within_twice<R: Threads + Wait + Sync>(
+    rt: &R,
+    alloc: Global,
+    lines: &str,
+    required: u64,
+    least: u64,
+    plain: bool,
+) -> Result<bool, AllocError> {
+    match numbers_of(rt, alloc, lines, 0, plain)? {
+        Some((_, primal)) => Ok(is_within_twice(required, primal, least)),
+        None => Ok(false),
+    }
+}
+
+#[test]
+fn starts_within_twice_the_least(rt: HostRuntime) -> Result<(), Fail> {
+    for (lines, required, least) in FREE {
+        for plain in [true, false] {
+            assert!(rt;
+                starts_within_twice(&rt, rt.alloc(), lines, *required, *least, plain)?,
+                "for {lines}"
+            );
+        }
+    }
+    Ok(())
+}
+
 /// What the triangle's tree comes to that is found by these words.
 fn triangle_found<R: Threads + Wait + Sync>(
     rt: &R,

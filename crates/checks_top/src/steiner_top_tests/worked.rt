@@ -48,6 +48,16 @@ const BEST: &[(&str, u64, &[Shape])] = &[
             (&[1, 2, 3], &[(1, 3), (2, 3)]),
         ],
     ),
+    // Nobody pays.
+    (
+        "H / SECTION Graph / Nodes 3 / Edges 2 / E 1 2 1 / E 2 3 1 / END / SECTION Terminals / Terminals 1 / TP 2 0 / END / EOF",
+        0,
+        &[(&[1], &[]), (&[2], &[]), (&[3], &[])],
+    ),
+];
+
+/// The same of files in which vertices pay.
+const BEST_WITH_PRIZES: &[(&str, u64, &[Shape])] = &[
     // A link to the lesser prize: too dear, worth it, and neither.
     (PRIZES, 3, &[(&[2], &[])]),
     (
@@ -59,12 +69,6 @@ const BEST: &[(&str, u64, &[Shape])] = &[
         "H / SECTION Graph / Nodes 2 / Edges 1 / E 1 2 3 / END / SECTION Terminals / Terminals 2 / TP 1 3 / TP 2 4 / END / EOF",
         3,
         &[(&[2], &[]), (&[1, 2], &[(1, 2)])],
-    ),
-    // Nobody pays.
-    (
-        "H / SECTION Graph / Nodes 3 / Edges 2 / E 1 2 1 / E 2 3 1 / END / SECTION Terminals / Terminals 1 / TP 2 0 / END / EOF",
-        0,
-        &[(&[1], &[]), (&[2], &[]), (&[3], &[])],
     ),
     // A vertex that is required, and one that pays.
     (
@@ -140,11 +144,22 @@ fn sends_one_of<R: Threads + Wait + Sync>(
 #[test]
 fn sends_a_best_tree(rt: HostRuntime) -> Result<(), Fail> {
     let alloc = rt.alloc();
-    for (lines, cost, trees) in BEST {
-        for line in ["solve a.stp", "solve a.stp --plain"] {
-            let is_best = sends_one_of(&rt, alloc, line, lines, *cost, trees)?;
-            assert!(rt; is_best, "for {lines}");
+    for table in [BEST, BEST_WITH_PRIZES] {
+        for (lines, cost, trees) in table {
+            for line in ["solve a.stp", "solve a.stp --plain"] {
+                let is_best = sends_one_of(&rt, alloc, line, lines, *cost, trees)?;
+                assert!(rt; is_best, "for {lines}");
+            }
         }
+    }
+    Ok(())
+}
+
+#[test]
+fn sends_a_best_tree_of_few_terminals(rt: HostRuntime) -> Result<(), Fail> {
+    for (lines, cost, trees) in BEST {
+        let is_best = sends_one_of(&rt, rt.alloc(), "few a.stp", lines, *cost, trees)?;
+        assert!(rt; is_best, "for {lines}");
     }
     Ok(())
 }

@@ -5,25 +5,26 @@ use Rattle.st_model.specs.Branch.{Belongs}
 use Rattle.log_format.proofs.AllTrees.{belongs_left_over}
 use Rattle.search_core.specs.declared.gathered.Segment.{Segment}
 use Rattle.steiner_top.proofs.Bests.{best_of_search}
-use Rattle.steiner_top.proofs.Remaining.{is_branch, leaves_required}
+use Rattle.steiner_top.proofs.Remaining.{is_branch}
+use Rattle.steiner_top.proofs.WithinTwice.{left_alone}
 use Rattle.steiner_top.proofs.solving.search_from.Goals as goal
 
-pub start_tree-requires-clause-branch : goal.start_tree-requires-clause-branch
-start_tree-requires-clause-branch g c =
+pub near_start-requires-clause-branch : goal.near_start-requires-clause-branch
+near_start-requires-clause-branch g c =
     rw (c.requires.whole, c.requires.sides) (is_branch c.args.reduced.now.state c.requires.state)
 
-pub start_tree-requires-clause-some : goal.start_tree-requires-clause-some
-start_tree-requires-clause-some g c =
+pub near_start-requires-clause-some : goal.near_start-requires-clause-some
+near_start-requires-clause-some g c =
     let (t, is_left) = c.requires.some in
     rw (c.requires.whole, c.requires.sides) (t, is_left.tree, belongs_left_over c.args.reduced.now.state t is_left)
+
+pub near_start-requires-clause-gone : goal.near_start-requires-clause-gone
+near_start-requires-clause-gone g c =
+    rw (c.requires.whole, c.requires.sides) (left_alone c.args.reduced.now.state c.requires.state)
 
 pub run_all-requires-clause-branch : goal.run_all-requires-clause-branch
 run_all-requires-clause-branch g c _ _ =
     rw (c.requires.whole, c.branch-branch.ensures, c.requires.sides) (is_branch c.args.reduced.now.state c.requires.state)
-
-pub run_all-requires-clause-required : goal.run_all-requires-clause-required
-run_all-requires-clause-required g c _ _ =
-    rw (c.requires.whole, c.branch-branch.ensures, c.requires.sides) (leaves_required c.args.reduced.now.state c.requires.state)
 
 pub run_all-requires-clause-belongs : goal.run_all-requires-clause-belongs
 run_all-requires-clause-belongs g c _ _ = rw c.branch-branch.ensures c.in_ok-start.ensures.belongs
@@ -45,6 +46,7 @@ returns g c =
     let branch_is = c.branch-branch.ensures ∙ c.requires.sides in
     let is_start = rw whole_is at c.in_ok-start.ensures.tree in
     let start_belongs = rw c.requires.sides at c.in_ok-start.ensures.belongs in
+    let near = rw whole_is at c.in_ok-start.ensures.near in
     let is_tree = rw whole_is at c.in_ok-tree.ensures.tree in
     let belongs = rw branch_is at c.in_ok-tree.ensures.belongs in
     let least = rw whole_is at c.in_ok-tree.ensures.least in
@@ -52,4 +54,4 @@ returns g c =
     let finished = rw (whole_is, branch_is) at c.in_ok-gathered.ensures.finished in
     rw (c.tree_cost-first.ensures, whole_is)
     (best_of_search c.args.reduced.now.state c.in_ok-start.start c.in_ok-tree.tree c.args.nodes c.in_ok-gathered.gathered c.as_slice.result.now c.as_slice.ensures
-    is_start start_belongs is_tree belongs least complete finished c.in_ok-gathered.ensures.writable)
+    is_start start_belongs is_tree belongs least complete finished c.in_ok-gathered.ensures.writable near)
