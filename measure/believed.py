@@ -1,19 +1,25 @@
 """Which definitions a clause rests on, by their files.
 
-    python3 measure/believed.py [CRATE/FILE:NAME ..]
+    python3 measure/believed.py [check | verify | solve | headline | CRATE/FILE:NAME ..]
 
 follows the words and operators of each definition from those that are named, as cert_checker/Verdict:Concludes, and tells
 of each file of specs/ how many lines it has without imports and blank lines, and how many of these are the
 definitions that are reached, with the comments above them; then the types of src/, and the words of the standard library
-and of the kit's crates that are reached. Without words it begins at those of the clause `concludes` of cert_checker's
-check; the headline begins at steiner_top/Headline:Headline and command_line/Words:command_of.
+and of the kit's crates that are reached. `check`, which is what it does without words, begins at the clause `concludes`
+of cert_checker's check; `verify` at the clause `tree` of solution_reader's verify; `headline` at the first clause of
+steiner_top's run, and `solve` at what that says of the command of this name.
 """
 import os
 import re
 import sys
 
 CRATES = os.path.join(os.path.dirname(os.path.abspath(__file__)), "..", "crates")
-START = ["cert_checker/Verdict:Concludes", "stp_reader/Reads:Reads"]
+STARTS = {
+    "check": ["cert_checker/Verdict:Concludes", "stp_reader/Reads:Reads"],
+    "verify": ["solution_reader/Stated:IsStated", "solution_reader/Reads:ReadsSolution", "stp_reader/Reads:Reads"],
+    "solve": ["steiner_top/Headline:SolvesFile", "command_line/Words:command_of"],
+    "headline": ["steiner_top/Headline:Headline", "command_line/Words:command_of"],
+}
 KINDS = {"abbrev", "unfoldable", "pub", "record", "data"}
 
 
@@ -105,7 +111,8 @@ def has_sign(text, sign):
 
 
 def main():
-    files, types, kit = reached(sys.argv[1:] or START)
+    words = sys.argv[1:] or ["check"]
+    files, types, kit = reached([start for word in words for start in STARTS.get(word, [word])])
     all_lines = all_used = 0
     for path in sorted(files):
         (_, _, definitions, _), used = files[path]

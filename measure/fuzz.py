@@ -2,9 +2,10 @@
 
 Each run draws a small network, writes it as an STP file in one of many spellings, and may spoil the text.
 A reader of its own says what the program has to answer: the line and the reason of a refusal, or an
-instance, whose least cost a search over all sets of vertices tells. The log that the program saves is
-judged by a checker of its own, as it is and spoilt, beside the program's `check`. The first difference ends
-the script, and leaves the texts in a folder that it names."""
+instance, whose least cost a search over all sets of vertices tells: `solve` and, where nobody pays, `few` have
+to answer it, and `verify` that what they send is a tree. The log that the program saves is judged by a checker
+of its own, as it is and spoilt, beside the program's `check`. The first difference ends the script, and leaves
+the texts in a folder that it names."""
 import itertools
 import os
 import random
@@ -579,6 +580,7 @@ class Run:
     def __init__(self, steiner, room, draw, workers):
         self.steiner, self.room, self.draw, self.workers = steiner, room, draw, workers
         self.stp, self.log = os.path.join(room, "a.stp"), os.path.join(room, "a.log")
+        self.solution = os.path.join(room, "a.sol")
 
     def call(self, *words):
         done = subprocess.run([self.steiner] + list(words), stdout=subprocess.PIPE, check=False, timeout=60)
@@ -602,19 +604,21 @@ class Run:
             network = Reader().read(text)
         except Refused as fault:
             wanted = f"refused stp {fault.line} {fault.number} {REASONS[fault.number - 1]}\n"
-            self.want("solve", self.call("solve", self.stp), (5, wanted))
+            for word in ("solve", "few"):
+                self.want(word, self.call(word, self.stp), (5, wanted))
             return
         if network.vertices <= 9:
-            self.solve(network)
+            best = least_cost(network)
+            self.solve(network, best)
+            self.few(network, best)
 
-    def solve(self, network):
+    def solve(self, network, best):
         draw = self.draw
         words = ["--log", self.log] + (["--plain"] if draw.random() < 0.5 else [])
         budget = draw.choice([None, None, 0, 1, 2, 3])
         words += [] if budget is None else ["--nodes", str(budget)]
         words += ["--workers", str(self.workers)] if self.workers > 1 else []
         status, answer = self.call("solve", self.stp, *words)
-        best = least_cost(network)
         with open(self.log, "rb") as file:
             text = file.read()
         if best is None:
@@ -624,6 +628,15 @@ class Run:
         self.check(network, text, status)
         for _ in range(3):
             self.check(network, spoilt(draw, text), None)
+
+    def few(self, network, best):
+        status, answer = self.call("few", self.stp)
+        if any(network.pay(v) for v in range(1, network.vertices + 1)):
+            self.want("few", (status, answer), (11, "not few 2 Prizes\n"))
+        elif best is None:
+            self.want("few", (status, answer), (4, "infeasible\n"))
+        else:
+            self.found(network, status, answer, best, None)
 
     def found(self, network, status, answer, best, budget):
         numbers = {}
@@ -651,6 +664,8 @@ class Run:
             left.remove((min(arc), max(arc)))
         self.want("tree", (reached, left, is_tree(network, start, arcs)), (vertices, [], True))
         self.want("cost", tree_cost(network, start, arcs), primal)
+        self.save(self.solution, answer.encode("latin-1"))
+        self.want("verify", self.call("verify", self.stp, self.solution), (0, f"tree {primal}\n"))
 
     def check(self, network, text, status):
         self.save(self.log, text)

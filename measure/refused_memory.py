@@ -1,8 +1,8 @@
 """Memory refused at every place: refused_memory.py STEINER
 
 Builds measure/refuse_memory.c and runs `solve` of the odd wheel with a log, plainly and with one or two
-workers, `check` of a log of the triangle, and `gen 1 3 3 2`, once for each request for memory, which is
-refused. A run whose request is refused ends as one in which none is; or with code 9, nothing sent and no log
+workers, `check` of a log of the triangle, `gen 1 3 3 2`, `few` of the odd wheel, and `verify` of a solution
+of the triangle, once for each request for memory, which is refused. A run whose request is refused ends as one in which none is; or with code 9, nothing sent and no log
 saved; or with code 8 where the request was standard output's own, and no more than a front was sent. What
 differs is printed, and then a line for each command: how many requests there are, and how many runs ended
 in which way. Code 1 where anything differs."""
@@ -23,6 +23,8 @@ COMMANDS = [
     ["solve", "triangle.stp", "--log", "log"],
     ["check", "triangle.stp", "triangle.log"],
     ["gen", "1", "3", "3", "2"],
+    ["few", "wheel.stp"],
+    ["verify", "triangle.stp", "triangle.sol"],
 ]
 
 
@@ -89,8 +91,8 @@ def main():
         for name, lines in (("triangle.stp", TRIANGLE), ("wheel.stp", WHEEL)):
             with open(os.path.join(room, name), "w") as file:
                 file.write("".join(line + "\n" for line in lines.split(" / ")))
-        subprocess.run([steiner, "solve", "triangle.stp", "--log", "triangle.log"], cwd=room, stdout=subprocess.DEVNULL,
-                       check=True)
+        with open(os.path.join(room, "triangle.sol"), "wb") as file:
+            subprocess.run([steiner, "solve", "triangle.stp", "--log", "triangle.log"], cwd=room, stdout=file, check=True)
         right = [try_all(command, steiner, room, shim) for command in COMMANDS]
     sys.exit(0 if all(right) else 1)
 
