@@ -1,7 +1,7 @@
 -- What a line is by its words alone, wherever it stands.
 use Rattle.std.specs.Prelude.{ℕ, Bool, true, false, if◌then◌else◌, List, [], ◌∷◌, Option, Some, None, option_map, unwrap_or}
 use Rattle.stp_reader.specs.declared.keyword.Keyword.{Keyword}
-use Rattle.stp_reader.specs.declared.keyword.Keyword.TheVariants.{Section, Eof, End, Nodes, Edges, Edge, Arcs, Count, Terminal, Prize, Root, Other}
+use Rattle.stp_reader.specs.declared.keyword.Keyword.TheVariants.{Section, Eof, End, Nodes, Edges, Edge, Arcs, Count, Terminal, Prize, Root, Pinned, Other}
 use Rattle.stp_reader.specs.Words.{keyword_of}
 
 pub data Form : Type 0 where
@@ -17,11 +17,12 @@ pub data Form : Type 0 where
   edge_line : List ℕ → List ℕ → List ℕ → Form
   -- any line whose first word is Arcs or A
   arcs_line : Form
-  -- `Terminals t`, `T v`, `TP v p`, `Root r`
+  -- `Terminals t`, `T v`, `TP v p`, `Root r`, `RootP v`
   count_line : List ℕ → Form
   terminal_line : List ℕ → Form
   prize_line : List ℕ → List ℕ → Form
   root_line : List ℕ → Form
+  pinned_line : List ℕ → Form
   -- any other line, also one of these keywords with another number of words
   other_line : Form
 
@@ -55,6 +56,7 @@ form_of Count args = unwrap_or (option_map count_line (one args)) other_line
 form_of Terminal args = unwrap_or (option_map terminal_line (one args)) other_line
 form_of Prize args = unwrap_or (option_map (λ w. prize_line w.0 w.1) (two args)) other_line
 form_of Root args = unwrap_or (option_map root_line (one args)) other_line
+form_of Pinned args = unwrap_or (option_map pinned_line (one args)) other_line
 form_of Other args = other_line
 
 -- the form of a line

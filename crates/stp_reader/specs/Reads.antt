@@ -1,5 +1,6 @@
 -- The instance that a text stands for, and why a text stands for none.
-use Rattle.std.specs.Prelude.{◌≡◌, ℕ, ◌+◌, ◌⊎◌, List, [], ◌∷◌, ◌++◌, length, Option, Some, None}
+use Rattle.std.specs.Prelude.{◌≡◌, ℕ, ◌+◌, ◌⊎◌, List, [], ◌∷◌, ◌++◌, length, map, Option, Some, None}
+use Rattle.amounts.specs.declared.scale.Scale.{Scale}
 use Rattle.st_model.specs.Network.{Network}
 use Rattle.st_model.specs.Stated.{network_of}
 use Rattle.stp_reader.specs.declared.reason.Reason.{Reason}
@@ -9,6 +10,7 @@ use Rattle.stp_reader.specs.Reason.{least}
 use Rattle.stp_reader.specs.Lines.{word_lines}
 use Rattle.stp_reader.specs.Place.{File, whole, Place, at_header, outside, after_end, after, after_all}
 use Rattle.stp_reader.specs.Reasons.{reasons, end_reasons}
+use Rattle.stp_reader.specs.Unit.{amounts_of, scale_of, link_in, stated_in}
 
 -- no line of these has a reason, the first of them standing at this place
 abbrev pub AllRight : Place → List (List (List ℕ)) → Type 0
@@ -26,9 +28,17 @@ pub record IsRead (lines : List (List (List ℕ))) (f : File) : Type 0 where
   pub right : AllRight at_header lines
   pub file : file_at (after_all at_header lines) ≡ Some f
 
--- the bytes are the text of this instance
-abbrev pub Reads : List ℕ → Network → Type 0
-Reads bytes I = (f : File) × IsRead (word_lines bytes) f × (I ≡ network_of f.n f.links f.needs)
+-- the unit of a file, by all amounts that it says
+abbrev pub scale_from : File → Scale
+scale_from f = scale_of (amounts_of f.links f.needs)
+
+-- the instance of a file, its costs and prizes in this unit
+abbrev pub network_from : File → Network
+network_from f = network_of f.n (map (link_in (scale_from f)) f.links) (map (stated_in (scale_from f)) f.needs)
+
+-- the bytes are the text of this instance, whose costs and prizes count units of this scale
+abbrev pub Reads : List ℕ → Network → Scale → Type 0
+Reads bytes I scale = (f : File) × IsRead (word_lines bytes) f × (I ≡ network_from f) × (scale ≡ scale_from f)
 
 -- a line is the first that has a reason, and this is the least of its reasons; lines are numbered from 1
 pub record IsFirstBad (lines : List (List (List ℕ))) (line : ℕ) (reason : Reason) : Type 0 where

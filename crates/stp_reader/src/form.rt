@@ -23,6 +23,7 @@ pub enum Form<'a> {
     Terminal(&'a [u8]),
     Prize(&'a [u8], &'a [u8]),
     Root(&'a [u8]),
+    Pinned(&'a [u8]),
     Other,
 }
 
@@ -101,6 +102,10 @@ pub fn form_of<'a>(word: &[u8], args: &'a [u8]) -> Form<'a>
         },
         Keyword::Root => match one(args) {
             Some(vertex) => Form::Root(vertex),
+            None => Form::Other,
+        },
+        Keyword::Pinned => match one(args) {
+            Some(vertex) => Form::Pinned(vertex),
             None => Form::Other,
         },
         Keyword::Other => Form::Other,

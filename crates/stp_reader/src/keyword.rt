@@ -17,6 +17,8 @@ pub enum Keyword {
     Terminal,
     Prize,
     Root,
+    /// A vertex that is required, also where a prize is stated for it.
+    Pinned,
     Other,
 }
 
@@ -64,6 +66,8 @@ pub fn keyword_of(word: &[u8]) -> Keyword
         Keyword::Count
     } else if is_word(word, b"Root") {
         Keyword::Root
+    } else if is_word(word, b"RootP") {
+        Keyword::Pinned
     } else {
         Keyword::Other
     }

@@ -1,12 +1,13 @@
 //! Reads the text of an STP file into an instance of the Steiner tree problem.
 //!
-//! `Reads` and `Refused` say by the lines of a text which instance it stands for, or at which line
-//! and for which reason it stands for none. A caller may rely on both directions, and on exactly
+//! `Reads` and `Refused` say by the lines of a text which instance it stands for, and in which unit its
+//! costs and prizes count, or at which line and for which reason it stands for none. A caller may rely on both directions, and on exactly
 //! one of the two. The reader goes over the text once, and of the numbers that it states only that
 //! of `Nodes` takes memory.
 #![tactic(auto)]
 
 ghost use Rattle.std.specs.Prelude.{◌≡◌, ◌⊎◌, ℕ, IfOk, IfErr, Err, MatchResult};
+ghost use Rattle.amounts.specs.declared.scale.Scale.{Scale};
 ghost use Rattle.st_model.specs.Network.{Network};
 ghost use Rattle.stp_reader.specs.Reads.{Reads, Refused, IsRefusedBy};
 ghost use Rattle.stp_reader.specs.declared.reason.Reason.{Reason as StpReason};
@@ -37,12 +38,12 @@ pub use words::{has_magic, is_remark, next_word};
 
 /// Reads an STP file, all of the bytes. Memory grows with the lines that were read and the number
 /// of vertices that they state.
-pub fn read_stp(alloc: Global, bytes: &[u8]) -> Result<Instance, ReadError>
-    // What is read is the instance that the bytes stand for.
-    ensures found { IfOk result (Reads bytes.now) }
-    // The instance that the bytes stand for is what is read, unless memory runs out.
-    ensures only { (I : Network) → Reads bytes.now I
-        → MatchResult result (λ read. read ≡ I) (λ e. e ≡ NoMemory) }
+pub fn read_stp(alloc: Global, bytes: &[u8]) -> Result<Reading, ReadError>
+    // What is read is the instance that the bytes stand for, and its scale.
+    ensures found { IfOk result (λ read. Reads bytes.now read.instance read.scale) }
+    // The instance that the bytes stand for, and its scale, is what is read, unless memory runs out.
+    ensures only { (I : Network) (scale : Scale) → Reads bytes.now I scale
+        → MatchResult result (λ read. (read.instance ≡ I) × (read.scale ≡ scale)) (λ e. e ≡ NoMemory) }
     // A fault is the first line with a reason, and the least of its reasons.
     ensures fault { IfErr result (IsRefusedBy bytes.now) }
     // Bytes that are refused so are answered with that line and reason, unless memory runs out.

@@ -17,7 +17,7 @@ pub enum Reason {
     GraphFirst,
     /// A word that is no number.
     BadNumber,
-    /// A cost or prize that isn't whole.
+    /// A cost or prize with a digit other than 0 past its sixth decimal.
     Fraction,
     /// A count, cost or prize above its limit.
     OutOfRange,
@@ -39,10 +39,12 @@ pub enum Reason {
     NoTerminals,
     /// A graph of no vertices.
     NoVertices,
+    /// An amount has decimals, and one is above a million.
+    ScaleRange,
 }
 
 impl Reason {
-    /// The reason's number, from 1 to 17. Of several reasons on a line the lowest counts.
+    /// The reason's number, from 1 to 18. Of several reasons on a line the lowest counts.
     pub fn code(self) -> u8
         ensures { result ≡ code_of self }
     {
@@ -64,6 +66,7 @@ impl Reason {
             Reason::NoGraph => 15,
             Reason::NoTerminals => 16,
             Reason::NoVertices => 17,
+            Reason::ScaleRange => 18,
         }
     }
 
@@ -89,6 +92,7 @@ impl Reason {
             Reason::NoGraph => "NoGraph",
             Reason::NoTerminals => "NoTerminals",
             Reason::NoVertices => "NoVertices",
+            Reason::ScaleRange => "ScaleRange",
         }
     }
 

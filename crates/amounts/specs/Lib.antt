@@ -1,0 +1,3 @@
+pub mod Amounts
+pub mod Text
+pub mod Laws
