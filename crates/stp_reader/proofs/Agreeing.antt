@@ -1,24 +1,27 @@
 -- What a line says at its place, by the least of its reasons and the place after it.
-use Rattle.std.proofs.Common.{◌≡◌, ℕ, Bool, true, false, cond, not, List, [], ◌∷◌, ◌++◌, length, Option, Some, None, Ok, Err, refl, ap}
-use Rattle.std.specs.Prelude.{◌==◌}
+use Rattle.std.proofs.Common.{◌≡◌, ℕ, Bool, true, false, cond, not, ◌&&◌, List, [], ◌∷◌, ◌++◌, length, Option, Some, None, Ok, Err, refl, ap}
+use Rattle.std.specs.Prelude.{◌==◌, is_none}
 use Rattle.std.specs.List.{list_any}
 use Rattle.st_model.specs.declared.link.Link.{Link}
 use Rattle.st_model.specs.declared.need.Need.{Need}
 use Rattle.st_model.specs.declared.need.Need.TheVariants.{Required, Pays}
 use Rattle.stp_reader.specs.declared.keyword.SectionName.{SectionName}
 use Rattle.stp_reader.specs.declared.keyword.SectionName.TheVariants as name
-use Rattle.stp_reader.specs.declared.reason.Reason.TheVariants.{CountMismatch, RootNotTerminal, NoTerminals}
+use Rattle.stp_reader.specs.declared.reason.Reason.TheVariants.{CountMismatch, RootNotTerminal, NoTerminals, RepeatedPrize}
 use Rattle.stp_reader.specs.Reason.{least, when}
 use Rattle.stp_reader.specs.Lines.{is_remark}
 use Rattle.stp_reader.specs.Words.{is_magic, section_of}
-use Rattle.stp_reader.specs.Forms.{Form, section_line, nameless_line, eof_line, end_line, nodes_line, edges_line, edge_line, arcs_line, count_line, terminal_line, prize_line, root_line, form}
+use Rattle.stp_reader.specs.Forms.{Form, section_line, nameless_line, eof_line, end_line, nodes_line, edges_line, edge_line, arcs_line, count_line, terminal_line, prize_line, root_line, pinned_line, form}
 use Rattle.plain_text.specs.Numbers.{value}
-use Rattle.stp_reader.specs.Amounts.{amount_value, count_reasons, nodes_reasons, vertex_reasons, amount_reasons}
-use Rattle.stp_reader.specs.Place.{Graph, Stated, nothing, graph, whole, Place, at_header, outside, passed_over, at_nodes, at_edges, at_links, at_count, at_needs, after_end, link_said, after_opening, after_eof, after_outside, after_no_header, after_passed, after_nodes, after_edges, after_link, after_count, after_need, after_said, after}
-use Rattle.stp_reader.specs.Reasons.{opening_reasons, missing, outside_reasons, no_header_reasons, at_nodes_reasons, at_edges_reasons, at_links_reasons, root_reasons, at_count_reasons, is_stray, at_needs_reasons, said_reasons, reasons}
+use Rattle.amounts.specs.Amounts.{millionths}
+use Rattle.stp_reader.specs.Amounts.{count_reasons, nodes_reasons, vertex_reasons, amount_reasons}
+use Rattle.st_model.specs.Network.{prize}
+use Rattle.stp_reader.specs.Unit.{is_fractional, is_large, amounts_of}
+use Rattle.stp_reader.specs.Place.{Graph, Roots, pinned_need, Stated, nothing, graph, whole, Place, at_header, outside, passed_over, at_nodes, at_edges, at_links, at_count, at_needs, after_end, link_said, after_opening, after_eof, after_outside, after_no_header, after_passed, after_nodes, after_edges, after_link, after_count, after_need, after_said, after}
+use Rattle.stp_reader.specs.Reasons.{opening_reasons, missing, outside_reasons, no_header_reasons, at_nodes_reasons, at_edges_reasons, at_links_reasons, has_prize, root_reasons, at_count_reasons, is_count, is_stray, at_needs_reasons, said_reasons, reasons}
 use Rattle.stp_reader.specs.Judged.{◌>>=◌}
-use Rattle.stp_reader.specs.Judging.{file_of, judge_opening, judge_outside, judge_no_header, judge_passed, judge_nodes, judge_edges, judge_link, root_of, judge_count, judge_need, judge_line, judge}
-use Rattle.stp_reader.proofs.Least.{answer, then_answer}
+use Rattle.stp_reader.specs.Judging.{file_of, judge_opening, judge_outside, judge_no_header, judge_passed, judge_nodes, judge_edges, judge_link, root_of, judge_count, unless, judge_need, judge_line, judge}
+use Rattle.stp_reader.proofs.Least.{answer, then_answer, scaled_answer}
 use Rattle.stp_reader.proofs.WordReasons.{count_answer, nodes_answer, vertex_answer, link_answer, prize_answer}
 
 opening_answer : (s : Stated) (k : SectionName) → judge_opening s k ≡ answer (least (opening_reasons s k)) (after_opening s k)
@@ -70,8 +73,14 @@ edges_line_answer n eof_line = refl
 edges_line_answer n arcs_line = refl
 edges_line_answer n f = refl
 
+-- whether an amount may not stand after these
+abbrev breaks : List ℕ → ℕ → Bool
+breaks before x = list_any is_fractional (x ∷ before) && list_any is_large (x ∷ before)
+
 link_line_answer : (n m : ℕ) (links : List Link) (f : Form) → judge_link n m links f ≡ answer (least (at_links_reasons n m links f)) (after_link n m links f)
-link_line_answer n m links (edge_line u v c) = rw (link_answer n u v c) (then_answer (least (vertex_reasons n u ++ vertex_reasons n v ++ amount_reasons c)) (link_said u v c) (λ l. at_links n m (links ++ l ∷ [])))
+link_line_answer n m links (edge_line u v c) =
+    rw (link_answer n u v c)
+    (scaled_answer (vertex_reasons n u ++ vertex_reasons n v ++ amount_reasons c) (link_said u v c) (λ l. breaks (amounts_of links []) l.cost) (λ l. at_links n m (links ++ l ∷ [])))
 link_line_answer n m links end_line = by_case (outside (graph (record { n = n; links = links }))) (length links == m)
   where
     by_case : (p : Place) (b : Bool) → cond b (Ok p) (Err CountMismatch) ≡ answer (least (when (not b) CountMismatch)) p
@@ -87,21 +96,25 @@ root_answer : (n : ℕ) (root : Option ℕ) (word : List ℕ) (f : ℕ → Place
 root_answer n None word f = rw (vertex_answer n word) (then_answer (least (vertex_reasons n word)) (value word) f)
 root_answer n (Some r) word f = refl
 
-count_line_answer : (g : Graph) (root : Option ℕ) (f : Form) → judge_count g root f ≡ answer (least (at_count_reasons g root f)) (after_count g root f)
-count_line_answer g root (count_line word) = rw (count_answer 2000000 word) (then_answer (least (count_reasons 2000000 word)) (value word) (λ t. at_needs g t [] root))
-count_line_answer g root (root_line word) = root_answer g.n root word (λ r. at_count g (Some r))
-count_line_answer g root (section_line word) = refl
-count_line_answer g root nameless_line = refl
-count_line_answer g root eof_line = refl
-count_line_answer g root f = refl
+count_line_answer : (g : Graph) (roots : Roots) (f : Form) → judge_count g roots f ≡ answer (least (at_count_reasons g roots f)) (after_count g roots f)
+count_line_answer g roots (count_line word) = rw (count_answer 2000000 word) (then_answer (least (count_reasons 2000000 word)) (value word) (λ t. at_needs g t [] roots))
+count_line_answer g roots (root_line word) = root_answer g.n roots.root word (λ r. at_count g (record roots { root = Some r }))
+count_line_answer g roots (pinned_line word) = root_answer g.n roots.pinned word (λ v. at_count g (record roots { pinned = Some v }))
+count_line_answer g roots (section_line word) = refl
+count_line_answer g roots nameless_line = refl
+count_line_answer g roots eof_line = refl
+count_line_answer g roots f = refl
 
-need_line_answer : (g : Graph) (t : ℕ) (needs : List (ℕ × Need)) (root : Option ℕ) (f : Form) → judge_need g t needs root f ≡ answer (least (at_needs_reasons g t needs root f)) (after_need g t needs root f)
-need_line_answer g t needs root (terminal_line word) = rw (vertex_answer g.n word) (then_answer (least (vertex_reasons g.n word)) (value word) (λ v. at_needs g t (needs ++ (v, Required) ∷ []) root))
-need_line_answer g t needs root (prize_line v p) = rw (prize_answer g.n needs v p) (then_answer (least (at_needs_reasons g t needs root (prize_line v p))) (value v, Pays (amount_value p)) (λ e. at_needs g t (needs ++ e ∷ []) root))
-need_line_answer g t needs root (root_line word) = root_answer g.n root word (λ r. at_needs g t needs (Some r))
-need_line_answer g t needs root end_line = by_case (outside (whole (record { n = g.n; links = g.links; needs = needs }))) (length needs == t) (is_stray needs root) (length needs == 0)
+need_line_answer : (g : Graph) (t : ℕ) (needs : List (ℕ × Need)) (roots : Roots) (f : Form) → judge_need g t needs roots f ≡ answer (least (at_needs_reasons g t needs roots f)) (after_need g t needs roots f)
+need_line_answer g t needs roots (terminal_line word) = rw (vertex_answer g.n word) (then_answer (least (vertex_reasons g.n word)) (value word) (λ v. at_needs g t (needs ++ (v, Required) ∷ []) roots))
+need_line_answer g t needs roots (prize_line v p) =
+    rw (prize_answer g.n needs v p)
+    (scaled_answer (vertex_reasons g.n v ++ amount_reasons p ++ when (has_prize needs (value v)) RepeatedPrize) (value v, Pays (millionths p)) (λ e. breaks (amounts_of g.links needs) (prize e.1)) (λ e. at_needs g t (needs ++ e ∷ []) roots))
+need_line_answer g t needs roots (root_line word) = root_answer g.n roots.root word (λ r. at_needs g t needs (record roots { root = Some r }))
+need_line_answer g t needs roots (pinned_line word) = root_answer g.n roots.pinned word (λ v. at_needs g t needs (record roots { pinned = Some v }))
+need_line_answer g t needs roots end_line = by_case (outside (whole (record { n = g.n; links = g.links; needs = needs ++ pinned_need roots.pinned }))) (is_count t needs roots.pinned) (is_stray needs roots.pinned roots.root) ((length needs == 0) && is_none roots.pinned)
   where
-    by_case : (p : Place) (a b c : Bool) → cond (not a) (Err CountMismatch) (cond b (Err RootNotTerminal) (cond c (Err NoTerminals) (Ok p))) ≡ answer (least (when (not a) CountMismatch ++ when b RootNotTerminal ++ when c NoTerminals)) p
+    by_case : (p : Place) (a b c : Bool) → unless (cond (not a) (Some CountMismatch) (cond b (Some RootNotTerminal) (cond c (Some NoTerminals) None))) p ≡ answer (least (when (not a) CountMismatch ++ when b RootNotTerminal ++ when c NoTerminals)) p
     by_case p true true true = refl
     by_case p true true false = refl
     by_case p true false true = refl
@@ -110,10 +123,10 @@ need_line_answer g t needs root end_line = by_case (outside (whole (record { n =
     by_case p false true false = refl
     by_case p false false true = refl
     by_case p false false false = refl
-need_line_answer g t needs root (section_line word) = refl
-need_line_answer g t needs root nameless_line = refl
-need_line_answer g t needs root eof_line = refl
-need_line_answer g t needs root f = refl
+need_line_answer g t needs roots (section_line word) = refl
+need_line_answer g t needs roots nameless_line = refl
+need_line_answer g t needs roots eof_line = refl
+need_line_answer g t needs roots f = refl
 
 header_answer : (b : Bool) (f : Form) → cond b (Ok (outside nothing)) (judge_no_header f) ≡ answer (least (cond b [] (no_header_reasons f))) (cond b (outside nothing) (after_no_header f))
 header_answer true f = refl
@@ -127,8 +140,8 @@ said_answer (passed_over stated) line = ap (λ (p : Place). Ok p) (passed_answer
 said_answer at_nodes line = nodes_line_answer (form line)
 said_answer (at_edges n) line = edges_line_answer n (form line)
 said_answer (at_links n m links) line = link_line_answer n m links (form line)
-said_answer (at_count g root) line = count_line_answer g root (form line)
-said_answer (at_needs g t needs root) line = need_line_answer g t needs root (form line)
+said_answer (at_count g roots) line = count_line_answer g roots (form line)
+said_answer (at_needs g t needs roots) line = need_line_answer g t needs roots (form line)
 said_answer (after_end f) line = refl
 
 -- a line is judged by the least of its reasons

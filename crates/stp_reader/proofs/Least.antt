@@ -1,8 +1,9 @@
 -- The least of several reasons, and what is said where there is none.
-use Rattle.std.proofs.Common.{◌≡◌, leb, Bool, true, false, List, [], ◌∷◌, ◌++◌, Option, Some, None, Result, Ok, Err, refl, ap, arith}
+use Rattle.std.proofs.Common.{◌≡◌, leb, Bool, true, false, cond, List, [], ◌∷◌, ◌++◌, Option, Some, None, Result, Ok, Err, refl, ap, arith}
 use Rattle.std.proofs.lemmas.Bool.Decides.{nat_tests}
 use Rattle.stp_reader.specs.declared.reason.Reason.{Reason}
-use Rattle.stp_reader.specs.Reason.{code_of, lesser, lesser_of, least}
+use Rattle.stp_reader.specs.declared.reason.Reason.TheVariants.{NoHeader, BadLine, UnknownSection, RepeatedSection, GraphFirst, BadNumber, Fraction, OutOfRange, VertexRange, CountMismatch, RepeatedPrize, RootNotTerminal, Directed, Unclosed, NoGraph, NoTerminals, NoVertices, ScaleRange}
+use Rattle.stp_reader.specs.Reason.{code_of, lesser, lesser_of, least, when}
 use Rattle.stp_reader.specs.Judged.{◌>>=◌, both}
 
 -- x, where there is no reason, else the reason
@@ -50,3 +51,36 @@ both_answer {A} {B} rs qs x y = rw (least-append rs qs) (by_case (least rs) (lea
 pub then_answer : {A B : Type 0} (o : Option Reason) (x : A) (f : A → B) → (answer o x >>= λ y. Ok (f y)) ≡ answer o (f x)
 then_answer None x f = refl
 then_answer (Some r) x f = refl
+
+-- ---- the reason that gives way to all others
+
+scale_last : (r : Reason) → lesser r ScaleRange ≡ r
+scale_last NoHeader = refl
+scale_last BadLine = refl
+scale_last UnknownSection = refl
+scale_last RepeatedSection = refl
+scale_last GraphFirst = refl
+scale_last BadNumber = refl
+scale_last Fraction = refl
+scale_last OutOfRange = refl
+scale_last VertexRange = refl
+scale_last CountMismatch = refl
+scale_last RepeatedPrize = refl
+scale_last RootNotTerminal = refl
+scale_last Directed = refl
+scale_last Unclosed = refl
+scale_last NoGraph = refl
+scale_last NoTerminals = refl
+scale_last NoVertices = refl
+scale_last ScaleRange = refl
+
+-- what is said where an amount may stand by its scale, and where none of these reasons holds
+pub scaled_answer : {A B : Type 0} (rs : List Reason) (x : A) (test : A → Bool) (f : A → B)
+    → (answer (least rs) x >>= λ y. cond (test y) (Err ScaleRange) (Ok (f y))) ≡ answer (least (rs ++ when (test x) ScaleRange)) (f x)
+scaled_answer {A} {B} rs x test f = rw (least-append rs (when (test x) ScaleRange)) (by_case (least rs) (test x) refl)
+  where
+    by_case : (o : Option Reason) (b : Bool) → test x ≡ b → (answer o x >>= λ y. cond (test y) (Err ScaleRange) (Ok (f y))) ≡ answer (lesser_of o (least (when b ScaleRange))) (f x)
+    by_case None true is = rw is refl
+    by_case None false is = rw is refl
+    by_case (Some r) true is = rw (scale_last r) refl
+    by_case (Some r) false is = refl

@@ -1,7 +1,9 @@
 pub mod Pieces
 pub mod Blanks
 pub mod Going
+pub mod Units
 pub mod Totals
+pub mod Seeing
 pub mod Least
 pub mod WordReasons
 pub mod Agreeing

@@ -1,33 +1,29 @@
 -- Each text has one instance or one fault, and the reader answers it.
 use Rattle.std.proofs.Common.{◌≡◌, ◌⊎◌, inl, inr, ℕ, List, Result, Ok, Err, refl, sym, ap, ◌∙◌}
 use Rattle.st_model.specs.Network.{Network}
-use Rattle.st_model.specs.Stated.{network_of}
+use Rattle.amounts.specs.declared.scale.Scale.{Scale}
 use Rattle.stp_reader.specs.declared.reason.Reason.{Reason}
 use Rattle.stp_reader.specs.declared.fault.ReadError.{ReadError}
 use Rattle.stp_reader.specs.declared.fault.ReadError.TheVariants.{Fault, NoMemory}
 use Rattle.stp_reader.specs.Lines.{word_lines}
 use Rattle.stp_reader.specs.Place.{File, at_header}
-use Rattle.stp_reader.specs.Reads.{Reads, Refused, IsRefusedBy}
+use Rattle.stp_reader.specs.Reads.{network_from, scale_from, Reads, Refused, IsRefusedBy}
 use Rattle.stp_reader.specs.Judging.{stated, stated_from}
 use Rattle.stp_reader.specs.Reached.{IsFaultOf}
 use Rattle.stp_reader.specs.Laws.{RefusedExactly}
 use Rattle.stp_reader.proofs.Whole.{is_read, read_again, is_refused_at, refused_again, ended_again}
 
--- the instance of what a file states
-abbrev pub network_from : File → Network
-network_from f = network_of f.n f.links f.needs
-
 -- ---- what all lines state, and the definitions
 
-pub reads_stated : (bytes : List ℕ) (f : File) (I : Network) → stated bytes ≡ Ok f → I ≡ network_from f → Reads bytes I
+pub reads_stated : (bytes : List ℕ) (f : File) (I : Network) (scale : Scale) → stated bytes ≡ Ok f → I ≡ network_from f → scale ≡ scale_from f → Reads bytes I scale
 unfolding stated
-reads_stated bytes f I e same =
+reads_stated bytes f I scale e same unit =
     let read = is_read 1 at_header (word_lines bytes) f e in
-    (f, record { right = read.0; file = read.1 }, same)
+    (f, record { right = read.0; file = read.1 }, same, unit)
 
-pub stated_reads : (bytes : List ℕ) (I : Network) → Reads bytes I → (f : File) × (stated bytes ≡ Ok f) × (I ≡ network_from f)
+pub stated_reads : (bytes : List ℕ) (I : Network) (scale : Scale) → Reads bytes I scale → (f : File) × (stated bytes ≡ Ok f) × (I ≡ network_from f) × (scale ≡ scale_from f)
 unfolding stated
-stated_reads bytes I (f, read, same) = (f, read_again 1 at_header (word_lines bytes) f read.right read.file, same)
+stated_reads bytes I scale (f, read, same, unit) = (f, read_again 1 at_header (word_lines bytes) f read.right read.file, same, unit)
 
 refused_stated : (bytes : List ℕ) (line : ℕ) (reason : Reason) → stated bytes ≡ Err (line, reason) → Refused bytes line reason
 unfolding stated
@@ -44,20 +40,20 @@ stated_refused bytes line reason (inr b) = ended_again 1 at_header (word_lines b
 
 -- ---- one answer
 
-decided : (bytes : List ℕ) (r : Result File (ℕ × Reason)) → stated bytes ≡ r → ((I : Network) × Reads bytes I) ⊎ ((line : ℕ) × (reason : Reason) × Refused bytes line reason)
-decided bytes (Ok f) e = inl (network_from f, reads_stated bytes f (network_from f) e refl)
+decided : (bytes : List ℕ) (r : Result File (ℕ × Reason)) → stated bytes ≡ r → ((I : Network) × (scale : Scale) × Reads bytes I scale) ⊎ ((line : ℕ) × (reason : Reason) × Refused bytes line reason)
+decided bytes (Ok f) e = inl (network_from f, scale_from f, reads_stated bytes f (network_from f) (scale_from f) e refl refl)
 decided bytes (Err fault) e = inr (fault.0, fault.1, refused_stated bytes fault.0 fault.1 e)
 
 never_both : (bytes : List ℕ) (f : File) (line : ℕ) (reason : Reason) → stated bytes ≡ Ok f → Refused bytes line reason → ⊥
 never_both bytes f line reason e refused = let d = stated_refused bytes line reason refused in absurd cc
 
--- what is stated is the one instance
-pub same_instance : (bytes : List ℕ) (f : File) (I J : Network) → stated bytes ≡ Ok f → I ≡ network_from f → Reads bytes J → I ≡ J
-same_instance bytes f I J e same reads =
-    let other = stated_reads bytes J reads in
-    let d = other.1 in
-    let files : f ≡ other.0 = cc in
-    same ∙ (ap network_from files ∙ sym other.2)
+-- what is stated is the one instance, at the one scale
+pub same_instance : (bytes : List ℕ) (f : File) (I J : Network) (scale other : Scale) → stated bytes ≡ Ok f → I ≡ network_from f → scale ≡ scale_from f → Reads bytes J other → (I ≡ J) × (scale ≡ other)
+same_instance bytes f I J scale other e same unit reads =
+    let s = stated_reads bytes J other reads in
+    let d = s.1 in
+    let files : f ≡ s.0 = cc in
+    (same ∙ (ap network_from files ∙ sym s.2), unit ∙ (ap scale_from files ∙ sym s.3))
 
 same_fault : (bytes : List ℕ) (line line' : ℕ) (reason reason' : Reason) → Refused bytes line reason → stated bytes ≡ Err (line', reason') → (line ≡ line') × (reason ≡ reason')
 same_fault bytes line line' reason reason' refused d =
@@ -70,8 +66,8 @@ same_fault bytes line line' reason reason' refused d =
 pub refused_exactly_lem : (bytes : List ℕ) → RefusedExactly bytes
 refused_exactly_lem bytes = record {
   some = decided bytes (stated bytes) refl;
-  not_both = λ I line reason reads refused. let s = stated_reads bytes I reads in never_both bytes s.0 line reason s.1 refused;
-  one_instance = λ I J reads others. let s = stated_reads bytes I reads in same_instance bytes s.0 I J s.1 s.2 others;
+  not_both = λ I scale line reason reads refused. let s = stated_reads bytes I scale reads in never_both bytes s.0 line reason s.1 refused;
+  one_instance = λ I J scale other reads others. let s = stated_reads bytes I scale reads in same_instance bytes s.0 I J scale other s.1 s.2 s.3 others;
   one_fault = λ line line' reason reason' refused others. same_fault bytes line line' reason reason' refused (stated_refused bytes line' reason' others);
 }
 
@@ -81,9 +77,9 @@ pub fault_refused : (bytes : List ℕ) (e : ReadError) → IsFaultOf (stated byt
 fault_refused bytes (Fault f) said = refused_stated bytes f.line f.reason said
 fault_refused bytes NoMemory said = tt
 
-pub memory_alone : (bytes : List ℕ) (e : ReadError) (I : Network) → IsFaultOf (stated bytes) e → Reads bytes I → e ≡ NoMemory
-memory_alone bytes (Fault f) I said reads = let s = stated_reads bytes I reads in let d = s.1 in absurd cc
-memory_alone bytes NoMemory I said reads = refl
+pub memory_alone : (bytes : List ℕ) (e : ReadError) (I : Network) (scale : Scale) → IsFaultOf (stated bytes) e → Reads bytes I scale → e ≡ NoMemory
+memory_alone bytes (Fault f) I scale said reads = let s = stated_reads bytes I scale reads in let d = s.1 in absurd cc
+memory_alone bytes NoMemory I scale said reads = refl
 
 -- what a reader of some kind answers
 abbrev pub failing : {T : Type 0} → ReadError → Result T ReadError

@@ -1,7 +1,6 @@
 -- What a word says, by the least of its reasons.
 use Rattle.std.proofs.Common.{◌≡◌, ℕ, leb, ◌&&◌, Bool, true, false, cond, not, List, [], ◌∷◌, ◌++◌, Option, Some, None, Ok, Err, refl, sym, ap, ◌∙◌, append_assoc}
 use Rattle.std.specs.Prelude.{◌==◌}
-use Rattle.std.specs.List.{list_all}
 use Rattle.st_model.specs.declared.link.Link.{Link}
 use Rattle.st_model.specs.declared.need.Need.{Need}
 use Rattle.st_model.specs.declared.need.Need.TheVariants.{Pays}
@@ -9,7 +8,8 @@ use Rattle.stp_reader.specs.declared.reason.Reason.{Reason}
 use Rattle.stp_reader.specs.declared.reason.Reason.TheVariants.{BadNumber, Fraction, OutOfRange, VertexRange, NoVertices, RepeatedPrize}
 use Rattle.stp_reader.specs.Reason.{code_of, lesser_of, least, when}
 use Rattle.plain_text.specs.Numbers.{is_number, value}
-use Rattle.stp_reader.specs.Amounts.{parts, is_amount, amount_value, count_reasons, nodes_reasons, vertex_reasons, amount_reasons}
+use Rattle.amounts.specs.Amounts.{is_amount, ends_in_time, whole_part, millionths}
+use Rattle.stp_reader.specs.Amounts.{count_reasons, nodes_reasons, vertex_reasons, amount_reasons}
 use Rattle.stp_reader.specs.Judged.{◌>>=◌, both, count, nodes, vertex, amount}
 use Rattle.stp_reader.specs.Judging.{link_of, prize_of}
 use Rattle.stp_reader.specs.Place.{link_said}
@@ -45,11 +45,11 @@ vertex_answer n word = by_case (is_number word) (leb 1 (value word) && leb (valu
     by_case true false = refl
     by_case false c = refl
 
-pub amount_answer : (word : List ℕ) → amount word ≡ answer (least (amount_reasons word)) (amount_value word)
+pub amount_answer : (word : List ℕ) → amount word ≡ answer (least (amount_reasons word)) (millionths word)
 unfolding amount
-amount_answer word = by_case (is_amount word) (list_all (λ c. c == 48) (parts word).1) (leb (amount_value word) 1000000000000)
+amount_answer word = by_case (is_amount word) (ends_in_time word) (leb (whole_part word) 1000000000000)
   where
-    by_case : (b z c : Bool) → cond b (cond z (cond c (Ok (amount_value word)) (Err OutOfRange)) (Err Fraction)) (Err BadNumber) ≡ answer (least (cond b (when (not z) Fraction ++ when (not c) OutOfRange) (BadNumber ∷ []))) (amount_value word)
+    by_case : (b z c : Bool) → cond b (cond z (cond c (Ok (millionths word)) (Err OutOfRange)) (Err Fraction)) (Err BadNumber) ≡ answer (least (cond b (when (not z) Fraction ++ when (not c) OutOfRange) (BadNumber ∷ []))) (millionths word)
     by_case true true true = refl
     by_case true true false = refl
     by_case true false true = refl
@@ -62,10 +62,10 @@ link_from l = record { a = l.0; b = l.1.0; cost = l.1.1 }
 
 pub link_answer : (n : ℕ) (u v c : List ℕ) → link_of n u v c ≡ answer (least (vertex_reasons n u ++ vertex_reasons n v ++ amount_reasons c)) (link_said u v c)
 link_answer n u v c =
-    let two : ℕ × ℕ = (value v, amount_value c) in
+    let two : ℕ × ℕ = (value v, millionths c) in
     let three : ℕ × (ℕ × ℕ) = (value u, two) in
     let judged : link_of n u v c ≡ answer (least (vertex_reasons n u ++ (vertex_reasons n v ++ amount_reasons c))) (link_from three) =
-    rw (vertex_answer n u, vertex_answer n v, amount_answer c, both_answer (vertex_reasons n v) (amount_reasons c) (value v) (amount_value c), both_answer (vertex_reasons n u) (vertex_reasons n v ++ amount_reasons c) (value u) two)
+    rw (vertex_answer n u, vertex_answer n v, amount_answer c, both_answer (vertex_reasons n v) (amount_reasons c) (value v) (millionths c), both_answer (vertex_reasons n u) (vertex_reasons n v ++ amount_reasons c) (value u) two)
     (then_answer (least (vertex_reasons n u ++ (vertex_reasons n v ++ amount_reasons c))) three link_from) in
     judged ∙ ap (λ (rs : List Reason). answer (least rs) (link_from three)) (sym (append_assoc (vertex_reasons n u) (vertex_reasons n v) (amount_reasons c)))
 
@@ -93,7 +93,7 @@ vertex_low n word = by_case (is_number word) (leb 1 (value word) && leb (value w
     by_case false c = refl
 
 amount_low : (word : List ℕ) → IsLow (least (amount_reasons word))
-amount_low word = by_case (is_amount word) (list_all (λ c. c == 48) (parts word).1) (leb (amount_value word) 1000000000000)
+amount_low word = by_case (is_amount word) (ends_in_time word) (leb (whole_part word) 1000000000000)
   where
     by_case : (b z c : Bool) → IsLow (least (cond b (when (not z) Fraction ++ when (not c) OutOfRange) (BadNumber ∷ [])))
     by_case true true true = tt
@@ -113,13 +113,13 @@ second_prize None e test false low is = rw is refl
 second_prize (Some r) e test true low is = rw (is, low) refl
 second_prize (Some r) e test false low is = rw is refl
 
-pub prize_answer : (n : ℕ) (needs : List (ℕ × Need)) (v p : List ℕ) → prize_of n needs v p ≡ answer (least (vertex_reasons n v ++ amount_reasons p ++ when (has_prize needs (value v)) RepeatedPrize)) (value v, Pays (amount_value p))
+pub prize_answer : (n : ℕ) (needs : List (ℕ × Need)) (v p : List ℕ) → prize_of n needs v p ≡ answer (least (vertex_reasons n v ++ amount_reasons p ++ when (has_prize needs (value v)) RepeatedPrize)) (value v, Pays (millionths p))
 prize_answer n needs v p =
     let own = vertex_reasons n v ++ amount_reasons p in
     let third = when (has_prize needs (value v)) RepeatedPrize in
-    let said : ℕ × ℕ = (value v, amount_value p) in
+    let said : ℕ × ℕ = (value v, millionths p) in
     let low : IsLow (least own) = rw (least-append (vertex_reasons n v) (amount_reasons p)) (IsLow-lesser (least (vertex_reasons n v)) (least (amount_reasons p)) (vertex_low n v) (amount_low p)) in
     let all : least (own ++ third) ≡ lesser_of (least own) (least third) = least-append own third in
-    let both_say : both (vertex n v) (amount p) ≡ answer (least own) said = rw (vertex_answer n v, amount_answer p) (both_answer (vertex_reasons n v) (amount_reasons p) (value v) (amount_value p)) in
+    let both_say : both (vertex n v) (amount p) ≡ answer (least own) said = rw (vertex_answer n v, amount_answer p) (both_answer (vertex_reasons n v) (amount_reasons p) (value v) (millionths p)) in
     let judged : prize_of n needs v p ≡ answer (lesser_of (least own) (least third)) (prize_from said) = rw both_say (second_prize (least own) said (has_prize needs) (has_prize needs (value v)) low refl) in
     judged ∙ ap (λ (o : Option Reason). answer o (prize_from said)) (sym all)

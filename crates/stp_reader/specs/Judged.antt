@@ -1,12 +1,12 @@
 -- What a word says, or the least reason why it says nothing. Helpers' clauses cite this, and no public one.
-use Rattle.std.specs.Prelude.{ℕ, ◌&&◌, ◌==◌, if◌then◌else◌, List, Result, Ok, Err, nat_le}
-use Rattle.std.specs.List.{list_all}
-use Rattle.std.specs.Char.{is_ascii_digit}
+use Rattle.std.specs.Prelude.{ℕ, ◌&&◌, ◌==◌, if◌then◌else◌, List, ◌∷◌, Result, Ok, Err, nat_le}
+use Rattle.std.specs.List.{list_any}
 use Rattle.stp_reader.specs.declared.reason.Reason.{Reason}
-use Rattle.stp_reader.specs.declared.reason.Reason.TheVariants.{BadNumber, Fraction, OutOfRange, VertexRange, NoVertices}
+use Rattle.stp_reader.specs.declared.reason.Reason.TheVariants.{BadNumber, Fraction, OutOfRange, VertexRange, NoVertices, ScaleRange}
 use Rattle.stp_reader.specs.Reason.{lesser}
 use Rattle.plain_text.specs.Numbers.{is_number, value}
-use Rattle.stp_reader.specs.Amounts.{parts}
+use Rattle.amounts.specs.Amounts.{is_amount, ends_in_time, whole_part, millionths}
+use Rattle.stp_reader.specs.Unit.{is_fractional, is_large}
 
 -- what is said, and what is said next of it; a reason of the first ends it
 infixl 10 ◌>>=◌
@@ -37,9 +37,13 @@ nodes word = count 1000000 word >>= λ n. if n == 0 then Err NoVertices else Ok 
 unfoldable pub vertex : ℕ → List ℕ → Result ℕ Reason
 vertex n word = if is_number word then (if nat_le 1 (value word) && nat_le (value word) n then Ok (value word) else Err VertexRange) else Err BadNumber
 
--- a cost or a prize: digits, and then a point with no more than zeros after it, if there is one
+-- a cost or a prize, in millionths
 unfoldable pub amount : List ℕ → Result ℕ Reason
 amount word =
-    if is_number (parts word).0 && list_all is_ascii_digit (parts word).1
-    then (if list_all (λ c. c == 48) (parts word).1 then within 1000000000000 (value (parts word).0) else Err Fraction)
+    if is_amount word
+    then (if ends_in_time word then (if nat_le (whole_part word) 1000000000000 then Ok (millionths word) else Err OutOfRange) else Err Fraction)
     else Err BadNumber
+
+-- what was said, where this amount may stand after those
+abbrev pub scaled : {A : Type 0} → List ℕ → ℕ → A → Result A Reason
+scaled before x said = if list_any is_fractional (x ∷ before) && list_any is_large (x ∷ before) then Err ScaleRange else Ok said

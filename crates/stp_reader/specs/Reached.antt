@@ -1,5 +1,6 @@
 -- How the stages of the reader stand for places, and what holds of what was read. Helpers' clauses cite this, and no public one.
-use Rattle.std.specs.Prelude.{◌≡◌, ℕ, ◌≤◌, ◌<◌, List, length, All, Result, Ok, Err}
+use Rattle.std.specs.Prelude.{◌≡◌, ℕ, ◌≤◌, ◌<◌, IsFalse, ◌&&◌, List, [], length, All, IfSome, Result, Ok, Err}
+use Rattle.std.specs.List.{list_any}
 use Rattle.st_model.specs.declared.link.Link.{Link}
 use Rattle.st_model.specs.declared.need.Need.{Need}
 use Rattle.st_model.specs.Lists.{has}
@@ -9,17 +10,20 @@ use Rattle.stp_reader.specs.declared.fault.LineError.TheVariants.{Refused, NoMem
 use Rattle.stp_reader.specs.declared.fault.ReadError.{ReadError}
 use Rattle.stp_reader.specs.declared.fault.ReadError.TheVariants.{Fault, NoMemory as NoMemoryToRead}
 use Rattle.stp_reader.specs.declared.form.Form.{Form as FormRead}
-use Rattle.stp_reader.specs.declared.form.Form.TheVariants.{Section, Nameless, Eof, End, Nodes, Edges, Edge, Arcs, Count, Terminal, Prize, Root, Other}
+use Rattle.stp_reader.specs.declared.form.Form.TheVariants.{Section, Nameless, Eof, End, Nodes, Edges, Edge, Arcs, Count, Terminal, Prize, Root, Pinned, Other}
 use Rattle.stp_reader.specs.declared.reason.Reason.{Reason}
+use Rattle.stp_reader.specs.declared.seen.Seen.{Seen}
 use Rattle.stp_reader.specs.declared.stage.GraphPart.{GraphPart}
+use Rattle.stp_reader.specs.declared.stage.RootsPart.{RootsPart}
 use Rattle.stp_reader.specs.declared.stage.NeedsPart.{NeedsPart}
 use Rattle.stp_reader.specs.declared.stage.FilePart.{FilePart}
 use Rattle.stp_reader.specs.declared.stage.Ended.{Ended}
 use Rattle.stp_reader.specs.declared.stage.Ended.TheVariants.{Nothing, OneGraph, Whole}
 use Rattle.stp_reader.specs.declared.stage.Stage.{Stage}
 use Rattle.stp_reader.specs.declared.stage.Stage.TheVariants.{AtHeader, Outside, PassedOver, AtNodes, AtEdges, AtLinks, AtCount, AtNeeds, AfterEnd}
-use Rattle.stp_reader.specs.Forms.{Form, section_line, nameless_line, eof_line, end_line, nodes_line, edges_line, edge_line, arcs_line, count_line, terminal_line, prize_line, root_line, other_line}
-use Rattle.stp_reader.specs.Place.{Graph, File, Stated, nothing, graph, whole, Place, at_header, outside, passed_over, at_nodes, at_edges, at_links, at_count, at_needs, after_end}
+use Rattle.stp_reader.specs.Forms.{Form, section_line, nameless_line, eof_line, end_line, nodes_line, edges_line, edge_line, arcs_line, count_line, terminal_line, prize_line, root_line, pinned_line, other_line}
+use Rattle.stp_reader.specs.Unit.{is_fractional, is_large, amounts_of}
+use Rattle.stp_reader.specs.Place.{Graph, File, Roots, Stated, nothing, graph, whole, Place, at_header, outside, passed_over, at_nodes, at_edges, at_links, at_count, at_needs, after_end}
 use Rattle.stp_reader.specs.Reasons.{has_prize}
 
 -- what a function returned, seen by view, is what is said
@@ -60,12 +64,16 @@ form_seen (Count t) = count_line t.now
 form_seen (Terminal v) = terminal_line v.now
 form_seen (Prize v p) = prize_line v.now p.now
 form_seen (Root r) = root_line r.now
+form_seen (Pinned v) = pinned_line v.now
 form_seen Other = other_line
 
 -- ---- the place that a stage stands for
 
 abbrev pub graph_of : GraphPart → Graph
 graph_of g = record { n = g.vertices; links = g.links.items }
+
+abbrev pub roots_of : RootsPart → Roots
+roots_of r = record { root = r.root; pinned = r.pinned }
 
 abbrev pub file_from : FilePart → File
 file_from f = record { n = f.vertices; links = f.links.items; needs = f.needs.items }
@@ -82,8 +90,8 @@ place_of (PassedOver e) = passed_over (stated_of e)
 place_of AtNodes = at_nodes
 place_of (AtEdges n) = at_edges n
 place_of (AtLinks g m) = at_links g.vertices m g.links.items
-place_of (AtCount g root) = at_count (graph_of g) root
-place_of (AtNeeds p) = at_needs (graph_of p.graph) p.count p.needs.items p.root
+place_of (AtCount g roots) = at_count (graph_of g) (roots_of roots)
+place_of (AtNeeds p) = at_needs (graph_of p.graph) p.count p.needs.items (roots_of p.roots)
 place_of (AfterEnd f) = after_end (file_from f)
 
 -- ---- what holds of what was read
@@ -92,16 +100,22 @@ pub record IsCount (n : ℕ) : Type 0 where
   pub some : 1 ≤ n
   pub few : n ≤ 1000000
 
--- the ends are vertices, also twice the same one, and the cost is at most 10^12
+-- what was seen of these amounts: whether one has decimals, and whether one is above a million; never both
+pub record IsSeen (s : Seen) (amounts : List ℕ) : Type 0 where
+  pub fraction : s.fraction ≡ list_any is_fractional amounts
+  pub large : s.large ≡ list_any is_large amounts
+  pub apart : IsFalse (s.fraction && s.large)
+
+-- the ends are vertices, also twice the same one, and the cost is one that a word may say
 pub record IsStatedLink (n : ℕ) (l : Link) : Type 0 where
   pub first : IsVertex n l.a
   pub second : IsVertex n l.b
-  pub cheap : l.cost ≤ 1000000000000
+  pub cheap : l.cost ≤ 1000000000000999999
 
--- what is stated of a vertex, and the prize is at most 10^12
+-- what is stated of a vertex, and the prize is one that a word may say
 pub record IsStatedNeed (n : ℕ) (e : ℕ × Need) : Type 0 where
   pub vertex : IsVertex n e.0
-  pub cheap : prize e.1 ≤ 1000000000000
+  pub cheap : prize e.1 ≤ 1000000000000999999
 
 pub record AreLinks (n : ℕ) (links : List Link) : Type 0 where
   pub count : IsCount n
@@ -110,6 +124,21 @@ pub record AreLinks (n : ℕ) (links : List Link) : Type 0 where
 pub record IsGraph (n : ℕ) (links : List Link) : Type 0 where
   pub are_links : AreLinks n links
   pub few : length links ≤ 4000000
+
+-- a graph whose costs were seen, and no more
+pub record IsGraphPart (g : GraphPart) : Type 0 where
+  pub graph : IsGraph g.vertices g.links.items
+  pub seen : IsSeen g.seen (amounts_of g.links.items [])
+
+-- the same before its END
+pub record AreLinksReached (g : GraphPart) (m : ℕ) : Type 0 where
+  pub links : AreLinks g.vertices g.links.items
+  pub seen : IsSeen g.seen (amounts_of g.links.items [])
+  pub few : m ≤ 4000000
+
+-- the vertices of the lines Root and RootP are vertices
+pub record AreRoots (n : ℕ) (r : RootsPart) : Type 0 where
+  pub pinned : IfSome r.pinned (IsVertex n)
 
 -- the set holds the vertices that have a prize
 pub record AreNeeds (n : ℕ) (needs : List (ℕ × Need)) (below : ℕ) (paid : List ℕ) : Type 0 where
@@ -120,17 +149,20 @@ pub record AreNeeds (n : ℕ) (needs : List (ℕ × Need)) (below : ℕ) (paid :
 pub record IsFile (f : FilePart) : Type 0 where
   pub graph : IsGraph f.vertices f.links.items
   pub needs : All (IsStatedNeed f.vertices) f.needs.items
-  pub few : length f.needs.items ≤ 2000000
+  pub few : length f.needs.items ≤ 2000001
+  pub seen : IsSeen f.seen (amounts_of f.links.items f.needs.items)
 
 abbrev pub IsEnded : Ended → Type 0
 IsEnded Nothing = Unit {0}
-IsEnded (OneGraph g) = IsGraph g.vertices g.links.items
+IsEnded (OneGraph g) = IsGraphPart g
 IsEnded (Whole f) = IsFile f
 
 pub record AreNeedsReached (p : NeedsPart) : Type 0 where
   pub graph : IsGraph p.graph.vertices p.graph.links.items
   pub few : p.count ≤ 2000000
   pub needs : AreNeeds p.graph.vertices p.needs.items p.paid.count p.paid.members
+  pub roots : AreRoots p.graph.vertices p.roots
+  pub seen : IsSeen p.graph.seen (amounts_of p.graph.links.items p.needs.items)
 
 abbrev pub IsReached : Stage → Type 0
 IsReached AtHeader = Unit {0}
@@ -138,7 +170,7 @@ IsReached (Outside e) = IsEnded e
 IsReached (PassedOver e) = IsEnded e
 IsReached AtNodes = Unit {0}
 IsReached (AtEdges n) = IsCount n
-IsReached (AtLinks g m) = AreLinks g.vertices g.links.items × (m ≤ 4000000)
-IsReached (AtCount g root) = IsGraph g.vertices g.links.items
+IsReached (AtLinks g m) = AreLinksReached g m
+IsReached (AtCount g roots) = IsGraphPart g × AreRoots g.vertices roots
 IsReached (AtNeeds p) = AreNeedsReached p
 IsReached (AfterEnd f) = IsFile f

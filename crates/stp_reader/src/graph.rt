@@ -1,13 +1,14 @@
 ghost use Rattle.std.specs.Prelude.{◌≡◌, ◌≤◌, IfOk};
 ghost use Rattle.stp_reader.specs.Forms.{edge_line, end_line};
 ghost use Rattle.stp_reader.specs.Judging.{reason_in_section, reason_in_graph, judge_nodes, judge_edges, link_of, judge_link};
-ghost use Rattle.stp_reader.specs.Reached.{Says, Gives, form_seen, place_of, IsStatedLink, IsCount, AreLinks, IsReached};
+ghost use Rattle.stp_reader.specs.Reached.{Says, Gives, form_seen, place_of, IsStatedLink, IsCount, AreLinksReached, IsReached};
 
 use crate::Reason;
 use crate::fault::LineError;
 use crate::form::Form;
 use crate::numbers::{amount, count, nodes, vertex};
 use crate::reason::both;
+use crate::seen::Seen;
 use crate::stage::{Ended, GraphPart, Stage};
 use st_model::Link;
 use std::alloc::Global;
@@ -56,7 +57,13 @@ pub fn edges_line(alloc: Global, vertices: u32, form: Form) -> Result<Stage, Rea
         Form::Edges(word) => {
             let count = count(word, MAX_LINKS)?;
             let links = Vec::new(alloc);
-            Ok(Stage::AtLinks(GraphPart { vertices, links }, count))
+            let seen = Seen::nothing();
+            let graph = GraphPart {
+                vertices,
+                links,
+                seen,
+            };
+            Ok(Stage::AtLinks(graph, count))
         }
         _ => Err(misplaced_in_graph(form)),
     }
@@ -80,21 +87,20 @@ fn with_link(
     second: &[u8],
     cost: &[u8],
 ) -> Result<Stage, LineError>
-    requires links { AreLinks graph.vertices graph.links.items }
-    requires few { count ≤ 4000000 }
+    requires { AreLinksReached graph count }
     ensures place { Gives place_of result
         (judge_link graph.vertices count graph.links.items (edge_line first.now second.now cost.now)) }
     ensures reached { IfOk result IsReached }
 {
     let link = link_of(graph.vertices, first, second, cost)?;
+    graph.seen = graph.seen.with(link.cost)?;
     graph.links.push(link)?;
     Ok(Stage::AtLinks(graph, count))
 }
 
 // After the END of Graph.
 fn graph_end(graph: GraphPart, count: u64) -> Result<Stage, Reason>
-    requires links { AreLinks graph.vertices graph.links.items }
-    requires few { count ≤ 4000000 }
+    requires { AreLinksReached graph count }
     ensures place { Says place_of result
         (judge_link graph.vertices count graph.links.items end_line) }
     ensures reached { IfOk result IsReached }
@@ -107,8 +113,7 @@ fn graph_end(graph: GraphPart, count: u64) -> Result<Stage, Reason>
 
 /// After a further line of Graph.
 pub fn link_line(graph: GraphPart, count: u64, form: Form) -> Result<Stage, LineError>
-    requires links { AreLinks graph.vertices graph.links.items }
-    requires few { count ≤ 4000000 }
+    requires { AreLinksReached graph count }
     ensures place { Gives place_of result
         (judge_link graph.vertices count graph.links.items (form_seen form.entry)) }
     ensures reached { IfOk result IsReached }

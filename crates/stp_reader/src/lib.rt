@@ -21,7 +21,9 @@ mod law;
 mod lines;
 mod numbers;
 mod read;
+mod reading;
 mod reason;
+mod seen;
 mod stage;
 mod terminals;
 mod words;
@@ -31,6 +33,8 @@ pub use keyword::is_word;
 pub use law::refused_exactly;
 pub use lines::{next_piece, without_cr};
 use read::file_in;
+pub use reading::Reading;
+use reading::in_its_unit;
 pub use reason::Reason;
 use st_model::Instance;
 use std::alloc::Global;
@@ -50,7 +54,8 @@ pub fn read_stp(alloc: Global, bytes: &[u8]) -> Result<Reading, ReadError>
     ensures refused { (line : ℕ) (reason : StpReason) → Refused bytes.now line reason
         → (result ≡ Err (Fault (record { line = line; reason = reason }))) ⊎ (result ≡ Err NoMemory) }
 {
-    let file = file_in(alloc, bytes)?;
+    let mut file = file_in(alloc, bytes)?;
+    let scale = in_its_unit(&mut file);
     let instance = Instance::build(alloc, file.vertices, &file.links, &file.needs)?;
-    Ok(instance)
+    Ok(Reading { instance, scale })
 }

@@ -1,16 +1,16 @@
-ghost use Rattle.std.specs.Prelude.{◌≡◌, ◌≤◌, ◌==◌, IsTrue, IfOk};
+ghost use Rattle.std.specs.Prelude.{◌≡◌, ◌≤◌, IsTrue, IfOk};
 ghost use Rattle.std.specs.Char.{is_ascii_digit};
 ghost use Rattle.std.specs.List.{list_all};
 ghost use Rattle.st_model.specs.Network.{IsVertex};
 ghost use Rattle.plain_text.specs.Numbers.{is_number, value};
-ghost use Rattle.stp_reader.specs.Amounts.{parts};
 ghost use Rattle.stp_reader.specs.Judged.{within, count, nodes, vertex, amount};
 
 use crate::Reason;
-use plain_text::{cut_at, number_within};
+use amounts::{NoAmount, amount_said};
+use plain_text::number_within;
 use st_model::MAX_VERTICES;
 
-/// The greatest cost or prize.
+/// The greatest whole part of a cost or prize.
 const MAX_AMOUNT: u64 = 1_000_000_000_000;
 
 // Whether there are but decimal digits.
@@ -18,13 +18,6 @@ fn are_digits(bytes: &[u8]) -> bool
     ensures { result ≡ list_all is_ascii_digit bytes.now }
 {
     bytes.iter().all(|byte| byte.is_ascii_digit())
-}
-
-// Whether there are but zeros.
-fn are_zeros(bytes: &[u8]) -> bool
-    ensures { result ≡ list_all (λ c. c == 48) bytes.now }
-{
-    bytes.iter().all(|byte| *byte == b'0')
 }
 
 // Whether a word is a number: one or more decimal digits.
@@ -84,28 +77,16 @@ pub fn vertex(word: &[u8], vertices: u32) -> Result<u32, Reason>
     }
 }
 
-// The whole part of an amount, and what stands after its point.
-fn parts(word: &[u8]) -> (&[u8], &[u8])
-    ensures { (result.0.now, result.1.now) ≡ parts word.now }
-{
-    let Some((whole, fraction)) = cut_at(word, b'.') else {
-        return (word, &word[..0]);
-    };
-    (whole, fraction)
-}
-
-/// The cost or prize that a word says.
-#[tactic(auto, unfolding(crate::specs::Judged::amount))]
+/// The millionths that a word says as a cost or prize.
+#[tactic(auto, unfolding(crate::specs::Judged::amount, amounts::specs::Amounts::amount_said))]
 pub fn amount(word: &[u8]) -> Result<u64, Reason>
     ensures value { result ≡ amount word.now }
-    ensures in_range { IfOk result (λ x. x ≤ 1000000000000) }
+    ensures in_range { IfOk result (λ x. x ≤ 1000000000000999999) }
 {
-    let (whole, fraction) = parts(word);
-    if !is_number(whole) || !are_digits(fraction) {
-        return Err(Reason::BadNumber);
+    match amount_said(word, MAX_AMOUNT) {
+        Ok(millionths) => Ok(millionths as u64),
+        Err(NoAmount::NotDigits) => Err(Reason::BadNumber),
+        Err(NoAmount::TooFine) => Err(Reason::Fraction),
+        Err(NoAmount::TooLarge) => Err(Reason::OutOfRange),
     }
-    if !are_zeros(fraction) {
-        return Err(Reason::Fraction);
-    }
-    within(whole, MAX_AMOUNT)
 }

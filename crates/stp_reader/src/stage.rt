@@ -10,17 +10,33 @@ use crate::fault::LineError;
 use crate::form::{Form, form_of};
 use crate::graph::{edges_line, link_line, nodes_line};
 use crate::keyword::{SectionName, section_of};
+use crate::seen::Seen;
 use crate::terminals::{count_line, need_line};
 use crate::words::{has_magic, is_remark, next_word};
 use st_model::{Link, Need, VertexSet};
 use std::alloc::Global;
 
-/// What a section Graph states, or has stated so far.
+/// What a section Graph states, or has stated so far, costs in millionths.
 #[derive(Drop)]
 pub struct GraphPart {
     pub vertices: u32,
     pub links: Vec<Link>,
+    /// Of the costs, and later of the prizes.
+    pub seen: Seen,
 }
+
+/// The vertices of the lines `Root` and `RootP`, as far as they have come.
+#[derive(Clone, Copy)]
+pub struct RootsPart {
+    pub root: Option<u32>,
+    pub pinned: Option<u32>,
+}
+
+/// Neither of them has come.
+const NO_ROOTS: RootsPart = RootsPart {
+    root: None,
+    pinned: None,
+};
 
 /// What a section Terminals has stated so far, and the graph before it.
 #[derive(Drop)]
@@ -31,15 +47,17 @@ pub struct NeedsPart {
     pub needs: Vec<(u32, Need)>,
     /// The vertices that have a prize.
     pub paid: VertexSet,
-    pub root: Option<u32>,
+    pub roots: RootsPart,
 }
 
-/// What a whole file states.
+/// What a whole file states, costs and prizes in millionths.
 #[derive(Drop)]
 pub struct FilePart {
     pub vertices: u32,
     pub links: Vec<Link>,
     pub needs: Vec<(u32, Need)>,
+    /// Of the costs and prizes.
+    pub seen: Seen,
 }
 
 /// What the sections that have ended state.
@@ -59,7 +77,7 @@ pub enum Stage {
     AtNodes,
     AtEdges(u32),
     AtLinks(GraphPart, u64),
-    AtCount(GraphPart, Option<u32>),
+    AtCount(GraphPart, RootsPart),
     AtNeeds(NeedsPart),
     AfterEnd(FilePart),
 }
@@ -79,7 +97,7 @@ fn opened(ended: Ended, name: SectionName) -> Result<Stage, Reason>
         },
         SectionName::Terminals => match ended {
             Ended::Nothing => Err(Reason::GraphFirst),
-            Ended::OneGraph(graph) => Ok(Stage::AtCount(graph, None)),
+            Ended::OneGraph(graph) => Ok(Stage::AtCount(graph, NO_ROOTS)),
             Ended::Whole(_) => Err(Reason::RepeatedSection),
         },
     }
@@ -158,7 +176,7 @@ fn after_said(
         Stage::AtNodes => Ok(nodes_line(form)?),
         Stage::AtEdges(vertices) => Ok(edges_line(alloc, vertices, form)?),
         Stage::AtLinks(graph, count) => link_line(graph, count, form),
-        Stage::AtCount(graph, root) => count_line(alloc, graph, root, form),
+        Stage::AtCount(graph, roots) => count_line(alloc, graph, roots, form),
         Stage::AtNeeds(needs) => need_line(needs, form),
         Stage::AfterEnd(file) => Ok(Stage::AfterEnd(file)),
     }

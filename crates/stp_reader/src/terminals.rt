@@ -1,11 +1,12 @@
-ghost use Rattle.std.specs.Prelude.{◌≡◌, ◌≤◌, false, IfOk};
+ghost use Rattle.std.specs.Prelude.{◌≡◌, ◌≤◌, ◌++◌, false, IfOk, OnOk};
 ghost use Rattle.st_model.specs.Lists.{has};
 ghost use Rattle.st_model.specs.Network.{IsVertex};
 ghost use Rattle.st_model.specs.declared.need.Need.TheVariants.{Pays};
-ghost use Rattle.stp_reader.specs.Forms.{count_line, terminal_line, prize_line, root_line};
-ghost use Rattle.stp_reader.specs.Reasons.{has_terminal, is_stray};
-ghost use Rattle.stp_reader.specs.Judging.{root_of, judge_count, prize_of, terminals_end, judge_need};
-ghost use Rattle.stp_reader.specs.Reached.{Says, Gives, form_seen, graph_of, place_of, IsGraph, AreNeedsReached, IsReached};
+ghost use Rattle.stp_reader.specs.Forms.{count_line, terminal_line, prize_line, root_line, pinned_line};
+ghost use Rattle.stp_reader.specs.Place.{pinned_need};
+ghost use Rattle.stp_reader.specs.Reasons.{has_terminal, is_pinned, is_count, is_stray};
+ghost use Rattle.stp_reader.specs.Judging.{root_of, judge_count, prize_of, end_fault, terminals_end, judge_need};
+ghost use Rattle.stp_reader.specs.Reached.{Says, Gives, form_seen, graph_of, roots_of, place_of, IsGraphPart, AreRoots, AreNeedsReached, IsReached};
 
 use crate::Reason;
 use crate::fault::LineError;
@@ -13,16 +14,17 @@ use crate::form::Form;
 use crate::graph::misplaced;
 use crate::numbers::{amount, count, vertex};
 use crate::reason::both;
-use crate::stage::{Ended, FilePart, GraphPart, NeedsPart, Stage};
+use crate::stage::{Ended, FilePart, GraphPart, NeedsPart, RootsPart, Stage};
 use st_model::{Need, VertexSet};
-use std::alloc::Global;
+use std::alloc::{AllocError, Global};
 
 /// The greatest number of terminals that a file may state.
 const MAX_TERMINALS: u64 = 2_000_000;
 
-// The vertex of a line `Root r`, where no such line stood before.
+// The vertex of a line `Root r` or `RootP v`, where no such line stood before.
 fn root_of(vertices: u32, root: Option<u32>, word: &[u8]) -> Result<u32, Reason>
-    ensures { result ≡ root_of vertices root word.now }
+    ensures vertex { result ≡ root_of vertices root word.now }
+    ensures in_range { IfOk result (IsVertex vertices) }
 {
     match root {
         Some(_) => Err(Reason::BadLine),
@@ -34,11 +36,13 @@ fn root_of(vertices: u32, root: Option<u32>, word: &[u8]) -> Result<u32, Reason>
 fn with_count(
     alloc: Global,
     graph: GraphPart,
-    root: Option<u32>,
+    roots: RootsPart,
     word: &[u8],
 ) -> Result<Stage, LineError>
-    requires { IsGraph graph.vertices graph.links.items }
-    ensures place { Gives place_of result (judge_count (graph_of graph) root (count_line word.now)) }
+    requires graph { IsGraphPart graph }
+    requires roots { AreRoots graph.vertices roots }
+    ensures place { Gives place_of result
+        (judge_count (graph_of graph) (roots_of roots) (count_line word.now)) }
     ensures reached { IfOk result IsReached }
 {
     let count = count(word, MAX_TERMINALS)?;
@@ -48,7 +52,7 @@ fn with_count(
         count,
         needs: Vec::new(alloc),
         paid,
-        root,
+        roots,
     }))
 }
 
@@ -56,18 +60,24 @@ fn with_count(
 pub fn count_line(
     alloc: Global,
     graph: GraphPart,
-    root: Option<u32>,
+    roots: RootsPart,
     form: Form,
 ) -> Result<Stage, LineError>
-    requires { IsGraph graph.vertices graph.links.items }
-    ensures place { Gives place_of result (judge_count (graph_of graph) root (form_seen form.entry)) }
+    requires graph { IsGraphPart graph }
+    requires roots { AreRoots graph.vertices roots }
+    ensures place { Gives place_of result
+        (judge_count (graph_of graph) (roots_of roots) (form_seen form.entry)) }
     ensures reached { IfOk result IsReached }
 {
     match form {
-        Form::Count(word) => with_count(alloc, graph, root, word),
+        Form::Count(word) => with_count(alloc, graph, roots, word),
         Form::Root(word) => {
-            let root = root_of(graph.vertices, root, word)?;
-            Ok(Stage::AtCount(graph, Some(root)))
+            let root = Some(root_of(graph.vertices, roots.root, word)?);
+            Ok(Stage::AtCount(graph, RootsPart { root, ..roots }))
+        }
+        Form::Pinned(word) => {
+            let pinned = Some(root_of(graph.vertices, roots.pinned, word)?);
+            Ok(Stage::AtCount(graph, RootsPart { pinned, ..roots }))
         }
         _ => Err(LineError::Refused(misplaced(form))),
     }
@@ -82,38 +92,83 @@ fn has_terminal(needs: &[(u32, Need)], vertex: u32) -> bool
         .any(|(v, need)| *need == Need::Required && *v == vertex)
 }
 
-// Whether the root, if there is one, has no line that says that it is required.
-fn is_stray(needs: &[(u32, Need)], root: Option<u32>) -> bool
-    ensures { result ≡ is_stray needs.now root }
+// Whether the line `RootP`, if there is one, says this vertex.
+fn is_pinned(pinned: Option<u32>, vertex: u32) -> bool
+    ensures { result ≡ is_pinned pinned vertex }
 {
-    match root {
-        Some(vertex) => !has_terminal(needs, vertex),
+    match pinned {
+        Some(other) => other == vertex,
         None => false,
     }
 }
 
+// Whether the root, if there is one, has no line that says that it is required.
+fn is_stray(needs: &[(u32, Need)], roots: RootsPart) -> bool
+    ensures { result ≡ is_stray needs.now roots.pinned roots.root }
+{
+    match roots.root {
+        Some(vertex) => !(has_terminal(needs, vertex) || is_pinned(roots.pinned, vertex)),
+        None => false,
+    }
+}
+
+// Whether as many lines say needs as were to be; the line `RootP` may be counted, too.
+fn is_count(count: u64, needs: &[(u32, Need)], pinned: Option<u32>) -> bool
+    ensures { result ≡ is_count count needs.now pinned }
+{
+    let lines = needs.len() as u64;
+    lines == count || pinned.is_some() && lines < count && count - lines == 1
+}
+
+// All needs, with that of the line `RootP`.
+fn with_pinned(needs: &mut Vec<(u32, Need)>, pinned: Option<u32>) -> Result<(), AllocError>
+    ensures { OnOk result (needs.new.items ≡ needs.old.items ++ pinned_need pinned) }
+{
+    if let Some(vertex) = pinned {
+        needs.push((vertex, Need::Required))?;
+    }
+    Ok(())
+}
+
+// Why the END of Terminals may not stand here, if it may not.
+fn end_fault(part: &NeedsPart) -> Option<Reason>
+    ensures { result ≡ end_fault part.now.count part.now.needs.items (roots_of part.now.roots) }
+{
+    let roots = part.roots;
+    if !is_count(part.count, &part.needs, roots.pinned) {
+        return Some(Reason::CountMismatch);
+    }
+    if is_stray(&part.needs, roots) {
+        return Some(Reason::RootNotTerminal);
+    }
+    if part.needs.is_empty() && roots.pinned.is_none() {
+        return Some(Reason::NoTerminals);
+    }
+    None
+}
+
 // After the END of Terminals.
-fn terminals_end(part: NeedsPart) -> Result<Stage, Reason>
+fn terminals_end(mut part: NeedsPart) -> Result<Stage, LineError>
     requires { AreNeedsReached part }
-    ensures place { Says place_of result
-        (terminals_end (graph_of part.graph) part.count part.needs.items part.root) }
+    ensures place { Gives place_of result
+        (terminals_end (graph_of part.graph) part.count part.needs.items (roots_of part.roots)) }
     ensures reached { IfOk result IsReached }
 {
-    if part.needs.len() as u64 != part.count {
-        return Err(Reason::CountMismatch);
+    if let Some(reason) = end_fault(&part) {
+        return Err(LineError::Refused(reason));
     }
-    if is_stray(&part.needs, part.root) {
-        return Err(Reason::RootNotTerminal);
-    }
-    if part.needs.is_empty() {
-        return Err(Reason::NoTerminals);
-    }
+    with_pinned(&mut part.needs, part.roots.pinned)?;
     let NeedsPart { graph, needs, .. } = part;
-    let GraphPart { vertices, links } = graph;
+    let GraphPart {
+        vertices,
+        links,
+        seen,
+    } = graph;
     Ok(Stage::Outside(Ended::Whole(FilePart {
         vertices,
         links,
         needs,
+        seen,
     })))
 }
 
@@ -121,7 +176,7 @@ fn terminals_end(part: NeedsPart) -> Result<Stage, Reason>
 fn with_terminal(mut part: NeedsPart, word: &[u8]) -> Result<Stage, LineError>
     requires { AreNeedsReached part }
     ensures place { Gives place_of result
-        (judge_need (graph_of part.graph) part.count part.needs.items part.root (terminal_line word.now)) }
+        (judge_need (graph_of part.graph) part.count part.needs.items (roots_of part.roots) (terminal_line word.now)) }
     ensures reached { IfOk result IsReached }
 {
     let vertex = vertex(word, part.graph.vertices)?;
@@ -135,7 +190,7 @@ fn prize_of(part: &NeedsPart, name: &[u8], prize: &[u8]) -> Result<(u32, u64), R
     ensures prize { Says (λ e. (e.0, Pays e.1)) result
         (prize_of part.now.graph.vertices part.now.needs.items name.now prize.now) }
     ensures in_range { IfOk result
-        (λ e. IsVertex part.now.graph.vertices e.0 × (e.1 ≤ 1000000000000)) }
+        (λ e. IsVertex part.now.graph.vertices e.0 × (e.1 ≤ 1000000000000999999)) }
     ensures fresh { IfOk result (λ e. has part.now.paid.members e.0 ≡ false) }
 {
     let (vertex, prize) = both(vertex(name, part.graph.vertices), amount(prize))?;
@@ -149,10 +204,11 @@ fn prize_of(part: &NeedsPart, name: &[u8], prize: &[u8]) -> Result<(u32, u64), R
 fn with_prize(mut part: NeedsPart, name: &[u8], prize: &[u8]) -> Result<Stage, LineError>
     requires { AreNeedsReached part }
     ensures place { Gives place_of result
-        (judge_need (graph_of part.graph) part.count part.needs.items part.root (prize_line name.now prize.now)) }
+        (judge_need (graph_of part.graph) part.count part.needs.items (roots_of part.roots) (prize_line name.now prize.now)) }
     ensures reached { IfOk result IsReached }
 {
     let (vertex, prize) = prize_of(&part, name, prize)?;
+    part.graph.seen = part.graph.seen.with(prize)?;
     part.paid.insert(vertex)?;
     part.needs.push((vertex, Need::Pays(prize)))?;
     Ok(Stage::AtNeeds(part))
@@ -162,11 +218,23 @@ fn with_prize(mut part: NeedsPart, name: &[u8], prize: &[u8]) -> Result<Stage, L
 fn with_root(mut part: NeedsPart, word: &[u8]) -> Result<Stage, Reason>
     requires { AreNeedsReached part }
     ensures place { Says place_of result
-        (judge_need (graph_of part.graph) part.count part.needs.items part.root (root_line word.now)) }
+        (judge_need (graph_of part.graph) part.count part.needs.items (roots_of part.roots) (root_line word.now)) }
     ensures reached { IfOk result IsReached }
 {
-    let root = root_of(part.graph.vertices, part.root, word)?;
-    part.root = Some(root);
+    let root = root_of(part.graph.vertices, part.roots.root, word)?;
+    part.roots.root = Some(root);
+    Ok(Stage::AtNeeds(part))
+}
+
+// The part with a line `RootP v`.
+fn with_pinned_line(mut part: NeedsPart, word: &[u8]) -> Result<Stage, Reason>
+    requires { AreNeedsReached part }
+    ensures place { Says place_of result
+        (judge_need (graph_of part.graph) part.count part.needs.items (roots_of part.roots) (pinned_line word.now)) }
+    ensures reached { IfOk result IsReached }
+{
+    let vertex = root_of(part.graph.vertices, part.roots.pinned, word)?;
+    part.roots.pinned = Some(vertex);
     Ok(Stage::AtNeeds(part))
 }
 
@@ -174,14 +242,15 @@ fn with_root(mut part: NeedsPart, word: &[u8]) -> Result<Stage, Reason>
 pub fn need_line(part: NeedsPart, form: Form) -> Result<Stage, LineError>
     requires { AreNeedsReached part }
     ensures place { Gives place_of result
-        (judge_need (graph_of part.graph) part.count part.needs.items part.root (form_seen form.entry)) }
+        (judge_need (graph_of part.graph) part.count part.needs.items (roots_of part.roots) (form_seen form.entry)) }
     ensures reached { IfOk result IsReached }
 {
     match form {
         Form::Terminal(word) => with_terminal(part, word),
         Form::Prize(name, prize) => with_prize(part, name, prize),
         Form::Root(word) => Ok(with_root(part, word)?),
-        Form::End => Ok(terminals_end(part)?),
+        Form::Pinned(word) => Ok(with_pinned_line(part, word)?),
+        Form::End => terminals_end(part),
         _ => Err(LineError::Refused(misplaced(form))),
     }
 }
