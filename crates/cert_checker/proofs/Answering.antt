@@ -1,24 +1,25 @@
 -- What is answered of a text that came in pieces.
-use Rattle.std.proofs.Common.{◌≡◌, ℕ, ◌+◌, Bool, true, false, List, [], ◌∷◌, ◌++◌, inl, inr, Result, Ok, Err, sym, ap, subst, ◌∙◌}
+use Rattle.std.proofs.Common.{◌≡◌, ℕ, Bool, true, false, List, [], ◌∷◌, ◌++◌, inl, inr, Result, Ok, Err, sym, ap, subst, ◌∙◌}
 use Rattle.std.specs.Prelude.{◌⊎◌, IfOk, IsErrAnd, MatchResult}
 use Rattle.std.proofs.lemmas.List.{append-nil}
+use Rattle.amounts.specs.declared.scale.Scale.{Scale}
 use Rattle.st_model.specs.Network.{Network, IsInstance}
 use Rattle.stp_reader.specs.declared.fault.ReadError as file
 use Rattle.stp_reader.specs.declared.fault.ReadError.TheVariants as file_error
 use Rattle.stp_reader.specs.declared.reason.Reason.{Reason}
 use Rattle.stp_reader.specs.Reads.{Reads}
-use Rattle.log_format.specs.declared.log.Log as log_type
 use Rattle.log_format.specs.Accepts.{AcceptedHolds}
 use Rattle.log_format.specs.Text.{AreWhole, Begins}
 use Rattle.log_format.proofs.WholeLines.{is_text}
 use Rattle.cert_checker.specs.declared.fault.CheckFault.{CheckFault}
 use Rattle.cert_checker.specs.declared.fault.CheckFault.TheVariants.{Stp, Log, NoMemory}
 use Rattle.cert_checker.specs.declared.verdict.Verdict.{Verdict}
+use Rattle.cert_checker.specs.declared.verdict.Checked.{Checked}
 use Rattle.cert_checker.specs.Checking.{IsTextOf, IsAnswer}
 use Rattle.cert_checker.specs.Fault.{fault_of_file}
 use Rattle.cert_checker.specs.Hearing.{AreTaken, IsJudgementOf, AreJudged, IsFed}
 use Rattle.cert_checker.specs.Held.{AreHeld, IsHeld}
-use Rattle.cert_checker.specs.Pieces.{IsAnswerTo}
+use Rattle.cert_checker.specs.Pieces.{Pieces, IsVerdictOn, IsAnswerTo}
 use Rattle.cert_checker.specs.Verdict.{Concludes}
 use Rattle.cert_checker.proofs.Judgements.{holds_concludes}
 
@@ -26,19 +27,19 @@ use Rattle.cert_checker.proofs.Judgements.{holds_concludes}
 
 -- what is judged of the lines of a log is answered of its text
 pub judged_answers : (I : Network) (lines : List (List ℕ)) (part text : List ℕ) (result : Result Verdict CheckFault) → AreTaken lines part text → part ≡ [] → AreWhole lines
-    → AreJudged I lines result → IsAnswerTo I text result
+    → AreJudged I lines result → IsVerdictOn I text result
 judged_answers I lines part text result read none (log, is, same) judged = by_result result (judged log is same)
   where
     is_of : IsTextOf text log
     is_of = record { is_log = is; text = is_text text log (same ∙ sym read.whole) (read.rest ∙ none) }
 
-    by_result : (r : Result Verdict CheckFault) → IsJudgementOf I log r → IsAnswerTo I text r
+    by_result : (r : Result Verdict CheckFault) → IsJudgementOf I log r → IsVerdictOn I text r
     by_result (Ok verdict) j = (log, is_of, j.0, j.1)
     by_result (Err (Log f)) j = inr (log, is_of, j)
     by_result (Err e) j = j
 
 -- and concludes
-pub answer_concludes : (I : Network) (text : List ℕ) (result : Result Verdict CheckFault) → AcceptedHolds → IsInstance I → IsAnswerTo I text result → IfOk result (Concludes I)
+pub answer_concludes : (I : Network) (text : List ℕ) (result : Result Verdict CheckFault) → AcceptedHolds → IsInstance I → IsVerdictOn I text result → IfOk result (Concludes I)
 answer_concludes I text (Ok verdict) law instance (log, is, accepts, same) = subst (Concludes I) (sym same) (holds_concludes I log.claim (law I log instance accepts))
 answer_concludes I text (Err e) law instance answer = tt
 
@@ -65,7 +66,7 @@ pub fault_only : {X : Type 0} (r : Result X CheckFault) (e : file.ReadError) (P 
 fault_only (Ok x) e P is none = absurd is
 fault_only (Err fault) e P is none = is ∙ ap fault_of_file none
 
-pub fault_refused : {X : Type 0} (read : Result Network file.ReadError) (r : Result X CheckFault) (e : file.ReadError) (line : ℕ) (reason : Reason)
+pub fault_refused : {X Y : Type 0} (read : Result Y file.ReadError) (r : Result X CheckFault) (e : file.ReadError) (line : ℕ) (reason : Reason)
     → IsErrAnd r (λ fault. fault ≡ fault_of_file e) → read ≡ Err e
     → (read ≡ Err (file_error.Fault (record { line = line; reason = reason }))) ⊎ (read ≡ Err file_error.NoMemory) → IsErrAnd r (λ fault. (fault ≡ Stp (record { line = line; reason = reason })) ⊎ (fault ≡ NoMemory))
 fault_refused read (Ok x) e line reason is found one = absurd is
@@ -73,19 +74,60 @@ fault_refused read (Err fault) e line reason is found (inl same) = let it : e �
 fault_refused read (Err fault) e line reason is found (inr none) = let it : e ≡ file_error.NoMemory = cc in inr (is ∙ ap fault_of_file it)
 
 -- a file that is read isn't refused
-pub never_refused : (read : Result Network file.ReadError) (I : Network) (a b : file.ReadError) → read ≡ Ok I → (read ≡ Err a) ⊎ (read ≡ Err b) → ⊥
-never_refused read I a b found (inl e) = absurd cc
-never_refused read I a b found (inr e) = absurd cc
+pub never_refused : {Y : Type 0} (read : Result Y file.ReadError) (y : Y) (a b : file.ReadError) → read ≡ Ok y → (read ≡ Err a) ⊎ (read ≡ Err b) → ⊥
+never_refused read y a b found (inl e) = absurd cc
+never_refused read y a b found (inr e) = absurd cc
 
 -- ---- the whole
 
--- an answer of the instance and the text is one of its file and the text
-pub answers_of : (stp text : List ℕ) (I : Network) (result : Result Verdict CheckFault) → Reads stp I → IsAnswerTo I text result → IsAnswer stp text result
-answers_of stp text I (Ok verdict) reads answer = (I, reads, answer)
-answers_of stp text I (Err (Log f)) reads answer = (I, reads, answer)
-answers_of stp text I (Err e) reads answer = absurd answer
+-- an answer to pieces is one of their file and the text
+pub answers_of : (stp : List ℕ) (p : Pieces) (result : Result Checked CheckFault) → Reads stp p.instance p.scale → IsAnswerTo p result → IsAnswer stp p.text result
+answers_of stp p (Ok checked) reads answer = (p.instance, subst (Reads stp p.instance) (sym answer.1) reads, answer.0)
+answers_of stp p (Err (Log f)) reads answer = (p.instance, p.scale, reads, answer)
+answers_of stp p (Err e) reads answer = absurd answer
 
 -- the same of what was fed to a checker of that file
-pub fed_answers : (stp log : List ℕ) (I J : Network) (text : List ℕ) (result : Result Verdict CheckFault) → Reads stp I → J ≡ I → text ≡ log → IsAnswerTo J text result → IsAnswer stp log result
-fed_answers stp log I J text result reads same all answer =
-    answers_of stp log I result reads (subst (λ (K : Network). IsAnswerTo K log result) same (subst (λ (t : List ℕ). IsAnswerTo J t result) all answer))
+pub fed_answers : (stp log : List ℕ) (first fed : Pieces) (result : Result Checked CheckFault) → Reads stp first.instance first.scale → fed.instance ≡ first.instance → fed.scale ≡ first.scale → fed.text ≡ log → IsAnswerTo fed result → IsAnswer stp log result
+fed_answers stp log first fed result reads same unit all answer =
+    let of_file : Reads stp fed.instance fed.scale = subst (λ (K : Network). Reads stp K fed.scale) (sym same) (subst (Reads stp first.instance) (sym unit) reads) in
+    subst (λ (t : List ℕ). IsAnswer stp t result) all (answers_of stp fed result of_file answer)
+
+-- ---- the verdict and its unit
+
+-- what a check answers
+abbrev pub answered : Result Checked CheckFault → Result Checked CheckFault
+answered r = r
+
+pub that_verdict : (found verdict : Verdict) (unit scale : Scale) (result : Result Verdict CheckFault) → result ≡ Ok found → unit ≡ scale → result ≡ Ok verdict → answered (Ok (record { verdict = found; scale = unit })) ≡ answered (Ok (record { verdict = verdict; scale = scale }))
+that_verdict found verdict unit scale result is same e = let it : found ≡ verdict = cc in λ i. Ok (record { verdict = it i; scale = same i })
+
+pub never_both_ways : {A : Type 0} (found : Verdict) (fault : CheckFault) (result : Result Verdict CheckFault) → result ≡ Ok found → result ≡ Err fault → A
+never_both_ways found fault result is e = absurd cc
+
+pub that_fault : (fault other : CheckFault) (result : Result Verdict CheckFault) → result ≡ Err fault → result ≡ Err other → answered (Err fault) ≡ answered (Err other)
+that_fault fault other result is e = let it : fault ≡ other = cc in ap (λ f. answered (Err f)) it
+
+pub verdict_answers : (p : Pieces) (result : Result Verdict CheckFault) (verdict : Verdict) (unit : Scale) → result ≡ Ok verdict → unit ≡ p.scale → IsVerdictOn p.instance p.text result → IsAnswerTo p (Ok (record { verdict = verdict; scale = unit }))
+verdict_answers p result verdict unit is same answer = (subst (λ r. IsVerdictOn p.instance p.text r) is answer, same)
+
+pub fault_answers : (p : Pieces) (result : Result Verdict CheckFault) (fault : CheckFault) → result ≡ Err fault → IsVerdictOn p.instance p.text result → IsAnswerTo p (Err fault)
+fault_answers p result fault is answer = same_fault p fault (subst (λ r. IsVerdictOn p.instance p.text r) is answer)
+  where
+    same_fault : (p : Pieces) (fault : CheckFault) → IsVerdictOn p.instance p.text (Err fault) → IsAnswerTo p (Err fault)
+    same_fault p (Log f) wrong = wrong
+    same_fault p (Stp f) wrong = wrong
+    same_fault p NoMemory wrong = wrong
+
+-- ---- the file, and what was made of it
+
+abbrev pub pieces : Network → Scale → List ℕ → Pieces
+pieces I scale text = record { instance = I; scale = scale; text = text }
+
+pub made_of : (I J : Network) (scale unit : Scale) (text : List ℕ) → J ≡ I → unit ≡ scale → text ≡ [] → pieces J unit text ≡ pieces I scale []
+made_of I J scale unit text same of_it none = λ i. pieces (same i) (of_it i) (none i)
+
+-- what is concluded of the instance of a checker is concluded of the file's
+pub concludes_fed : (I : Network) (scale : Scale) (first fed : Pieces) (result : Result Checked CheckFault) → first ≡ pieces I scale [] → fed.instance ≡ first.instance
+    → IfOk result (λ checked. Concludes fed.instance checked.verdict) → IfOk result (λ checked. Concludes I checked.verdict)
+concludes_fed I scale first fed result is same concludes =
+    subst (λ (K : Network). IfOk result (λ checked. Concludes K checked.verdict)) (same ∙ ap (λ (p : Pieces). p.instance) is) concludes

@@ -1,5 +1,5 @@
 -- A proof whose lines so far are right goes on by a line, ends with it, or is wrong at it.
-use Rattle.std.proofs.Common.{◌≡◌, ℕ, ◌+◌, List, [], ◌∷◌, ◌++◌, Option, Some, None, inl, inr, length, refl, sym, ap, subst, ◌∙◌, append_assoc, arith}
+use Rattle.std.proofs.Common.{◌≡◌, ℕ, ◌+◌, List, [], ◌∷◌, ◌++◌, Some, None, inl, inr, length, sym, ap, subst, ◌∙◌, append_assoc, arith}
 use Rattle.std.proofs.lemmas.List.{length-map}
 use Rattle.st_model.specs.declared.branch.Branch.{Branch}
 use Rattle.st_model.specs.Network.{Network}
@@ -12,7 +12,7 @@ use Rattle.log_format.specs.Text.{lines_of, cut_line}
 use Rattle.log_format.proofs.Rejecting.{IsRight}
 use Rattle.cert_checker.specs.declared.turn.Turn.{Turn}
 use Rattle.cert_checker.specs.declared.turn.Turn.TheVariants.{Inside}
-use Rattle.cert_checker.specs.Path.{branch_of, waiting, open_branches, next_path, path_after, AreSplits}
+use Rattle.cert_checker.specs.Path.{branch_of, waiting, next_path, path_after, AreSplits}
 use Rattle.cert_checker.specs.Judging.{IsRightLine, IsWrongLine}
 use Rattle.cert_checker.specs.Following.{AreRight, GoesOn}
 use Rattle.cert_checker.proofs.Judged.{splits-next_path, waiting_is}

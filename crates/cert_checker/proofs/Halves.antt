@@ -1,22 +1,18 @@
 -- What is judged by an item of a proof, at its place.
-use Rattle.std.proofs.Common.{◌≡◌, ℕ, zero, suc, ◌+◌, ◌-◌, ◌<◌, ◌≤◌, ◌^◌, List, [], ◌∷◌, ◌++◌, Option, Some, None, length, inl, inr, Ok, Err, Result, refl, sym, ap, subst, ◌∙◌, append_assoc, length-append, arith}
-use Rattle.std.specs.Prelude.{IfErr}
+use Rattle.std.proofs.Common.{◌≡◌, ℕ, zero, suc, ◌+◌, ◌-◌, ◌<◌, ◌≤◌, ◌^◌, List, [], ◌∷◌, ◌++◌, Option, Some, length, inl, inr, Err, Result, refl, sym, ap, subst, ◌∙◌, append_assoc, length-append, arith}
 use Rattle.std.proofs.lemmas.List.{append-nil, length-map}
 use Rattle.st_model.specs.declared.branch.Branch.{Branch}
 use Rattle.st_model.specs.Network.{Network}
 use Rattle.cut_packing.specs.declared.cut.Cut.{Cut}
-use Rattle.lift_back.specs.State.{State, whole}
 use Rattle.log_format.specs.declared.fault.LogFault.{LogFault}
 use Rattle.log_format.specs.declared.item.Item.TheVariants.{Split as SplitAt, CloseHead, OneCut}
-use Rattle.log_format.specs.declared.kind.Kind.{Kind}
 use Rattle.log_format.specs.declared.log.Claim.{Claim}
 use Rattle.log_format.specs.declared.log.Claim.TheVariants.{Found}
 use Rattle.log_format.specs.declared.proof_line.ProofLine.{ProofLine}
 use Rattle.log_format.specs.declared.proof_line.ProofLine.TheVariants.{Split, Close}
-use Rattle.log_format.specs.declared.stage.Answer.{Answer}
 use Rattle.log_format.specs.declared.stage.Proving as said_proving
 use Rattle.log_format.specs.declared.stage.Stage.TheVariants.{AtHalf, AtCuts}
-use Rattle.log_format.specs.Accepts.{AcceptsClaim, RejectsClaim, IsFirstWrong, IsFirstWrongIn, ProvesFrom, ProvesOf, left_of, left_over, steps_line, proof_line}
+use Rattle.log_format.specs.Accepts.{AcceptsClaim, RejectsClaim, IsFirstWrong, IsFirstWrongIn, ProvesFrom, ProvesOf, left_over, proof_line}
 use Rattle.log_format.specs.Places.{taken}
 use Rattle.log_format.specs.Reading.{closed, cuts_left, split_at}
 use Rattle.log_format.specs.Text.{lines_of, cut_line}
@@ -28,10 +24,9 @@ use Rattle.cert_checker.specs.declared.stage.Stage.TheVariants.{BeforeHalf, Amon
 use Rattle.cert_checker.specs.declared.stage.Proving.{Proving}
 use Rattle.cert_checker.specs.declared.turn.Turn.{Turn}
 use Rattle.cert_checker.specs.declared.turn.Turn.TheVariants.{Inside}
-use Rattle.cert_checker.specs.declared.verdict.Verdict.{Verdict}
 use Rattle.cert_checker.specs.Judging.{IsWrongLine}
-use Rattle.cert_checker.specs.Path.{branch_of, waiting, open_branches, path_after}
-use Rattle.cert_checker.specs.Following.{Said, MayBe, AreRight, GoesOn, IsProving, IsRight, IsJudged, IsNext, IsProved, IsAfterLine, IsAfterCuts}
+use Rattle.cert_checker.specs.Path.{branch_of, waiting}
+use Rattle.cert_checker.specs.Following.{Said, AreRight, GoesOn, IsProving, IsJudged, IsNext, IsAfterLine, IsAfterCuts}
 use Rattle.cert_checker.specs.Verdict.{verdict_of}
 use Rattle.cert_checker.proofs.GoingOn.{are_right, goes_on, ends, goes_wrong, none_waits_after}
 use Rattle.cert_checker.proofs.Judged.{waiting_is}

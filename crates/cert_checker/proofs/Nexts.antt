@@ -1,7 +1,6 @@
 -- What is judged by an item at its place, before the proof.
 use Rattle.std.proofs.Common.{◌≡◌, ℕ, ◌+◌, ◌-◌, ◌<◌, ◌≤◌, ◌^◌, List, [], ◌∷◌, ◌++◌, length, inl, inr, refl, sym, ap, subst, ◌∙◌, append_assoc, length-append, arith}
 use Rattle.st_model.specs.declared.branch.Branch.{Branch}
-use Rattle.st_model.specs.declared.tree.Tree.{Tree}
 use Rattle.st_model.specs.Network.{Network}
 use Rattle.st_model.specs.Wall.{IsWall}
 use Rattle.lift_back.specs.declared.step.Step.{Step}
@@ -14,7 +13,7 @@ use Rattle.log_format.specs.declared.log.Claim.{Claim}
 use Rattle.log_format.specs.declared.log.Claim.TheVariants.{Found, NoTree}
 use Rattle.log_format.specs.declared.proof_line.ProofLine.{ProofLine}
 use Rattle.log_format.specs.declared.stage.Answer.{Answer}
-use Rattle.log_format.specs.declared.stage.Stage.TheVariants.{AtHeader, AtClaim, AtTree, AtArcs, AtSteps, AtHalf, AtWall}
+use Rattle.log_format.specs.declared.stage.Stage.TheVariants.{AtHeader, AtClaim, AtTree, AtArcs, AtSteps, AtWall}
 use Rattle.log_format.specs.Accepts.{RejectsClaim, IsFirstBad, IsFirstWrongIn, left_of, left_over, steps_line, proof_line}
 use Rattle.log_format.specs.Places.{taken}
 use Rattle.log_format.proofs.Alike.{takes_may}
@@ -23,10 +22,10 @@ use Rattle.cert_checker.specs.declared.stage.Stage.TheVariants.{BeforeHeader, Be
 use Rattle.cert_checker.specs.declared.stage.Stepping.{Stepping}
 use Rattle.cert_checker.specs.declared.stage.Proving.{Proving}
 use Rattle.cert_checker.specs.declared.verdict.Verdict.TheVariants as verdict
-use Rattle.cert_checker.specs.Judging.{IsRightTree, IsWrongTree, IsBadStep}
+use Rattle.cert_checker.specs.Judging.{IsWrongTree, IsBadStep}
 use Rattle.cert_checker.specs.declared.turn.Turn.{Turn}
 use Rattle.cert_checker.specs.Path.{branch_of, leaving_out, waiting, AreSplits}
-use Rattle.cert_checker.specs.Following.{Said, MayBe, GoesOn, IsStepping, IsProving, IsRight, IsJudged, IsAfterTree, IsAfterStep, IsTaken, IsBegun}
+use Rattle.cert_checker.specs.Following.{Said, GoesOn, IsStepping, IsJudged, IsAfterTree, IsAfterStep, IsBegun}
 use Rattle.cert_checker.proofs.GoingOn.{begins}
 use Rattle.cert_checker.proofs.Keeping.{right_at}
 use Rattle.cert_checker.proofs.LeftOut.{none_waits, left_out_splits, leads_to_left_over}

@@ -1,5 +1,5 @@
 -- What items say, one after the other, and what the items of a log say.
-use Rattle.std.proofs.Common.{◌≡◌, ℕ, zero, suc, ◌+◌, ◌-◌, List, [], ◌∷◌, ◌++◌, length, map, refl, sym, ap, ◌∙◌, append_assoc, arith}
+use Rattle.std.proofs.Common.{◌≡◌, ℕ, suc, ◌+◌, ◌-◌, List, [], ◌∷◌, ◌++◌, length, map, refl, sym, ap, ◌∙◌, append_assoc, arith}
 use Rattle.std.specs.List.{flat_map}
 use Rattle.std.proofs.lemmas.Grind.{flat_map-append}
 use Rattle.std.proofs.lemmas.List.{append-nil}
@@ -7,15 +7,15 @@ use Rattle.cut_packing.specs.declared.cut.Cut.{Cut}
 use Rattle.cut_packing.specs.ProofTree.{ProofTree, close, split}
 use Rattle.lift_back.specs.declared.step.Step.{Step}
 use Rattle.log_format.specs.declared.item.Item.{Item}
-use Rattle.log_format.specs.declared.item.Item.TheVariants.{ClaimTree, Arc, StepsHead, OneStep, ProofHead, OneCut, Last}
+use Rattle.log_format.specs.declared.item.Item.TheVariants.{Arc, StepsHead, OneStep, ProofHead, OneCut, Last}
 use Rattle.log_format.specs.declared.log.Claim.{Claim}
 use Rattle.log_format.specs.declared.log.Claim.TheVariants.{Found, NoTree}
 use Rattle.log_format.specs.declared.log.Log.{Log}
 use Rattle.log_format.specs.declared.proof_line.ProofLine.{ProofLine}
-use Rattle.log_format.specs.declared.proof_line.ProofLine.TheVariants.{Split, Close}
+use Rattle.log_format.specs.declared.proof_line.ProofLine.TheVariants.{Split}
 use Rattle.log_format.specs.declared.stage.Answer.{Answer}
 use Rattle.log_format.specs.declared.stage.Proving.{Proving}
-use Rattle.log_format.specs.declared.stage.Stage.TheVariants.{AtHeader, AtClaim, AtArcs, AtSteps, AtHalf, AtCuts, AtEnd, AtNothing}
+use Rattle.log_format.specs.declared.stage.Stage.TheVariants.{AtHeader, AtClaim, AtArcs, AtSteps, AtHalf, AtEnd, AtNothing}
 use Rattle.log_format.specs.Items.{proof_items, claim_items, log_items}
 use Rattle.log_format.specs.Places.{taken}
 use Rattle.log_format.specs.Preorder.{preorder}

@@ -6,10 +6,10 @@ use Rattle.log_format.specs.declared.log.Log as log_type
 use Rattle.log_format.specs.Accepts.{Rejects}
 use Rattle.log_format.specs.Laws.{OneSpelling, RefusedExactly, RejectedExactly}
 use Rattle.cert_checker.specs.declared.fault.CheckFault.{CheckFault}
-use Rattle.cert_checker.specs.declared.fault.CheckFault.TheVariants.{Stp, Log, NoMemory}
+use Rattle.cert_checker.specs.declared.fault.CheckFault.TheVariants.{Log}
 use Rattle.cert_checker.specs.declared.verdict.Verdict.{Verdict}
 use Rattle.cert_checker.specs.Checking.{IsTextOf, IsAcceptedText, IsWrongText}
-use Rattle.cert_checker.specs.Pieces.{IsAnswerTo}
+use Rattle.cert_checker.specs.Pieces.{IsVerdictOn}
 use Rattle.cert_checker.specs.Verdict.{verdict_of}
 
 module _ (bytes : List ℕ) (spelling : OneSpelling) (of_text : RefusedExactly bytes) (of_log : (I : Network) (log : log_type.Log) → RejectedExactly I log) where
@@ -37,13 +37,13 @@ module _ (bytes : List ℕ) (spelling : OneSpelling) (of_text : RefusedExactly b
       (of_log I log).one_fault l l' k k' rejects (subst (λ (x : log_type.Log). Rejects I x l' k') (same_log other log text' text) rejects')
 
   -- an accepted log is answered with its verdict
-  pub accepted_to : (I : Network) (result : Result Verdict CheckFault) → IsAnswerTo I bytes result → (verdict : Verdict) → IsAcceptedText I bytes verdict → result ≡ Ok verdict
+  pub accepted_to : (I : Network) (result : Result Verdict CheckFault) → IsVerdictOn I bytes result → (verdict : Verdict) → IsAcceptedText I bytes verdict → result ≡ Ok verdict
   accepted_to I (Ok other) answer verdict accepted = ap Ok (one_verdict I other verdict answer accepted)
   accepted_to I (Err (Log f)) answer verdict accepted = absurd (not_wrong I verdict f.line f.kind accepted answer)
   accepted_to I (Err e) answer verdict accepted = absurd answer
 
   -- a log that is wrong is answered with its fault
-  pub wrong_to : (I : Network) (result : Result Verdict CheckFault) → IsAnswerTo I bytes result → (line : ℕ) (kind : Kind) → IsWrongText I bytes line kind
+  pub wrong_to : (I : Network) (result : Result Verdict CheckFault) → IsVerdictOn I bytes result → (line : ℕ) (kind : Kind) → IsWrongText I bytes line kind
       → result ≡ Err (Log (record { line = line; kind = kind }))
   wrong_to I (Ok verdict) answer line kind wrong = absurd (not_wrong I verdict line kind answer wrong)
   wrong_to I (Err (Log f)) answer line kind wrong =

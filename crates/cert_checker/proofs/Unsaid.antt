@@ -1,5 +1,5 @@
 -- An item that says nothing at its place leaves what is judged as it is.
-use Rattle.std.proofs.Common.{◌≡◌, ℕ, ◌+◌, List, Option, inl, inr, refl}
+use Rattle.std.proofs.Common.{◌≡◌, ℕ, ◌+◌, List, Option, inl, inr}
 use Rattle.st_model.specs.Network.{Network}
 use Rattle.cut_packing.specs.declared.cut.Cut.{Cut}
 use Rattle.lift_back.specs.declared.step.Step.{Step}
@@ -10,7 +10,7 @@ use Rattle.cert_checker.specs.declared.stage.Stage.{Stage}
 use Rattle.cert_checker.specs.declared.stage.Stage.TheVariants.{BeforeHeader, BeforeClaim, BeforeTree, AmongArcs, AmongSteps, BeforeHalf, AmongCuts, BeforeWall}
 use Rattle.cert_checker.specs.declared.stage.Stepping.{Stepping}
 use Rattle.cert_checker.specs.declared.stage.Proving.{Proving}
-use Rattle.cert_checker.specs.Following.{Said, IsRight, IsJudged}
+use Rattle.cert_checker.specs.Following.{Said, IsJudged}
 use Rattle.cert_checker.proofs.Keeping.{wrong_later, right_later}
 
 module _ (I : Network) (count : ℕ) (stage : Stage) where

@@ -1,5 +1,6 @@
 -- What checking a log on a file answers.
 use Rattle.std.specs.Prelude.{◌≡◌, ℕ, ◌⊎◌, List, Result, Ok, Err}
+use Rattle.amounts.specs.declared.scale.Scale.{Scale}
 use Rattle.st_model.specs.Network.{Network}
 use Rattle.stp_reader.specs.Reads.{Reads, Refused}
 use Rattle.log_format.specs.declared.kind.Kind.{Kind}
@@ -10,6 +11,7 @@ use Rattle.log_format.specs.Text.{IsLog, log_text}
 use Rattle.cert_checker.specs.declared.fault.CheckFault.{CheckFault}
 use Rattle.cert_checker.specs.declared.fault.CheckFault.TheVariants.{Stp, Log, NoMemory}
 use Rattle.cert_checker.specs.declared.verdict.Verdict.{Verdict}
+use Rattle.cert_checker.specs.declared.verdict.Checked.{Checked}
 use Rattle.cert_checker.specs.Verdict.{verdict_of}
 
 -- the bytes are the text of this log
@@ -25,13 +27,13 @@ IsAcceptedText I bytes verdict = (log : log_type.Log) × IsTextOf bytes log × A
 abbrev pub IsWrongText : Network → List ℕ → ℕ → Kind → Type 0
 IsWrongText I bytes line kind = LogRefused bytes line kind ⊎ ((log : log_type.Log) × IsTextOf bytes log × Rejects I log line kind)
 
--- why this is answered: the file is read and the log is the text of one that is accepted; or the first fault of file, text and judgement
-abbrev pub IsAnswer : List ℕ → List ℕ → Result Verdict CheckFault → Type 0
-IsAnswer stp bytes (Ok verdict) = (I : Network) × Reads stp I × IsAcceptedText I bytes verdict
+-- why this is answered: the file is read at this scale and the log is the text of one that is accepted; or the first fault of file, text and judgement
+abbrev pub IsAnswer : List ℕ → List ℕ → Result Checked CheckFault → Type 0
+IsAnswer stp bytes (Ok checked) = (I : Network) × Reads stp I checked.scale × IsAcceptedText I bytes checked.verdict
 IsAnswer stp bytes (Err (Stp f)) = Refused stp f.line f.reason
-IsAnswer stp bytes (Err (Log f)) = (I : Network) × Reads stp I × IsWrongText I bytes f.line f.kind
+IsAnswer stp bytes (Err (Log f)) = (I : Network) × (scale : Scale) × Reads stp I scale × IsWrongText I bytes f.line f.kind
 IsAnswer stp bytes (Err NoMemory) = Unit {0}
 
 -- this is answered, unless memory ran out
-abbrev pub Answers : Result Verdict CheckFault → Result Verdict CheckFault → Type 0
+abbrev pub Answers : Result Checked CheckFault → Result Checked CheckFault → Type 0
 Answers result wanted = (result ≡ wanted) ⊎ (result ≡ Err NoMemory)

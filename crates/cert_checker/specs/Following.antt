@@ -13,7 +13,7 @@ use Rattle.log_format.specs.declared.fault.LogFault.{LogFault}
 use Rattle.log_format.specs.declared.item.Item.{Item}
 use Rattle.log_format.specs.declared.kind.Kind.{Kind}
 use Rattle.log_format.specs.declared.log.Claim.{Claim}
-use Rattle.log_format.specs.declared.log.Claim.TheVariants.{Found, NoTree}
+use Rattle.log_format.specs.declared.log.Claim.TheVariants.{Found}
 use Rattle.log_format.specs.declared.proof_line.ProofLine.{ProofLine}
 use Rattle.log_format.specs.declared.proof_line.ProofLine.TheVariants.{Split, Close}
 use Rattle.log_format.specs.declared.stage.Answer.{Answer}

@@ -9,12 +9,14 @@ ghost use Rattle.cert_checker.specs.declared.verdict.Verdict.{Verdict as Conclus
 ghost use Rattle.cert_checker.specs.Checking.{IsAcceptedText, IsWrongText};
 ghost use Rattle.cert_checker.specs.Fault.{IsFaultOfFile};
 ghost use Rattle.cert_checker.specs.Held.{IsHeld};
-ghost use Rattle.cert_checker.specs.Pieces.{IsAnswerTo};
+ghost use Rattle.cert_checker.specs.Pieces.{IsAnswerTo, IsVerdictOn};
+ghost use Rattle.amounts.specs.declared.scale.Scale.{Scale as FileScale};
 ghost use Rattle.cert_checker.specs.Verdict.{Concludes};
 
 use crate::fed::Fed;
 use crate::hearing::{Heard, Hearing};
-use crate::{CheckFault, Verdict};
+use crate::{CheckFault, Checked, Verdict};
+use amounts::Scale;
 use log_format::{Kind, LogFault, accepted_holds, one_spelling, refused_exactly, rejected_exactly};
 use plain_text::cut_at;
 use std::alloc::{AllocError, Global};
@@ -25,6 +27,7 @@ use stp_reader::read_stp;
 #[derive(Drop)]
 pub struct Checker {
     hearing: Hearing,
+    scale: Scale,
     // Whether a line came that may not stand at its place. Nothing after it is looked at.
     is_bad: bool,
     // What came of the line that isn't whole yet.
@@ -36,10 +39,10 @@ impl Model for Checker {
     ghost use Rattle.cert_checker.specs.Pieces.{Pieces};
     ghost use Rattle.cert_checker.specs.Hearing.{IsFed};
 
-    // The instance, and the pieces that came, one after the other.
+    // The instance and its scale, and the pieces that came, one after the other.
     ghost Value = { Pieces };
 
-    ghost view = { λ c. record { instance = c.hearing.instance; text = c.fed.bytes } };
+    ghost view = { λ c. record { instance = c.hearing.instance; scale = c.scale; text = c.fed.bytes } };
 
     ghost invariant = { λ c. IsFed c.hearing.lines c.is_bad c.part.items c.fed.bytes };
 }
@@ -47,20 +50,22 @@ impl Model for Checker {
 impl Checker {
     /// A checker of logs on the instance of an STP file, to which nothing was fed.
     pub fn begin(alloc: Global, stp: &[u8]) -> Result<Checker, CheckFault>
-        // It is of the instance that the file stands for.
-        ensures found { IfOk result (λ c. Reads stp.now c.instance × (c.text ≡ [])) }
+        // It is of the instance that the file stands for, and its scale.
+        ensures found { IfOk result (λ c. Reads stp.now c.instance c.scale × (c.text ≡ [])) }
         // The instance that the file stands for is that of the checker, unless memory runs out.
-        ensures only { (I : Network) → Reads stp.now I → MatchResult result
-            (λ c. c ≡ record { instance = I; text = [] }) (λ e. e ≡ NoMemory) }
+        ensures only { (I : Network) (scale : FileScale) → Reads stp.now I scale → MatchResult result
+            (λ c. c ≡ record { instance = I; scale = scale; text = [] }) (λ e. e ≡ NoMemory) }
         // A fault is the first of the file.
         ensures fault { IfErr result (IsFaultOfFile stp.now) }
         // A file that is refused is answered so, unless memory runs out.
         ensures refused { (line : ℕ) (reason : Reason) → Refused stp.now line reason → IsErrAnd result
             (λ e. (e ≡ Stp (record { line = line; reason = reason })) ⊎ (e ≡ NoMemory)) }
     {
-        let instance = read_stp(alloc, stp)?;
+        let reading = read_stp(alloc, stp)?;
+        let scale = reading.scale;
         Ok(Checker {
-            hearing: Hearing::new(alloc, instance),
+            hearing: Hearing::new(alloc, reading.instance),
+            scale,
             is_bad: false,
             part: Vec::new(alloc),
             fed: Fed::new(),
@@ -74,6 +79,7 @@ impl Checker {
     pub fn feed(self, piece: &[u8]) -> Result<Checker, AllocError>
         requires few { length self.text + length piece.now < 2 ^ 63 }
         ensures instance { IfOk result (λ c. c.instance ≡ self.instance) }
+        ensures scale { IfOk result (λ c. c.scale ≡ self.scale) }
         ensures text { IfOk result (λ c. c.text ≡ self.text ++ piece.now) }
     {
         let mut checker = self;
@@ -90,14 +96,17 @@ impl Checker {
         requires few { length self.text + length line.now + 1 < 2 ^ 63 }
         requires one { cut 10 line.now ≡ None }
         ensures instance { IfOk result (λ c. c.instance ≡ self.instance) }
+        ensures scale { IfOk result (λ c. c.scale ≡ self.scale) }
         ensures text { IfOk result (λ c. c.text ≡ self.text ++ (line.now ++ 10 ∷ [])) }
     {
+        let scale = self.scale;
         let mut fed = self.fed;
         fed.note(line);
         fed.note(b"\n");
         if self.is_bad {
             return Ok(Checker {
                 hearing: self.hearing,
+                scale: self.scale,
                 is_bad: true,
                 part: self.part,
                 fed,
@@ -110,12 +119,14 @@ impl Checker {
         match heard {
             Heard::Taken(hearing) => Ok(Checker {
                 hearing,
+                scale,
                 is_bad: false,
                 part,
                 fed,
             }),
             Heard::Bad(hearing) => Ok(Checker {
                 hearing,
+                scale,
                 is_bad: true,
                 part,
                 fed,
@@ -128,6 +139,7 @@ impl Checker {
         requires few { length self.text + length bytes.now < 2 ^ 63 }
         requires none { cut 10 bytes.now ≡ None }
         ensures instance { IfOk result (λ c. c.instance ≡ self.instance) }
+        ensures scale { IfOk result (λ c. c.scale ≡ self.scale) }
         ensures text { IfOk result (λ c. c.text ≡ self.text ++ bytes.now) }
     {
         let mut fed = self.fed;
@@ -135,6 +147,7 @@ impl Checker {
         if self.is_bad {
             return Ok(Checker {
                 hearing: self.hearing,
+                scale: self.scale,
                 is_bad: true,
                 part: self.part,
                 fed,
@@ -144,6 +157,7 @@ impl Checker {
         part.extend_from_slice(bytes)?;
         Ok(Checker {
             hearing: self.hearing,
+            scale: self.scale,
             is_bad: false,
             part,
             fed,
@@ -153,24 +167,47 @@ impl Checker {
     /// What may be concluded of the instance from the log whose text is all that was fed: what `check`
     /// answers to it, however it was cut into pieces. The faults of the text come first, wherever they
     /// stand, and then those of what it says. It takes no memory.
-    pub fn finish(self) -> Result<Verdict, CheckFault>
+    pub fn finish(self) -> Result<Checked, CheckFault>
         // The verdict is true of the trees of the instance, and of their costs.
-        ensures concludes { IfOk result (Concludes self.instance) }
+        ensures concludes { IfOk result (λ checked. Concludes self.instance checked.verdict) }
         // Each answer has its reason.
-        ensures exact { IsAnswerTo self.instance self.text result }
+        ensures exact { IsAnswerTo self result }
         // Each reason has its answer.
         ensures accepted { (verdict : Conclusion) → IsAcceptedText self.instance self.text verdict
-            → result ≡ Ok verdict }
+            → result ≡ Ok (record { verdict = verdict; scale = self.scale }) }
         ensures log { (line : ℕ) (kind : LogKind) → IsWrongText self.instance self.text line kind
             → result ≡ Err (Log (record { line = line; kind = kind })) }
     {
-        self.reasoned_answer()
+        self.checked()
+    }
+
+    // The verdict and its unit, or the first fault, and that each reason has its answer.
+    fn checked(&self) -> Result<Checked, CheckFault>
+        ensures concludes { IfOk result (λ checked. Concludes self.now.instance checked.verdict) }
+        ensures exact { IsAnswerTo self.now result }
+        ensures accepted { (verdict : Conclusion) → IsAcceptedText self.now.instance self.now.text verdict
+            → result ≡ Ok (record { verdict = verdict; scale = self.now.scale }) }
+        ensures log { (line : ℕ) (kind : LogKind) → IsWrongText self.now.instance self.now.text line kind
+            → result ≡ Err (Log (record { line = line; kind = kind })) }
+    {
+        let scale = self.unit();
+        match self.reasoned_answer() {
+            Ok(verdict) => Ok(Checked { verdict, scale }),
+            Err(fault) => Err(fault),
+        }
+    }
+
+    // What the numbers of the instance count.
+    fn unit(&self) -> Scale
+        ensures { result ≡ self.now.scale }
+    {
+        self.scale
     }
 
     // The verdict, or the first fault, and that each reason has its answer.
     fn reasoned_answer(&self) -> Result<Verdict, CheckFault>
         ensures concludes { IfOk result (Concludes self.now.instance) }
-        ensures exact { IsAnswerTo self.now.instance self.now.text result }
+        ensures exact { IsVerdictOn self.now.instance self.now.text result }
         ensures accepted { (verdict : Conclusion) → IsAcceptedText self.now.instance self.now.text verdict
             → result ≡ Ok verdict }
         ensures log { (line : ℕ) (kind : LogKind) → IsWrongText self.now.instance self.now.text line kind
@@ -184,7 +221,7 @@ impl Checker {
 
     // The verdict, or the first fault.
     fn answer(&self) -> Result<Verdict, CheckFault>
-        ensures exact { IsAnswerTo self.now.instance self.now.text result }
+        ensures exact { IsVerdictOn self.now.instance self.now.text result }
         ensures concludes { IfOk result (Concludes self.now.instance) }
     {
         accepted_holds();

@@ -1,4 +1,5 @@
-ghost use Rattle.std.specs.Prelude.{ℕ, IfOk};
+ghost use Rattle.std.specs.Prelude.{◌≡◌, ℕ, IfOk};
+ghost use Rattle.amounts.specs.declared.scale.Scale.{Scale};
 ghost use Rattle.st_model.specs.Network.{Network};
 ghost use Rattle.stp_reader.specs.declared.reason.Reason.{Reason};
 ghost use Rattle.stp_reader.specs.Reads.{Reads, Refused};
@@ -8,26 +9,32 @@ ghost use Rattle.cert_checker.specs.declared.verdict.Verdict.{Verdict as Conclus
 ghost use Rattle.cert_checker.specs.Checking.{IsAcceptedText, IsWrongText, IsAnswer, Answers};
 ghost use Rattle.cert_checker.specs.Verdict.{Concludes};
 
-use crate::{CheckFault, Checker, Verdict};
+use crate::{CheckFault, Checked, Checker};
 use std::alloc::Global;
 
 /// What may be concluded of the instance of an STP file from a log. The faults of the file come
 /// first, then those of the log's text, wherever they stand, and then those of what it says.
-pub fn check(alloc: Global, stp: &[u8], log: &[u8]) -> Result<Verdict, CheckFault>
+pub fn check(alloc: Global, stp: &[u8], log: &[u8]) -> Result<Checked, CheckFault>
     // The verdict is true of the trees of the file's instance, and of their costs.
-    ensures concludes { (I : Network) → Reads stp.now I → IfOk result (Concludes I) }
+    ensures concludes { (I : Network) (scale : Scale) → Reads stp.now I scale
+        → IfOk result (λ checked. Concludes I checked.verdict) }
+    // Its numbers count what the file's do.
+    ensures unit { (I : Network) (scale : Scale) → Reads stp.now I scale
+        → IfOk result (λ checked. checked.scale ≡ scale) }
     // And there is such an instance.
-    ensures some { IfOk result (λ verdict. (I : Network) × Reads stp.now I × Concludes I verdict) }
+    ensures some { IfOk result (λ checked.
+        (I : Network) × Reads stp.now I checked.scale × Concludes I checked.verdict) }
 
     // Each answer has its reason.
     ensures exact { IsAnswer stp.now log.now result }
 
     // Each reason has its answer.
-    ensures accepted { (I : Network) (verdict : Conclusion) → Reads stp.now I
-        → IsAcceptedText I log.now verdict → Answers result (Ok verdict) }
+    ensures accepted { (I : Network) (scale : Scale) (verdict : Conclusion) → Reads stp.now I scale
+        → IsAcceptedText I log.now verdict
+        → Answers result (Ok (record { verdict = verdict; scale = scale })) }
     ensures file { (line : ℕ) (reason : Reason) → Refused stp.now line reason
         → Answers result (Err (Stp (record { line = line; reason = reason }))) }
-    ensures log { (I : Network) (line : ℕ) (kind : Kind) → Reads stp.now I
+    ensures log { (I : Network) (scale : Scale) (line : ℕ) (kind : Kind) → Reads stp.now I scale
         → IsWrongText I log.now line kind
         → Answers result (Err (Log (record { line = line; kind = kind }))) }
 {
@@ -39,12 +46,12 @@ pub fn check(alloc: Global, stp: &[u8], log: &[u8]) -> Result<Verdict, CheckFaul
 }
 
 // The verdict, or the first fault.
-fn answer(alloc: Global, stp: &[u8], log: &[u8]) -> Result<Verdict, CheckFault>
+fn answer(alloc: Global, stp: &[u8], log: &[u8]) -> Result<Checked, CheckFault>
     ensures exact { IsAnswer stp.now log.now result }
-    ensures concludes { (I : Network) → Reads stp.now I → IfOk result (Concludes I) }
+    ensures concludes { (I : Network) (scale : Scale) → Reads stp.now I scale
+        → IfOk result (λ checked. Concludes I checked.verdict) }
 {
     let checker = Checker::begin(alloc, stp)?;
     let checker = checker.feed(log)?;
-    let verdict = checker.finish()?;
-    Ok(verdict)
+    checker.finish()
 }

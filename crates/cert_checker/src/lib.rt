@@ -26,4 +26,4 @@ pub use checker::Checker;
 pub use checking::check;
 pub use fault::CheckFault;
 use fault::JudgeError;
-pub use verdict::Verdict;
+pub use verdict::{Checked, Verdict};

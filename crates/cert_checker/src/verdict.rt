@@ -5,6 +5,7 @@ ghost use Rattle.log_format.specs.declared.log.Claim.TheVariants.{Found};
 ghost use Rattle.log_format.specs.declared.proof_line.ProofLine.{ProofLine};
 ghost use Rattle.cert_checker.specs.Verdict.{verdict_of};
 
+use amounts::Scale;
 use log_format::Claim;
 
 /// What may be concluded of an instance. `Concludes` says it in the words of tree, cost and bound.
@@ -16,6 +17,13 @@ pub enum Verdict {
     Bound { dual: u64, primal: u64 },
     /// There is no tree.
     NoTree,
+}
+
+/// What may be concluded of the instance of a file, and what its numbers count.
+#[derive(Clone, Copy, Debug, PartialEq, Eq)]
+pub struct Checked {
+    pub verdict: Verdict,
+    pub scale: Scale,
 }
 
 impl Verdict {

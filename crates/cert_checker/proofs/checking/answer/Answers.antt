@@ -1,5 +1,5 @@
-use Rattle.std.proofs.Common.{List, ℕ, ◌++◌, Ok, ap, ◌∙◌}
-use Rattle.cert_checker.proofs.Answering.{fed_answers}
+use Rattle.std.proofs.Common.{List, ℕ, ◌++◌, ap, ◌∙◌}
+use Rattle.cert_checker.proofs.Answering.{fed_answers, concludes_fed}
 use Rattle.cert_checker.proofs.checking.answer.Goals as goal
 
 pub returns-clause-exact : goal.returns-clause-exact
@@ -8,4 +8,7 @@ returns-clause-exact c =
     let first = c.in_ok-checker.checker in
     let fed = c.in_ok-checker-2.checker in
     let found = c.in_ok-checker.ensures.found in
-    fed_answers c.args.stp.now log first.instance fed.instance fed.text (Ok c.in_ok-verdict.verdict) found.0 c.in_ok-checker-2.ensures.instance (c.in_ok-checker-2.ensures.text ∙ ap (λ (r : List ℕ). r ++ log) found.1) c.in_ok-verdict.ensures.exact
+    fed_answers c.args.stp.now log first fed c.finish.result found.0 c.in_ok-checker-2.ensures.instance c.in_ok-checker-2.ensures.scale (c.in_ok-checker-2.ensures.text ∙ ap (λ (r : List ℕ). r ++ log) found.1) c.finish.ensures.exact
+
+pub returns-clause-concludes : goal.returns-clause-concludes
+returns-clause-concludes c = λ I scale reads. concludes_fed I scale c.in_ok-checker.checker c.in_ok-checker-2.checker c.finish.result (c.in_ok-checker.ensures.only I scale reads) c.in_ok-checker-2.ensures.instance c.finish.ensures.concludes

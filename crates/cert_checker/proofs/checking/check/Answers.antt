@@ -1,4 +1,4 @@
-use Rattle.cert_checker.proofs.Checks.{accepted_answers, file_answers, some_concludes, wrong_answers}
+use Rattle.cert_checker.proofs.Checks.{accepted_answers, file_answers, some_concludes, unit_of_it, wrong_answers}
 use Rattle.cert_checker.proofs.checking.check.Goals as goal
 
 pub returns-clause-accepted : goal.returns-clause-accepted
@@ -12,3 +12,6 @@ returns-clause-log c = wrong_answers c.args.stp.now c.args.log.now (c.refused_ex
 
 pub returns-clause-some : goal.returns-clause-some
 returns-clause-some c = some_concludes c.args.stp.now c.args.log.now c.answer.result c.answer.ensures.exact c.answer.ensures.concludes
+
+pub returns-clause-unit : goal.returns-clause-unit
+returns-clause-unit c = unit_of_it c.args.stp.now c.args.log.now (c.refused_exactly-2.ensures c.args.stp.now) c.answer.result c.answer.ensures.exact

@@ -1,4 +1,4 @@
-use Rattle.std.proofs.Common.{◌≡◌, ℕ, ◌-◌, List, [], ◌∷◌, ◌++◌, subst}
+use Rattle.std.proofs.Common.{◌≡◌, ℕ, List, [], ◌∷◌, ◌++◌, subst}
 use Rattle.cut_packing.specs.declared.cut.Cut.{Cut}
 use Rattle.cert_checker.specs.Following.{IsAfterCuts}
 use Rattle.cert_checker.specs.Following.{IsJudged}

@@ -1,7 +1,7 @@
 use Rattle.std.proofs.Common.{◌≡◌, [], sym, ◌∙◌}
 use Rattle.std.proofs.lemmas.Bool.{eqb-true}
 use Rattle.std.proofs.lemmas.List.{nil_from_length}
-use Rattle.cert_checker.specs.Pieces.{IsAnswerTo}
+use Rattle.cert_checker.specs.Pieces.{IsVerdictOn}
 use Rattle.cert_checker.proofs.Answering.{judged_answers, answer_concludes}
 use Rattle.cert_checker.proofs.Pieces.{fed_few, fed_taken}
 use Rattle.cert_checker.proofs.checker.Checker.answer.Goals.{After-judgement}
@@ -17,7 +17,7 @@ pub next_line-requires-then-not-is_empty : goal.next_line-requires-then-not-is_e
 next_line-requires-then-not-is_empty c = let v = c.self.inside in fed_few v.hearing.lines v.is_bad v.part.items v.fed.bytes c.self.invariant
 
 -- what is judged is the answer
-judged : (c : After-judgement) → IsAnswerTo c.self.inside.hearing.instance c.self.inside.fed.bytes c.judgement.result
+judged : (c : After-judgement) → IsVerdictOn c.self.inside.hearing.instance c.self.inside.fed.bytes c.judgement.result
 judged c =
     let v = c.self.inside in
     let none : v.part.items ≡ [] = sym c.as_slice.ensures.value ∙ nil_from_length c.as_slice.result.now (eqb-true _ _ (sym c.is_empty.ensures ∙ c.if-not-is_empty.false)) in

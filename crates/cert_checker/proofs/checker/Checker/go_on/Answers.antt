@@ -1,4 +1,4 @@
-use Rattle.std.proofs.Common.{◌≡◌, ℕ, ◌+◌, ◌<◌, ◌^◌, List, ◌++◌, length, sym, ap, subst, arith}
+use Rattle.std.proofs.Common.{ℕ, ◌+◌, ◌<◌, ◌^◌, List, ◌++◌, length, sym, ap, subst, arith}
 use Rattle.cert_checker.specs.Hearing.{AreTaken, AreStopped}
 use Rattle.cert_checker.specs.Pieces.{Pieces}
 use Rattle.cert_checker.proofs.Pieces.{fed_taken, fed_stopped, stopped_more, taken_more}

@@ -1,4 +1,4 @@
-use Rattle.std.proofs.Common.{◌≡◌, ℕ, ◌+◌, ◌<◌, ◌^◌, List, length, sym, ap, subst, arith}
+use Rattle.std.proofs.Common.{ℕ, ◌+◌, ◌<◌, ◌^◌, List, length, sym, ap, subst, arith}
 use Rattle.cert_checker.specs.Hearing.{IsHearing}
 use Rattle.cert_checker.specs.Lines.{Lines}
 use Rattle.cert_checker.proofs.Hears.{hears_more}
