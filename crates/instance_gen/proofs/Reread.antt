@@ -88,12 +88,12 @@ written_are_read I scale i fits =
     let lines : word_lines (stp_text I scale) ≡ stp_lines I scale = words_of_text (stp_lines I scale) goes.spelled in
     let read : IsRead (stp_lines I scale) (file_of I scale) = record { right = goes.right; file = ap file_at goes.leads } in
     let unit = unit_told I scale i fits in
-    (file_of I scale, subst (λ ls. IsRead ls (file_of I scale)) (sym lines) read, same_again I scale i ∙ sym (ap (network_at I scale) unit), sym unit)
+    (file_of I scale, subst (λ ls. IsRead ls (file_of I scale)) (sym lines) read, same_again ∙ sym (ap network_at unit), sym unit)
   where
-    -- the instance of the file, in the unit of this scale
-    network_at : Network → Scale → Scale → Network
-    network_at I scale unit = network_of I.n (map (link_in unit) (said_links scale I.links)) (map (stated_in unit) (said_needs scale (written_needs I)))
+    -- the instance of the file, if this is its unit
+    network_at : Scale → Network
+    network_at unit = network_of I.n (map (link_in unit) (said_links scale I.links)) (map (stated_in unit) (said_needs scale (written_needs I)))
 
-    same_again : (I : Network) (scale : Scale) → IsInstance I → I ≡ network_at I scale scale
-    same_again I scale i = same_network I i ∙ ap (λ ls. network_of I.n ls (written_needs I)) (sym (links_again scale I.links))
+    same_again : I ≡ network_at scale
+    same_again = same_network I i ∙ ap (λ ls. network_of I.n ls (written_needs I)) (sym (links_again scale I.links))
         ∙ ap (network_of I.n (map (link_in scale) (said_links scale I.links))) (sym (needs_again scale (written_needs I)))
