@@ -1,3 +1,4 @@
+use amounts::Scale;
 use dimacs_writer::solution_text;
 use st_model::{Listed, Tree};
 use std::alloc::{AllocError, Global};
@@ -42,7 +43,7 @@ EOF
 
 // Whether a tree is written as the star.
 fn is_star(alloc: Global, tree: &Tree) -> Result<bool, AllocError> {
-    let text = solution_text(alloc, "row1.stp", 1, tree, 6, 6)?;
+    let text = solution_text(alloc, "row1.stp", 1, tree, 6, 6, Scale::Whole)?;
     Ok(text.as_slice() == STAR.as_bytes())
 }
 
@@ -80,12 +81,73 @@ EOF
 
 // Whether a tree is written as the lone vertex.
 fn is_lone(alloc: Global, tree: &Tree) -> Result<bool, AllocError> {
-    let text = solution_text(alloc, "a\"b\tö ~", 12, tree, 0, u64::MAX)?;
+    let text = solution_text(alloc, "a\"b\tö ~", 12, tree, 0, u64::MAX, Scale::Whole)?;
     Ok(text.as_slice() == LONE.as_bytes())
 }
 
 #[test]
 fn writes_a_lone_vertex(rt: HostRuntime) -> Result<(), Fail> {
     assert!(rt; is_lone(rt.alloc(), &tree_of(rt.alloc(), 1_000_000, &[])?)?);
+    Ok(())
+}
+
+// The text of a lone vertex, with its remark, its dual and its primal as these words.
+fn priced(alloc: Global, remark: &str, dual: &str, primal: &str) -> Result<String, AllocError> {
+    format!(in alloc;
+        "33D32945 STP File, STP Format Version 1.0
+SECTION Comment
+Name \"priced.stp\"
+Program \"steiner\"
+Remark \"{remark}\"
+END
+SECTION Solutions
+Solution 0 {primal}
+END
+SECTION Run
+Threads 2
+Time 0
+Dual {dual}
+Primal {primal}
+END
+SECTION Finalsolution
+Vertices 1
+V 7
+Edges 0
+END
+EOF
+"
+    )
+}
+
+// A dual and a primal in millionths, the remark, and how both are written.
+const PRICES: &[(u64, u64, &str, &str, &str)] = &[
+    (5_400_000, 5_500_000, "budget", "5.4", "5.5"),
+    (5_500_000, 5_500_000, "optimal", "5.5", "5.5"),
+    (5_000_000, 5_000_000, "optimal", "5", "5"),
+    (0, 1, "budget", "0", "0.000001"),
+];
+
+// Whether the lone vertex at these costs is written so.
+fn is_priced(alloc: Global, dual: u64, primal: u64, wanted: &str) -> Result<bool, AllocError> {
+    let tree = tree_of(alloc, 7, &[])?;
+    let text = solution_text(
+        alloc,
+        "priced.stp",
+        2,
+        &tree,
+        dual,
+        primal,
+        Scale::Millionths,
+    )?;
+    Ok(text.as_slice() == wanted.as_bytes())
+}
+
+#[test]
+fn writes_millionths_as_decimals(rt: HostRuntime) -> Result<(), Fail> {
+    for row in PRICES {
+        let (dual, primal, remark, dual_text, primal_text) = *row;
+        let wanted = priced(rt.alloc(), remark, dual_text, primal_text)?;
+        assert!(rt; is_priced(rt.alloc(), dual, primal, &wanted)?);
+    }
     Ok(())
 }

@@ -1,6 +1,8 @@
-//! The tests of `plain_text`, `stp_reader`, `command_line` and `dimacs_writer`.
+//! The tests of `plain_text`, `amounts`, `stp_reader`, `command_line` and `dimacs_writer`.
 #![tactic(auto)]
 
+#[cfg(test)]
+mod amounts_tests;
 #[cfg(test)]
 mod command_line_tests;
 #[cfg(test)]

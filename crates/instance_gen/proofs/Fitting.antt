@@ -82,5 +82,6 @@ generated_fit seed n m t prizes r =
     record {
       few_links = omega (arith, long, merged_long, fewer, some, enough, few);
       low_costs = All-map (λ l. l.cost ≤ 10 ^ 12) made (pairs links) (λ k d within. let low = least_within links (get_or (pairs links) k d).0 (get_or (pairs links) k d).1 in omega (arith, low, costs, some, enough, few));
+      told = tt;
       low_prizes = All-map (λ need. prize need ≤ 10 ^ 12) (stated_need needs) (up_to n) (λ k d within. let low = stated_within needs (get_or (up_to n) k d) in omega (arith, low, paid, chosen, vertices));
     }

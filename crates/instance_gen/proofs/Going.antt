@@ -1,20 +1,22 @@
 -- Lines that lead from one place of a text to another, each rightly.
-use Rattle.std.proofs.Common.{◌≡◌, ℕ, ◌^◌, ◌<◌, ◌≤◌, true, false, eqb, List, [], ◌∷◌, ◌++◌, length, None, refl, sym, ap, ◌∙◌, subst, arith}
+use Rattle.std.proofs.Common.{◌≡◌, ℕ, ◌^◌, ◌<◌, ◌≤◌, true, false, eqb, List, [], ◌∷◌, ◌++◌, length, refl, sym, ap, ◌∙◌, subst, arith}
 use Rattle.std.specs.Fmt.{decimal}
 use Rattle.std.specs.Prelude.{codes}
 use Rattle.std.proofs.lemmas.Bool.{and_from, and_parts}
 use Rattle.std.proofs.lemmas.Bool.Decides.{nat_tests}
+use Rattle.std.proofs.lemmas.List.{append-nil}
+use Rattle.amounts.proofs.Decimals.{value_decimal}
 use Rattle.st_model.specs.declared.link.Link.{Link}
 use Rattle.st_model.specs.declared.need.Need.{Need}
 use Rattle.stp_reader.specs.declared.reason.Reason.{Reason}
 use Rattle.stp_reader.specs.Words.{keyword_of, section_of}
 use Rattle.stp_reader.specs.Forms.{form_of}
-use Rattle.stp_reader.specs.Place.{Graph, Place, nothing, graph, whole, at_header, outside, at_nodes, at_edges, at_links, at_count, at_needs, after_end, after, after_all}
+use Rattle.stp_reader.specs.Place.{Graph, Place, nothing, graph, whole, no_roots, at_header, outside, at_nodes, at_edges, at_links, at_count, at_needs, after_end, after, after_all}
 use Rattle.stp_reader.specs.Reasons.{reasons}
 use Rattle.stp_reader.specs.Reads.{AllRight}
 use Rattle.instance_gen.specs.Text.{header, section_line, number_line, end_line}
 use Rattle.instance_gen.proofs.Spelled.{is_plain, is_spelled, are_spelled}
-use Rattle.instance_gen.proofs.Said.{plain_decimal, value_decimal, count_right, nodes_right}
+use Rattle.instance_gen.proofs.Said.{plain_decimal, count_right, nodes_right}
 
 -- no line has a reason, the last leads to this place, and all are spelled
 pub record Goes (place : Place) (lines : List (List (List ℕ))) (next : Place) : Type 0 where
@@ -66,27 +68,28 @@ unfolding keyword_of form_of
 edges_go n m few = one_line (at_edges n) (at_links n m []) (number_line (codes "Edges") m) (count_right 4000000 m few (omega arith))
     (ap (λ k. at_links n k []) (value_decimal m (omega arith))) (number_spelled (codes "Edges") m refl (omega arith))
 
-pub graph_ends : (n : ℕ) (links : List Link) → Goes (at_links n (length links) links) (end_line ∷ []) (outside (graph (record { n = n; links = links })))
+pub graph_ends : (n m : ℕ) (links : List Link) → length links ≡ m → Goes (at_links n m links) (end_line ∷ []) (outside (graph (record { n = n; links = links })))
 unfolding keyword_of form_of
-graph_ends n links = let same : eqb (length links) (length links) ≡ true = grind (arith, nat_tests) in one_line (at_links n (length links) links)
+graph_ends n m links all = let same : eqb (length links) m ≡ true = grind (arith, nat_tests) in one_line (at_links n m links)
     (outside (graph (record { n = n; links = links }))) end_line (rw same refl) refl refl
 
-pub terminals_go : (g : Graph) → Goes (outside (graph g)) (section_line (codes "Terminals") ∷ []) (at_count g None)
+pub terminals_go : (g : Graph) → Goes (outside (graph g)) (section_line (codes "Terminals") ∷ []) (at_count g no_roots)
 unfolding keyword_of section_of form_of
-terminals_go g = one_line (outside (graph g)) (at_count g None) (section_line (codes "Terminals")) refl refl refl
+terminals_go g = one_line (outside (graph g)) (at_count g no_roots) (section_line (codes "Terminals")) refl refl refl
 
-pub count_goes : (g : Graph) (t : ℕ) → t ≤ 2000000 → Goes (at_count g None) (number_line (codes "Terminals") t ∷ []) (at_needs g t [] None)
+pub count_goes : (g : Graph) (t : ℕ) → t ≤ 2000000 → Goes (at_count g no_roots) (number_line (codes "Terminals") t ∷ []) (at_needs g t [] no_roots)
 unfolding keyword_of form_of
-count_goes g t few = one_line (at_count g None) (at_needs g t [] None) (number_line (codes "Terminals") t) (count_right 2000000 t few (omega arith))
-    (ap (λ k. at_needs g k [] None) (value_decimal t (omega arith))) (number_spelled (codes "Terminals") t refl (omega arith))
+count_goes g t few = one_line (at_count g no_roots) (at_needs g t [] no_roots) (number_line (codes "Terminals") t) (count_right 2000000 t few (omega arith))
+    (ap (λ k. at_needs g k [] no_roots) (value_decimal t (omega arith))) (number_spelled (codes "Terminals") t refl (omega arith))
 
-pub needs_end : (g : Graph) (needs : List (ℕ × Need)) → 1 ≤ length needs
-    → Goes (at_needs g (length needs) needs None) (end_line ∷ []) (outside (whole (record { n = g.n; links = g.links; needs = needs })))
+pub needs_end : (g : Graph) (t : ℕ) (needs : List (ℕ × Need)) → length needs ≡ t → 1 ≤ t
+    → Goes (at_needs g t needs no_roots) (end_line ∷ []) (outside (whole (record { n = g.n; links = g.links; needs = needs })))
 unfolding keyword_of form_of
-needs_end g needs some =
-    let same : eqb (length needs) (length needs) ≡ true = grind (arith, nat_tests) in
+needs_end g t needs all some =
+    let same : eqb (length needs) t ≡ true = grind (arith, nat_tests) in
     let above : eqb (length needs) 0 ≡ false = grind (arith, nat_tests) in
-    one_line (at_needs g (length needs) needs None) (outside (whole (record { n = g.n; links = g.links; needs = needs }))) end_line (rw (same, above) refl) refl refl
+    one_line (at_needs g t needs no_roots) (outside (whole (record { n = g.n; links = g.links; needs = needs }))) end_line (rw (same, above) refl)
+    (ap (λ (es : List (ℕ × Need)). outside (whole (record { n = g.n; links = g.links; needs = es }))) (append-nil needs)) refl
 
 pub text_ends : (n : ℕ) (links : List Link) (needs : List (ℕ × Need))
     → Goes (outside (whole (record { n = n; links = links; needs = needs }))) ((codes "EOF" ∷ []) ∷ []) (after_end (record { n = n; links = links; needs = needs }))
@@ -95,8 +98,8 @@ text_ends n links needs = one_line (outside (whole (record { n = n; links = link
 
 -- ---- links
 
-pub no_reasons : (xs ys zs : List Reason) → xs ≡ [] → ys ≡ [] → zs ≡ [] → xs ++ ys ++ zs ≡ []
-no_reasons xs ys zs p q r = rw (p, q, r) refl
+pub no_reasons : (ws xs ys zs : List Reason) → ws ≡ [] → xs ≡ [] → ys ≡ [] → zs ≡ [] → ws ++ xs ++ ys ++ zs ≡ []
+no_reasons ws xs ys zs o p q r = rw (o, p, q, r) refl
 
 pub same_link : (l : Link) (a b c : ℕ) → a ≡ l.a → b ≡ l.b → c ≡ l.cost → record { a = a; b = b; cost = c } ≡ l
 same_link l a b c p q r = rw (p, q, r) refl

@@ -5,7 +5,9 @@ pub mod Joined
 pub mod Connected
 pub mod Spelled
 pub mod Said
+pub mod Scaled
 pub mod Restated
+pub mod Told
 pub mod Going
 pub mod GoingOver
 pub mod Reread

@@ -55,7 +55,8 @@ up_to_in_range : (n k : ℕ) → k ≤ n → All (IsVertex n) (up_to k)
 up_to_in_range n zero few = All-nil _
 up_to_in_range n (suc k) few = All-append (IsVertex n) (up_to k) (suc k ∷ []) (up_to_in_range n k (omega arith)) (All-cons (IsVertex n) (suc k) [] (omega arith, few) (All-nil _))
 
-item_in_range : (P : ℕ → Type 0) (xs : List ℕ) (i d : ℕ) → AllByRecursion P xs → P d → P (get_or xs i d)
+-- an item, or what stands for one past the end
+pub item_in_range : {X : Type 0} (P : X → Type 0) (xs : List X) (i : ℕ) (d : X) → AllByRecursion P xs → P d → P (get_or xs i d)
 item_in_range P [] i d all default = default
 item_in_range P (x ∷ xs) zero d all default = all.0
 item_in_range P (x ∷ xs) (suc i) d all default = item_in_range P xs i d all.1 default

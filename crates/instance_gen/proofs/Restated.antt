@@ -159,7 +159,7 @@ least_again [] v = by_case (eqb 1 v)
     by_case false = refl
 least_again (e ∷ es) v = refl
 
-needs_again : (I : Network) → IsInstance I → map (stated_need (written_needs I)) (up_to I.n) ≡ I.needs
+pub needs_again : (I : Network) → IsInstance I → map (stated_need (written_needs I)) (up_to I.n) ≡ I.needs
 needs_again I i = ext_get_or Required _ _ (length-map (up_to I.n) (stated_need (written_needs I)) ∙ length-up_to I.n ∙ sym i.needs) each
   where
     each : (k : ℕ) → k < length (map (stated_need (written_needs I)) (up_to I.n)) → get_or (map (stated_need (written_needs I)) (up_to I.n)) k Required ≡ get_or I.needs k Required

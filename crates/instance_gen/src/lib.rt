@@ -1,8 +1,8 @@
 //! Instances that look random, and the text of an instance as an STP file.
 //!
-//! `generated` is the instance that five numbers say, link by link, and `stp_text` the text of an instance, line by
-//! line. A caller may rely on both to the byte. `Draws` gives the numbers behind the links and needs, each by the one
-//! before it (`next`).
+//! `generated` is the instance that five numbers say, link by link, and `stp_text` the text of an instance at a scale,
+//! line by line. A caller may rely on both to the byte. `Draws` gives the numbers behind the links and needs, each by
+//! the one before it (`next`).
 #![tactic(auto)]
 
 ghost use Rattle.std.specs.Prelude.{◌≡◌, IfOk};
@@ -16,6 +16,7 @@ mod links;
 mod needs;
 mod text;
 
+use amounts::Scale;
 use chosen::{draw_needs, shuffle};
 pub use draws::Draws;
 pub use law::{generated_are_connected, generated_fit_file, written_are_read};
@@ -48,13 +49,15 @@ pub fn generate(
 }
 
 /// The text of an instance as an STP file: a line for each link, and one for each vertex that is required or pays.
-/// Takes time linear in the instance. What fits into a file is read as the same instance (`written_are_read`).
-pub fn write_stp(alloc: Global, instance: &Instance) -> Result<Vec<u8>, AllocError>
-    ensures { IfOk result (λ bytes. bytes.items ≡ stp_text instance.now) }
+/// Costs and prizes count units of the scale, and are written in wholes.
+/// Takes time linear in the instance. What fits into a file at the scale is read as the same instance at the same
+/// scale (`written_are_read`).
+pub fn write_stp(alloc: Global, instance: &Instance, scale: Scale) -> Result<Vec<u8>, AllocError>
+    ensures { IfOk result (λ bytes. bytes.items ≡ stp_text instance.now scale) }
 {
     let needs = written_needs(alloc, instance)?;
     let mut text = String::new(alloc);
-    put_graph(&mut text, instance)?;
-    put_terminals(&mut text, &needs)?;
+    put_graph(alloc, &mut text, instance, scale)?;
+    put_terminals(alloc, &mut text, &needs, scale)?;
     Ok(text.into_bytes())
 }

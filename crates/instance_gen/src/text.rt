@@ -1,35 +1,46 @@
-ghost use Rattle.std.specs.Prelude.{◌≡◌, ◌++◌, ◌∷◌, [], OnOk, map, string_bytes, codes};
+ghost use Rattle.std.specs.Prelude.{◌++◌, ◌∷◌, [], OnOk, map, string_bytes, codes};
 ghost use Rattle.instance_gen.specs.Text.{header, number_line, link_line, need_line, graph_lines, terminal_lines};
 ghost use Rattle.instance_gen.specs.Writing.{IsWritten};
 
+use amounts::{Scale, amount_text};
 use st_model::{Instance, Link, Need};
-use std::alloc::AllocError;
+use std::alloc::{AllocError, Global};
 
 // Puts the first line and the section of the graph after the text.
-pub fn put_graph(text: &mut String, instance: &Instance) -> Result<(), AllocError>
+pub fn put_graph(
+    alloc: Global,
+    text: &mut String,
+    instance: &Instance,
+    scale: Scale,
+) -> Result<(), AllocError>
     ensures { OnOk result
         (IsWritten (string_bytes text.old) (string_bytes text.new)
-        (header ∷ graph_lines instance.now.n instance.now.links)) }
+        (header ∷ graph_lines instance.now.n instance.now.links scale)) }
 {
     let links = instance.links();
     put_header(text)?;
     put_pair(text, "SECTION", "Graph")?;
     put_number(text, "Nodes", u64::from(instance.vertices()))?;
     put_number(text, "Edges", links.len() as u64)?;
-    put_links(text, links)?;
+    put_links(alloc, text, links, scale)?;
     put_word(text, "END")?;
     Ok(())
 }
 
 // Puts the section of the needs and the last line after the text.
-pub fn put_terminals(text: &mut String, needs: &[(u32, Need)]) -> Result<(), AllocError>
+pub fn put_terminals(
+    alloc: Global,
+    text: &mut String,
+    needs: &[(u32, Need)],
+    scale: Scale,
+) -> Result<(), AllocError>
     ensures { OnOk result
         (IsWritten (string_bytes text.old) (string_bytes text.new)
-        (terminal_lines needs.now ++ (codes "EOF" ∷ []) ∷ [])) }
+        (terminal_lines needs.now scale ++ (codes "EOF" ∷ []) ∷ [])) }
 {
     put_pair(text, "SECTION", "Terminals")?;
     put_number(text, "Terminals", needs.len() as u64)?;
-    put_needs(text, needs)?;
+    put_needs(alloc, text, needs, scale)?;
     put_word(text, "END")?;
     put_word(text, "EOF")?;
     Ok(())
@@ -65,37 +76,58 @@ fn put_number(text: &mut String, keyword: &str, number: u64) -> Result<(), Alloc
 }
 
 // Puts a line for each link after the text.
-fn put_links(text: &mut String, links: &[Link]) -> Result<(), AllocError>
-    ensures { OnOk result (IsWritten (string_bytes text.old) (string_bytes text.new) (map link_line links.now)) }
+fn put_links(
+    alloc: Global,
+    text: &mut String,
+    links: &[Link],
+    scale: Scale,
+) -> Result<(), AllocError>
+    ensures { OnOk result (IsWritten (string_bytes text.old) (string_bytes text.new)
+        (map (λ l. link_line l scale) links.now)) }
 {
     for link in links {
-        put_link(text, *link)?;
+        put_link(alloc, text, *link, scale)?;
     }
     Ok(())
 }
 
-fn put_link(text: &mut String, link: Link) -> Result<(), AllocError>
-    ensures { OnOk result (IsWritten (string_bytes text.old) (string_bytes text.new) (link_line link ∷ [])) }
+fn put_link(alloc: Global, text: &mut String, link: Link, scale: Scale) -> Result<(), AllocError>
+    ensures { OnOk result (IsWritten (string_bytes text.old) (string_bytes text.new) (link_line link scale ∷ [])) }
 {
-    writeln!(text, "E {} {} {}", link.a, link.b, link.cost)
+    let cost = amount_text(alloc, link.cost, scale)?;
+    writeln!(text, "E {} {} {cost}", link.a, link.b)
 }
 
 // Puts a line for each need after the text.
-fn put_needs(text: &mut String, needs: &[(u32, Need)]) -> Result<(), AllocError>
-    ensures { OnOk result (IsWritten (string_bytes text.old) (string_bytes text.new) (map need_line needs.now)) }
+fn put_needs(
+    alloc: Global,
+    text: &mut String,
+    needs: &[(u32, Need)],
+    scale: Scale,
+) -> Result<(), AllocError>
+    ensures { OnOk result (IsWritten (string_bytes text.old) (string_bytes text.new)
+        (map (λ entry. need_line entry scale) needs.now)) }
 {
     for entry in needs {
-        put_need(text, *entry)?;
+        put_need(alloc, text, *entry, scale)?;
     }
     Ok(())
 }
 
-fn put_need(text: &mut String, entry: (u32, Need)) -> Result<(), AllocError>
-    ensures { OnOk result (IsWritten (string_bytes text.old) (string_bytes text.new) (need_line entry ∷ [])) }
+fn put_need(
+    alloc: Global,
+    text: &mut String,
+    entry: (u32, Need),
+    scale: Scale,
+) -> Result<(), AllocError>
+    ensures { OnOk result (IsWritten (string_bytes text.old) (string_bytes text.new) (need_line entry scale ∷ [])) }
 {
     let (vertex, need) = entry;
     match need {
         Need::Required => writeln!(text, "T {vertex}"),
-        Need::Pays(prize) => writeln!(text, "TP {vertex} {prize}"),
+        Need::Pays(prize) => {
+            let prize = amount_text(alloc, prize, scale)?;
+            writeln!(text, "TP {vertex} {prize}")
+        }
     }
 }
