@@ -76,7 +76,7 @@ same_edges s t ds fs same d f = sorted_same edge_order edges_total ds fs d.ascen
     (λ z there. (d.same z).1 ((same.edges z).1 ((f.same z).0 there)))
 
 pub one_text : TreeHasOneText
-one_text name workers s t dual primal bytes others same a b =
+one_text name workers s t dual primal scale bytes others same a b =
     let vertices = same_vertices s t a.vertices b.vertices same a.vertices_of_tree b.vertices_of_tree in
     let edges = same_edges s t a.edges b.edges same a.edges_of_tree b.edges_of_tree in
-    a.text ∙ ap (λ (vs : List ℕ). solution_text_of name workers vs a.edges dual primal) vertices ∙ ap (λ (es : List (ℕ × ℕ)). solution_text_of name workers b.vertices es dual primal) edges ∙ sym b.text
+    a.text ∙ ap (λ (vs : List ℕ). solution_text_of name workers vs a.edges dual primal scale) vertices ∙ ap (λ (es : List (ℕ × ℕ)). solution_text_of name workers b.vertices es dual primal scale) edges ∙ sym b.text

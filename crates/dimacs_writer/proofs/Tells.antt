@@ -6,6 +6,9 @@ use Rattle.std.proofs.lemmas.Bool.Decides.{nat_tests}
 use Rattle.std.proofs.lemmas.Fmt.{decimal_injective}
 use Rattle.std.proofs.lemmas.List.{append_cancel_right}
 use Rattle.std.proofs.lemmas.List.Elements.{All-contains, All-contains_itself, All-map, All-weaker, recursion_from_All}
+use Rattle.amounts.specs.declared.scale.Scale.{Scale}
+use Rattle.amounts.specs.Text.{amount_text}
+use Rattle.amounts.proofs.Reread.{texts_differ, lacks-amount_text}
 use Rattle.st_model.specs.declared.tree.Tree.{Tree}
 use Rattle.st_model.specs.Lists.{has}
 use Rattle.st_model.specs.Regrown.{unordered}
@@ -80,7 +83,7 @@ edges_same (d ∷ es) (f ∷ fs) rest others h k e =
 -- ---- all of the text
 
 abbrev front : Solution → List (List ℕ)
-front s = header ∷ comment_lines s.name s.dual s.primal ++ solutions_lines s.primal ++ run_lines s.workers s.dual s.primal ++ codes "SECTION Finalsolution" ∷ number_line (codes "Vertices") (length s.vertices) ∷ []
+front s = header ∷ comment_lines s.name s.dual s.primal ++ solutions_lines s.primal s.scale ++ run_lines s.workers s.dual s.primal s.scale ++ codes "SECTION Finalsolution" ∷ number_line (codes "Vertices") (length s.vertices) ∷ []
 
 abbrev back : Solution → List (List ℕ)
 back s = map vertex_line s.vertices ++ number_line (codes "Edges") (length s.edges) ∷ (map edge_line s.edges ++ codes "END" ∷ codes "EOF" ∷ [])
@@ -88,7 +91,7 @@ back s = map vertex_line s.vertices ++ number_line (codes "Edges") (length s.edg
 nested : (a b c d : List (List ℕ)) → ((a ++ b) ++ c) ++ d ≡ a ++ (b ++ (c ++ d))
 nested a b c d = simp append_assoc
 
-text_lines : (s : Solution) → solution_text_of s.name s.workers s.vertices s.edges s.dual s.primal ≡ flat_map ended (front s ++ back s)
+text_lines : (s : Solution) → solution_text_of s.name s.workers s.vertices s.edges s.dual s.primal s.scale ≡ flat_map ended (front s ++ back s)
 unfolding solution_text_of
 text_lines s = ap (λ (tail : List (List ℕ)). flat_map ended (front s ++ tail)) (nested (map vertex_line s.vertices) (number_line (codes "Edges") (length s.edges) ∷ map edge_line s.edges) (codes "END" ∷ []) (codes "EOF" ∷ []))
 
@@ -100,9 +103,9 @@ back_whole s =
 all_whole : (s : Solution) → are_whole (front s ++ back s) ≡ true
 all_whole s =
     let name = lacks-append 10 (map name_byte s.name) (34 ∷ []) (name_lacks s.name) refl in
-    let primal = lacks-decimal 10 s.primal (omega arith) in
+    let primal = lacks-amount_text 10 s.primal s.scale (omega arith) in
     let workers = lacks-decimal 10 s.workers (omega arith) in
-    let dual = lacks-decimal 10 s.dual (omega arith) in
+    let dual = lacks-amount_text 10 s.dual s.scale (omega arith) in
     let count = lacks-decimal 10 (length s.vertices) (omega arith) in
     rw (name, remark_lacks (s.dual == s.primal), primal, workers, dual, count, back_whole s) refl
 
@@ -120,21 +123,24 @@ abbrev after : ℕ → ℕ → List (List ℕ) → List ℕ
 after n k lines = drop n (get_or lines k [])
 
 pub tells : TextTellsSolution
-tells s t h k e =
+tells s t h k same_scale e =
     let lines = same_lines s t e in
     let name : map name_byte s.name ++ 34 ∷ [] ≡ map name_byte t.name ++ 34 ∷ [] = ap (after 6 2) lines in
-    let primal : decimal s.primal ≡ decimal t.primal = ap (after 11 7) lines in
+    let primal : amount_text s.primal s.scale ≡ amount_text t.primal t.scale = ap (after 11 7) lines in
     let workers : decimal s.workers ≡ decimal t.workers = ap (after 8 10) lines in
-    let dual : decimal s.dual ≡ decimal t.dual = ap (after 5 12) lines in
+    let dual : amount_text s.dual s.scale ≡ amount_text t.dual t.scale = ap (after 5 12) lines in
     let tree = same_tree s t h.vertices k.vertices h.edges k.edges e in
     record {
       name = append_cancel_right _ _ (34 ∷ []) name;
       workers = decimal_injective s.workers t.workers h.workers k.workers workers;
       vertices = tree.0;
       edges = tree.1;
-      dual = decimal_injective s.dual t.dual h.dual k.dual dual;
-      primal = decimal_injective s.primal t.primal h.primal k.primal primal;
+      dual = same_amount s.dual t.dual h.dual k.dual dual;
+      primal = same_amount s.primal t.primal h.primal k.primal primal;
     }
+  where
+    same_amount : (x y : ℕ) → x < 2 ^ 64 → y < 2 ^ 64 → amount_text x s.scale ≡ amount_text y t.scale → x ≡ y
+    same_amount x y small other_small texts = texts_differ x y s.scale small other_small (texts ∙ ap (amount_text y) (sym same_scale))
 
 -- ---- trees
 
@@ -147,11 +153,11 @@ small_edges t edges small are = All-weaker (Contains edges) HasSmallEnds (λ edg
     ends : All HasSmallEnds (map unordered t.arcs)
     ends = All-map HasSmallEnds unordered t.arcs (All-weaker HasSmallEnds (λ arc. HasSmallEnds (unordered arc)) (λ arc h. (omega (arith, h.0, h.1), omega (arith, h.0, h.1))) t.arcs small.arcs)
 
-abbrev said : {name : List ℕ} {workers : ℕ} {t : Tree} {dual primal : ℕ} {bytes : List ℕ} → IsSolutionText name workers t dual primal bytes → Solution
-said {name} {workers} {t} {dual} {primal} text = record { name = name; workers = workers; vertices = text.vertices; edges = text.edges; dual = dual; primal = primal }
+abbrev said : {name : List ℕ} {workers : ℕ} {t : Tree} {dual primal : ℕ} {scale : Scale} {bytes : List ℕ} → IsSolutionText name workers t dual primal scale bytes → Solution
+said {name} {workers} {t} {dual} {primal} {scale} text = record { name = name; workers = workers; vertices = text.vertices; edges = text.edges; dual = dual; primal = primal; scale = scale }
 
 pub tells_tree : TextTellsTree
-tells_tree name other_name workers other_workers s t dual other_dual primal other_primal bytes small_s small_t first second =
+tells_tree name other_name workers other_workers s t dual other_dual primal other_primal scale other_scale bytes small_s small_t first second =
     let v = first.vertices_of_tree in
     let w = second.vertices_of_tree in
     let d = first.edges_of_tree in

@@ -1,12 +1,13 @@
 -- What the text of a solution tells.
 use Rattle.std.specs.Prelude.{◌≡◌, ◌↔◌, ℕ, ◌<◌, ◌^◌, List, map, All, Contains}
+use Rattle.amounts.specs.declared.scale.Scale.{Scale}
 use Rattle.st_model.specs.declared.tree.Tree.{Tree}
 use Rattle.st_model.specs.Arborescence.{reached}
 use Rattle.st_model.specs.Lists.{has}
 use Rattle.st_model.specs.Regrown.{unordered}
 use Rattle.dimacs_writer.specs.Solution.{IsSolutionText, name_byte, solution_text_of}
 
--- all that stands in a text
+-- all that stands in a text, and the unit that its dual and its primal count
 pub record Solution : Type 0 where
   pub name : List ℕ
   pub workers : ℕ
@@ -14,9 +15,10 @@ pub record Solution : Type 0 where
   pub edges : List (ℕ × ℕ)
   pub dual : ℕ
   pub primal : ℕ
+  pub scale : Scale
 
 abbrev pub text_of : Solution → List ℕ
-text_of s = solution_text_of s.name s.workers s.vertices s.edges s.dual s.primal
+text_of s = solution_text_of s.name s.workers s.vertices s.edges s.dual s.primal s.scale
 
 -- its numbers have at most 64 bits
 pub record IsInRange (s : Solution) : Type 0 where
@@ -35,9 +37,9 @@ pub record IsSame (s t : Solution) : Type 0 where
   pub dual : s.dual ≡ t.dual
   pub primal : s.primal ≡ t.primal
 
--- solutions with the same text are the same
+-- solutions with the same text are the same, if both count the same unit: the text doesn't tell which
 abbrev pub TextTellsSolution : Type 0
-TextTellsSolution = (s t : Solution) → IsInRange s → IsInRange t → text_of s ≡ text_of t → IsSame s t
+TextTellsSolution = (s t : Solution) → IsInRange s → IsInRange t → s.scale ≡ t.scale → text_of s ≡ text_of t → IsSame s t
 
 -- its vertices have at most 64 bits
 pub record IsSmallTree (t : Tree) : Type 0 where
@@ -51,8 +53,8 @@ pub record HaveSameSets (s t : Tree) : Type 0 where
 
 -- a tree has one text, whatever the order and the directions of its arcs
 abbrev pub TreeHasOneText : Type 0
-TreeHasOneText = (name : List ℕ) (workers : ℕ) (s t : Tree) (dual primal : ℕ) (bytes others : List ℕ) → HaveSameSets s t → IsSolutionText name workers s dual primal bytes → IsSolutionText name workers t dual primal others → bytes ≡ others
+TreeHasOneText = (name : List ℕ) (workers : ℕ) (s t : Tree) (dual primal : ℕ) (scale : Scale) (bytes others : List ℕ) → HaveSameSets s t → IsSolutionText name workers s dual primal scale bytes → IsSolutionText name workers t dual primal scale others → bytes ≡ others
 
--- trees that have one text are the same but for the order and the directions of their arcs
+-- trees that have one text are the same but for the order and the directions of their arcs, whatever unit their costs count
 abbrev pub TextTellsTree : Type 0
-TextTellsTree = (name other_name : List ℕ) (workers other_workers : ℕ) (s t : Tree) (dual other_dual primal other_primal : ℕ) (bytes : List ℕ) → IsSmallTree s → IsSmallTree t → IsSolutionText name workers s dual primal bytes → IsSolutionText other_name other_workers t other_dual other_primal bytes → HaveSameSets s t
+TextTellsTree = (name other_name : List ℕ) (workers other_workers : ℕ) (s t : Tree) (dual other_dual primal other_primal : ℕ) (scale other_scale : Scale) (bytes : List ℕ) → IsSmallTree s → IsSmallTree t → IsSolutionText name workers s dual primal scale bytes → IsSolutionText other_name other_workers t other_dual other_primal other_scale bytes → HaveSameSets s t

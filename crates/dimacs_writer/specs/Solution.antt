@@ -10,10 +10,16 @@ use Rattle.st_model.specs.Arborescence.{reached}
 use Rattle.st_model.specs.Lists.{has}
 use Rattle.st_model.specs.Regrown.{unordered}
 use Rattle.plain_text.specs.Lines.{ended}
+use Rattle.amounts.specs.declared.scale.Scale.{Scale}
+use Rattle.amounts.specs.Text.{amount_text}
 
 -- a keyword and a number
 abbrev pub number_line : List ℕ → ℕ → List ℕ
 number_line keyword n = keyword ++ 32 ∷ decimal n
+
+-- a keyword and an amount, a number of this unit
+abbrev pub amount_line : List ℕ → ℕ → Scale → List ℕ
+amount_line keyword x scale = keyword ++ 32 ∷ amount_text x scale
 
 -- a keyword and a text in quotes
 abbrev pub quoted_line : List ℕ → List ℕ → List ℕ
@@ -35,11 +41,11 @@ abbrev pub comment_lines : List ℕ → ℕ → ℕ → List (List ℕ)
 comment_lines name dual primal = codes "SECTION Comment" ∷ quoted_line (codes "Name") (map name_byte name) ∷ remark_lines dual primal
 
 -- the primal, at time 0
-abbrev pub solutions_lines : ℕ → List (List ℕ)
-solutions_lines primal = codes "SECTION Solutions" ∷ number_line (codes "Solution 0") primal ∷ codes "END" ∷ []
+abbrev pub solutions_lines : ℕ → Scale → List (List ℕ)
+solutions_lines primal scale = codes "SECTION Solutions" ∷ amount_line (codes "Solution 0") primal scale ∷ codes "END" ∷ []
 
-abbrev pub run_lines : ℕ → ℕ → ℕ → List (List ℕ)
-run_lines workers dual primal = codes "SECTION Run" ∷ number_line (codes "Threads") workers ∷ codes "Time 0" ∷ number_line (codes "Dual") dual ∷ number_line (codes "Primal") primal ∷ codes "END" ∷ []
+abbrev pub run_lines : ℕ → ℕ → ℕ → Scale → List (List ℕ)
+run_lines workers dual primal scale = codes "SECTION Run" ∷ number_line (codes "Threads") workers ∷ codes "Time 0" ∷ amount_line (codes "Dual") dual scale ∷ amount_line (codes "Primal") primal scale ∷ codes "END" ∷ []
 
 abbrev pub vertex_line : ℕ → List ℕ
 vertex_line v = number_line (codes "V") v
@@ -54,9 +60,9 @@ tree_lines vertices edges = codes "SECTION Finalsolution" ∷ number_line (codes
 abbrev pub header : List ℕ
 header = codes "33D32945 STP File, STP Format Version 1.0"
 
--- all of the text, line by line
-unfoldable pub solution_text_of : (name : List ℕ) (workers : ℕ) (vertices : List ℕ) (edges : List (ℕ × ℕ)) (dual primal : ℕ) → List ℕ
-solution_text_of name workers vertices edges dual primal = flat_map ended (header ∷ comment_lines name dual primal ++ solutions_lines primal ++ run_lines workers dual primal ++ tree_lines vertices edges ++ codes "EOF" ∷ [])
+-- all of the text, line by line; the dual and the primal are numbers of this unit
+unfoldable pub solution_text_of : (name : List ℕ) (workers : ℕ) (vertices : List ℕ) (edges : List (ℕ × ℕ)) (dual primal : ℕ) (scale : Scale) → List ℕ
+solution_text_of name workers vertices edges dual primal scale = flat_map ended (header ∷ comment_lines name dual primal ++ solutions_lines primal scale ++ run_lines workers dual primal scale ++ tree_lines vertices edges ++ codes "EOF" ∷ [])
 
 -- the vertices that the tree reaches, ascending, each once
 pub record AreVertices (t : Tree) (vertices : List ℕ) : Type 0 where
@@ -73,9 +79,9 @@ pub record AreEdges (t : Tree) (edges : List (ℕ × ℕ)) : Type 0 where
   pub same : (edge : ℕ × ℕ) → Contains edges edge ↔ Contains (map unordered t.arcs) edge
 
 -- the bytes are the text of the tree's vertices and edges
-pub record IsSolutionText (name : List ℕ) (workers : ℕ) (t : Tree) (dual primal : ℕ) (bytes : List ℕ) : Type 0 where
+pub record IsSolutionText (name : List ℕ) (workers : ℕ) (t : Tree) (dual primal : ℕ) (scale : Scale) (bytes : List ℕ) : Type 0 where
   pub vertices : List ℕ
   pub edges : List (ℕ × ℕ)
   pub vertices_of_tree : AreVertices t vertices
   pub edges_of_tree : AreEdges t edges
-  pub text : bytes ≡ solution_text_of name workers vertices edges dual primal
+  pub text : bytes ≡ solution_text_of name workers vertices edges dual primal scale

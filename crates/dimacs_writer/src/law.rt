@@ -1,7 +1,8 @@
 ghost use Rattle.dimacs_writer.specs.Laws.{TextTellsSolution, TextTellsTree, TreeHasOneText};
 
-/// The text tells all that stands in it, but for the bytes of the name that are written alike, and
-/// so it tells the tree, but for the order and the directions of its arcs.
+/// The text tells all that stands in it, but for the bytes of the name that are written alike and
+/// the unit that its costs count: where this is known, it tells the costs, too. Whatever the unit, it
+/// tells the tree, but for the order and the directions of its arcs.
 pub fn text_tells_solution()
     ensures solution { TextTellsSolution }
     ensures tree { TextTellsTree }

@@ -3,7 +3,8 @@
 //! The text is the definition `solution_text_of` at the tree's vertices and edges, each once and
 //! in ascending order. A caller may rely on every byte: trees that reach the same vertices along
 //! the same links have one text, whatever the order and the directions of their arcs, and the text
-//! tells all that stands in it but the bytes of the name that are written as `_`.
+//! tells all that stands in it but the bytes of the name that are written as `_` and the unit that
+//! its costs count.
 #![tactic(auto)]
 
 ghost use Rattle.std.specs.Prelude.{IfOk, string_bytes};
@@ -15,6 +16,7 @@ mod lines;
 mod sections;
 mod tree_lists;
 
+use amounts::Scale;
 pub use law::{text_tells_solution, tree_has_one_text};
 use lines::{first_lines, put_name};
 use sections::{put_remark, put_run, put_solutions, put_tree};
@@ -23,7 +25,8 @@ use std::alloc::{AllocError, Global};
 use tree_lists::{edges_of, vertices_of};
 
 /// The solution text of a tree that was found by a number of workers, with its cost, the primal,
-/// and a bound that no tree's cost is below, the dual. The tree's arcs may stand in any order.
+/// and a bound that no tree's cost is below, the dual. Both are numbers of the scale's unit, and are
+/// written in wholes. The tree's arcs may stand in any order.
 pub fn solution_text(
     alloc: Global,
     name: &str,
@@ -31,12 +34,13 @@ pub fn solution_text(
     tree: &Tree,
     dual: u64,
     primal: u64,
+    scale: Scale,
 ) -> Result<Vec<u8>, AllocError>
-    ensures { IfOk result (λ out. IsSolutionText name.now workers tree.now dual primal out.items) }
+    ensures { IfOk result (λ out. IsSolutionText name.now workers tree.now dual primal scale out.items) }
 {
     let mut out = first_lines(alloc)?;
     put_name(&mut out, name)?;
-    let text = sections_of(alloc, workers, tree, dual, primal)?;
+    let text = sections_of(alloc, workers, tree, dual, primal, scale)?;
     out.extend_from_slice(text.as_bytes())?;
     Ok(out)
 }
@@ -48,15 +52,16 @@ fn sections_of(
     tree: &Tree,
     dual: u64,
     primal: u64,
+    scale: Scale,
 ) -> Result<String, AllocError>
-    ensures { IfOk result (λ text. AreSections workers tree.now dual primal (string_bytes text)) }
+    ensures { IfOk result (λ text. AreSections workers tree.now dual primal scale (string_bytes text)) }
 {
     let vertices = vertices_of(alloc, tree)?;
     let edges = edges_of(alloc, tree)?;
     let mut text = String::new(alloc);
     put_remark(&mut text, dual, primal)?;
-    put_solutions(&mut text, primal)?;
-    put_run(&mut text, workers, dual, primal)?;
+    put_solutions(alloc, &mut text, primal, scale)?;
+    put_run(alloc, &mut text, workers, dual, primal, scale)?;
     put_tree(&mut text, &vertices, &edges)?;
     Ok(text)
 }

@@ -1,8 +1,9 @@
 ghost use Rattle.std.specs.Prelude.{◌≡◌, ◌++◌, ◌∷◌, [], IfOk, OnOk, map, string_bytes, codes};
 ghost use Rattle.dimacs_writer.specs.Solution;
-ghost use Rattle.dimacs_writer.specs.Solution.{header, number_line, quoted_line, edge_line, vertex_line};
+ghost use Rattle.dimacs_writer.specs.Solution.{header, amount_line, number_line, quoted_line, edge_line, vertex_line};
 ghost use Rattle.dimacs_writer.specs.Writing.{IsWritten};
 
+use amounts::{Scale, amount_text};
 use std::alloc::{AllocError, Global};
 
 /// The first two lines.
@@ -57,6 +58,21 @@ pub fn put_number(text: &mut String, keyword: &str, number: u64) -> Result<(), A
         (number_line keyword.now number ∷ [])) }
 {
     writeln!(text, "{keyword} {number}")
+}
+
+/// Puts a keyword and an amount, a number of the scale's unit, after the text.
+pub fn put_amount(
+    alloc: Global,
+    text: &mut String,
+    keyword: &str,
+    amount: u64,
+    scale: Scale,
+) -> Result<(), AllocError>
+    ensures { OnOk result (IsWritten (string_bytes text.old) (string_bytes text.new)
+        (amount_line keyword.now amount scale ∷ [])) }
+{
+    let amount = amount_text(alloc, amount, scale)?;
+    writeln!(text, "{keyword} {amount}")
 }
 
 /// Puts a line for each vertex after the text.

@@ -3,8 +3,9 @@ ghost use Rattle.dimacs_writer.specs.Solution;
 ghost use Rattle.dimacs_writer.specs.Solution.{quoted_line, remark_lines, run_lines, solutions_lines, tree_lines};
 ghost use Rattle.dimacs_writer.specs.Writing.{IsWritten};
 
-use crate::lines::{put_edges, put_line, put_number, put_vertices};
-use std::alloc::AllocError;
+use crate::lines::{put_amount, put_edges, put_line, put_number, put_vertices};
+use amounts::Scale;
+use std::alloc::{AllocError, Global};
 
 /// Puts what follows the name in its section after the text.
 pub fn put_remark(text: &mut String, dual: u64, primal: u64) -> Result<(), AllocError>
@@ -27,24 +28,37 @@ fn remark_line(dual: u64, primal: u64) -> &'static str
 }
 
 /// Puts the section of the primal after the text.
-pub fn put_solutions(text: &mut String, primal: u64) -> Result<(), AllocError>
-    ensures { OnOk result (IsWritten (string_bytes text.old) (string_bytes text.new) (solutions_lines primal)) }
+pub fn put_solutions(
+    alloc: Global,
+    text: &mut String,
+    primal: u64,
+    scale: Scale,
+) -> Result<(), AllocError>
+    ensures { OnOk result (IsWritten (string_bytes text.old) (string_bytes text.new) (solutions_lines primal scale)) }
 {
     put_line(text, "SECTION Solutions")?;
-    put_number(text, "Solution 0", primal)?;
+    put_amount(alloc, text, "Solution 0", primal, scale)?;
     put_line(text, "END")?;
     Ok(())
 }
 
 /// Puts the section of the run after the text.
-pub fn put_run(text: &mut String, workers: u32, dual: u64, primal: u64) -> Result<(), AllocError>
-    ensures { OnOk result (IsWritten (string_bytes text.old) (string_bytes text.new) (run_lines workers dual primal)) }
+pub fn put_run(
+    alloc: Global,
+    text: &mut String,
+    workers: u32,
+    dual: u64,
+    primal: u64,
+    scale: Scale,
+) -> Result<(), AllocError>
+    ensures { OnOk result (IsWritten (string_bytes text.old) (string_bytes text.new)
+        (run_lines workers dual primal scale)) }
 {
     put_line(text, "SECTION Run")?;
     put_number(text, "Threads", u64::from(workers))?;
     put_line(text, "Time 0")?;
-    put_number(text, "Dual", dual)?;
-    put_number(text, "Primal", primal)?;
+    put_amount(alloc, text, "Dual", dual, scale)?;
+    put_amount(alloc, text, "Primal", primal, scale)?;
     put_line(text, "END")?;
     Ok(())
 }
