@@ -1,3 +1,4 @@
+use amounts::Scale;
 use dimacs_writer::solution_text;
 use solution_reader::{
     Claimed, SolError, SolReason, VerifyFault, read_solution, solutions_refused_exactly,
@@ -6,7 +7,7 @@ use solution_reader::{
 use st_model::{Instance, Listed, Need, Tree};
 use std::alloc::{AllocError, Global};
 use std::test::Fail;
-use test_instances::{links_of_triangle, pair};
+use test_instances::{link, links_of_triangle, pair, triangle_with_centre};
 
 mod drawn;
 
@@ -22,22 +23,42 @@ fn star(alloc: Global) -> Result<Instance, AllocError> {
     Instance::build(alloc, 5, &links_of_triangle(4), &needs)
 }
 
+// Three required vertices round a centre, to which they are linked at 1.5, 2 and 2, all counted in millionths.
+fn fine_star(alloc: Global) -> Result<Instance, AllocError> {
+    let links = [
+        link(1, 4, 1_500_000),
+        link(2, 4, 2_000_000),
+        link(3, 4, 2_000_000),
+    ];
+    let needs = [
+        (1, Need::Required),
+        (2, Need::Required),
+        (3, Need::Required),
+    ];
+    Instance::build(alloc, 4, &links, &needs)
+}
+
 // What `verify` answers of a text that reads.
-pub fn answer(alloc: Global, instance: &Instance, text: &[u8]) -> Result<u64, VerifyFault> {
+pub fn answer(
+    alloc: Global,
+    instance: &Instance,
+    scale: Scale,
+    text: &[u8],
+) -> Result<u64, VerifyFault> {
     match read_solution(alloc, text) {
-        Ok(claimed) => verify(alloc, instance, &claimed),
+        Ok(claimed) => verify(alloc, instance, scale, &claimed),
         Err(_) => Err(VerifyFault::NoMemory),
     }
 }
 
-// Whether a text is a tree that costs this.
+// Whether a text is a tree that costs this in wholes.
 fn costs(alloc: Global, instance: &Instance, text: &[u8], cost: u64) -> bool {
-    answer(alloc, instance, text) == Ok(cost)
+    answer(alloc, instance, Scale::Whole, text) == Ok(cost)
 }
 
 // Whether a text is no tree, for this fault first.
 fn is_no_tree(alloc: Global, instance: &Instance, text: &[u8], fault: VerifyFault) -> bool {
-    answer(alloc, instance, text) == Err(fault)
+    answer(alloc, instance, Scale::Whole, text) == Err(fault)
 }
 
 // Whether a text is refused at a line for a reason.
@@ -242,10 +263,58 @@ fn judges_the_star(rt: HostRuntime) -> Result<(), Fail> {
             answer(
                 rt.alloc(),
                 &instance,
+                Scale::Whole,
                 star_text(rt.alloc(), run, more)?.as_bytes()
             ) == wanted
         );
     }
+    Ok(())
+}
+
+/// What stands in Run beside the star that costs 5.5, counted in millionths, and what is answered.
+const FINE: &[(&str, Result<u64, VerifyFault>)] = &[
+    ("Primal 5.5", Ok(5_500_000)),
+    ("Primal 5.500000", Ok(5_500_000)),
+    ("Primal 5", Err(VerifyFault::CostDiffers)),
+    ("Primal 5.500001", Err(VerifyFault::CostDiffers)),
+    ("Primal 5500000", Err(VerifyFault::CostDiffers)),
+    // What is finer than millionths is passed over.
+    ("Primal 5.5000001", Ok(5_500_000)),
+    ("Primal 5.5\nPrimal 5.0000001", Ok(5_500_000)),
+    ("Primal 5\nPrimal 5.5000001", Err(VerifyFault::CostDiffers)),
+];
+
+/// The same beside the star that costs 6, counted in wholes.
+const WHOLE: &[(&str, Result<u64, VerifyFault>)] = &[
+    ("Primal 6", Ok(6)),
+    ("Primal 6.000000", Ok(6)),
+    ("Primal 6.5", Err(VerifyFault::CostDiffers)),
+    ("Primal 0.000006", Err(VerifyFault::CostDiffers)),
+];
+
+// Whether each row is answered so of the star's three links at this scale.
+fn are_answered(
+    alloc: Global,
+    instance: &Instance,
+    scale: Scale,
+    rows: &[(&str, Result<u64, VerifyFault>)],
+) -> Result<bool, AllocError> {
+    for row in rows {
+        let (run, wanted) = *row;
+        let text = star_text(alloc, run, "E 3 4")?;
+        if answer(alloc, instance, scale, text.as_bytes()) != wanted {
+            return Ok(false);
+        }
+    }
+    Ok(true)
+}
+
+#[test]
+fn judges_primals_at_both_scales(rt: HostRuntime) -> Result<(), Fail> {
+    let fine = fine_star(rt.alloc())?;
+    let whole = triangle_with_centre(rt.alloc(), 4)?;
+    assert!(rt; are_answered(rt.alloc(), &fine, Scale::Millionths, FINE)?);
+    assert!(rt; are_answered(rt.alloc(), &whole, Scale::Whole, WHOLE)?);
     Ok(())
 }
 
@@ -268,20 +337,45 @@ fn judges_vertices_alone(rt: HostRuntime) -> Result<(), Fail> {
     Ok(())
 }
 
-// Whether what is written of a tree is read and judged as this tree.
-fn comes_back(alloc: Global, instance: &Instance, tree: &Tree) -> Result<bool, AllocError> {
-    let text = solution_text(alloc, "row1.stp", 1, tree, 16, 16)?;
-    Ok(costs(alloc, instance, text.as_slice(), 16))
+// The tree of the three arcs from the centre of a star.
+fn star_tree(alloc: Global) -> Result<Tree, AllocError> {
+    let arcs = Vec::from_slice(alloc, &[(4, 1), (4, 2), (4, 3)])?;
+    Ok(Tree {
+        start: 4,
+        arcs: Listed::of(arcs),
+    })
+}
+
+// Whether what is written of a star's tree is read and judged as this tree, and differs in its cost at the other
+// scale.
+fn comes_back(
+    alloc: Global,
+    instance: &Instance,
+    cost: u64,
+    scale: Scale,
+    other: Scale,
+) -> Result<bool, AllocError> {
+    let tree = star_tree(alloc)?;
+    let text = solution_text(alloc, "row1.stp", 1, &tree, cost, cost, scale)?;
+    Ok(
+        answer(alloc, instance, scale, &text) == Ok(cost)
+            && answer(alloc, instance, other, &text) == Err(VerifyFault::CostDiffers),
+    )
 }
 
 #[test]
 fn judges_what_is_written(rt: HostRuntime) -> Result<(), Fail> {
-    let instance = star(rt.alloc())?;
-    let arcs = Vec::from_slice(rt.alloc(), &[(4, 1), (4, 2), (4, 3)])?;
-    let tree = Tree {
-        start: 4,
-        arcs: Listed::of(arcs),
-    };
-    assert!(rt; comes_back(rt.alloc(), &instance, &tree)?);
+    let whole = star(rt.alloc())?;
+    let fine = fine_star(rt.alloc())?;
+    assert!(rt; comes_back(rt.alloc(), &whole, 16, Scale::Whole, Scale::Millionths)?);
+    assert!(rt;
+        comes_back(
+            rt.alloc(),
+            &fine,
+            5_500_000,
+            Scale::Millionths,
+            Scale::Whole
+        )?
+    );
     Ok(())
 }

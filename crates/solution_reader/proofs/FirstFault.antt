@@ -3,6 +3,7 @@ use Rattle.std.proofs.Common.{◌≡◌, ◌≢◌, ℕ, ◌⊎◌, inl, inr, Re
 use Rattle.std.specs.Prelude.{IfOk, IfErr}
 use Rattle.std.proofs.lemmas.Bool.{cases_lt}
 use Rattle.st_model.specs.Network.{Network, IsInstance}
+use Rattle.amounts.specs.declared.scale.Scale.{Scale}
 use Rattle.solution_reader.specs.declared.verify_fault.VerifyFault.{VerifyFault}
 use Rattle.solution_reader.specs.declared.verify_fault.VerifyFault.TheVariants.{Empty, OutOfRange, NoLink, Repeated, NotConnected, Cycle, Missing, CostDiffers, NoMemory}
 use Rattle.solution_reader.specs.Claim.{Claim, IsClaim}
@@ -94,20 +95,20 @@ same_number NoMemory CostDiffers e = absurd (omega (arith, e))
 same_number NoMemory NoMemory e = refl
 
 -- a fault other than memory is the first that is wrong
-first_wrong : (I : Network) (claim : Claim) (f : VerifyFault) → f ≢ NoMemory → IsVerifyFault I claim f → IsFirstWrong I claim f
-first_wrong I claim Empty other h = h
-first_wrong I claim OutOfRange other h = h
-first_wrong I claim NoLink other h = h
-first_wrong I claim Repeated other h = h
-first_wrong I claim NotConnected other h = h
-first_wrong I claim Cycle other h = h
-first_wrong I claim Missing other h = h
-first_wrong I claim CostDiffers other h = h
-first_wrong I claim NoMemory other h = absurd (other refl)
+first_wrong : (I : Network) (scale : Scale) (claim : Claim) (f : VerifyFault) → f ≢ NoMemory → IsVerifyFault I scale claim f → IsFirstWrong I scale claim f
+first_wrong I scale claim Empty other h = h
+first_wrong I scale claim OutOfRange other h = h
+first_wrong I scale claim NoLink other h = h
+first_wrong I scale claim Repeated other h = h
+first_wrong I scale claim NotConnected other h = h
+first_wrong I scale claim Cycle other h = h
+first_wrong I scale claim Missing other h = h
+first_wrong I scale claim CostDiffers other h = h
+first_wrong I scale claim NoMemory other h = absurd (other refl)
 
 -- two first faults are one
-pub one_first : (I : Network) (claim : Claim) (f g : VerifyFault) → IsFirstWrong I claim f → IsFirstWrong I claim g → f ≡ g
-one_first I claim f g h k = elim (cases_lt (number_of f) (number_of g)) [
+pub one_first : (I : Network) (scale : Scale) (claim : Claim) (f g : VerifyFault) → IsFirstWrong I scale claim f → IsFirstWrong I scale claim g → f ≡ g
+one_first I scale claim f g h k = elim (cases_lt (number_of f) (number_of g)) [
   | inl below ↦ absurd (k.first f below h.wrong)
   | inr above ↦ elim (cases_lt (number_of g) (number_of f)) [
     | inl below ↦ absurd (h.first g below k.wrong)
@@ -127,16 +128,16 @@ memory_or CostDiffers = inr (λ e. cc)
 memory_or NoMemory = inl refl
 
 -- what is answered, where the claim is such a tree
-pub answers_cost : (I : Network) (claim : Claim) (r : Result ℕ VerifyFault) → IsInstance I → IsClaim claim → IfOk r (IsStated I claim) → IfErr r (IsVerifyFault I claim) → (c : ℕ)
-    → IsStated I claim c → (r ≡ Ok c) ⊎ (r ≡ Err NoMemory)
-answers_cost I claim (Ok d) instance is tree fault c s = inl (ap Ok (one_cost I claim d c tree s))
-answers_cost I claim (Err f) instance is tree fault c s = inr (ap (λ (g : VerifyFault). Err g) (stated_has_no_fault_lem I claim c f instance is s fault))
+pub answers_cost : (I : Network) (scale : Scale) (claim : Claim) (r : Result ℕ VerifyFault) → IsInstance I → IsClaim claim → IfOk r (IsStated I scale claim) → IfErr r (IsVerifyFault I scale claim) → (c : ℕ)
+    → IsStated I scale claim c → (r ≡ Ok c) ⊎ (r ≡ Err NoMemory)
+answers_cost I scale claim (Ok d) instance is tree fault c s = inl (ap Ok (one_cost I scale claim d c tree s))
+answers_cost I scale claim (Err f) instance is tree fault c s = inr (ap (λ (g : VerifyFault). Err g) (stated_has_no_fault_lem I scale claim c f instance is s fault))
 
 -- what is answered, where the claim has a fault
-pub answers_fault : (I : Network) (claim : Claim) (r : Result ℕ VerifyFault) → IsInstance I → IsClaim claim → IfOk r (IsStated I claim) → IfErr r (IsVerifyFault I claim) → (f : VerifyFault)
-    → IsVerifyFault I claim f → f ≢ NoMemory → (r ≡ Err f) ⊎ (r ≡ Err NoMemory)
-answers_fault I claim (Ok c) instance is tree fault f h other = absurd (other (stated_has_no_fault_lem I claim c f instance is tree h))
-answers_fault I claim (Err g) instance is tree fault f h other = elim (memory_or g) [
+pub answers_fault : (I : Network) (scale : Scale) (claim : Claim) (r : Result ℕ VerifyFault) → IsInstance I → IsClaim claim → IfOk r (IsStated I scale claim) → IfErr r (IsVerifyFault I scale claim) → (f : VerifyFault)
+    → IsVerifyFault I scale claim f → f ≢ NoMemory → (r ≡ Err f) ⊎ (r ≡ Err NoMemory)
+answers_fault I scale claim (Ok c) instance is tree fault f h other = absurd (other (stated_has_no_fault_lem I scale claim c f instance is tree h))
+answers_fault I scale claim (Err g) instance is tree fault f h other = elim (memory_or g) [
   | inl none ↦ inr (ap (λ (x : VerifyFault). Err x) none)
-  | inr some ↦ inl (ap (λ (x : VerifyFault). Err x) (one_first I claim g f (first_wrong I claim g some fault) (first_wrong I claim f other h)))
+  | inr some ↦ inl (ap (λ (x : VerifyFault). Err x) (one_first I scale claim g f (first_wrong I scale claim g some fault) (first_wrong I scale claim f other h)))
 ]

@@ -7,6 +7,8 @@ use Rattle.std.proofs.lemmas.Bool.Decides.{nat_tests}
 use Rattle.std.proofs.lemmas.List.Elements.{All-from_recursion, All-contains}
 use Rattle.st_model.specs.Lists.{has}
 use Rattle.st_model.specs.Network.{Network, IsVertex, link}
+use Rattle.amounts.specs.declared.scale.Scale.{Scale}
+use Rattle.amounts.specs.Laws.{unit}
 use Rattle.solution_reader.specs.declared.verify_fault.VerifyFault.{VerifyFault}
 use Rattle.solution_reader.specs.declared.verify_fault.VerifyFault.TheVariants.{Empty, OutOfRange, NoLink, Repeated, NotConnected, Cycle, Missing, NoMemory}
 use Rattle.solution_reader.specs.Claim.{Claim}
@@ -83,30 +85,30 @@ no_lack I es h (edge, there, none) =
 -- ---- one fault after the other
 
 -- no fault of a number below this one
-pub record IsClean (I : Network) (claim : Claim) (k : ℕ) : Type 0 where
-  pub none : (g : VerifyFault) → number_of g < k → IsWrong I claim g → ⊥
+pub record IsClean (I : Network) (scale : Scale) (claim : Claim) (k : ℕ) : Type 0 where
+  pub none : (g : VerifyFault) → number_of g < k → IsWrong I scale claim g → ⊥
 
-pub clean_first : (I : Network) (claim : Claim) → IsClean I claim 1
-clean_first I claim = record { none = λ g below wrong. of_none g (omega (arith, below)) wrong }
+pub clean_first : (I : Network) (scale : Scale) (claim : Claim) → IsClean I scale claim 1
+clean_first I scale claim = record { none = λ g below wrong. of_none g (omega (arith, below)) wrong }
   where
-    of_none : (g : VerifyFault) → number_of g ≡ 0 → IsWrong I claim g → ⊥
-    of_none g e wrong = subst (λ (x : VerifyFault). IsWrong I claim x) (same_number g NoMemory e) wrong
+    of_none : (g : VerifyFault) → number_of g ≡ 0 → IsWrong I scale claim g → ⊥
+    of_none g e wrong = subst (λ (x : VerifyFault). IsWrong I scale claim x) (same_number g NoMemory e) wrong
 
-pub clean_next : (I : Network) (claim : Claim) (k : ℕ) (f : VerifyFault) → IsClean I claim k → number_of f ≡ k → (IsWrong I claim f → ⊥) → IsClean I claim (k + 1)
-clean_next I claim k f clean here right = record {
+pub clean_next : (I : Network) (scale : Scale) (claim : Claim) (k : ℕ) (f : VerifyFault) → IsClean I scale claim k → number_of f ≡ k → (IsWrong I scale claim f → ⊥) → IsClean I scale claim (k + 1)
+clean_next I scale claim k f clean here right = record {
   none = λ g below wrong. elim (cases_lt (number_of g) k) [
     | inl before ↦ clean.none g before wrong
-    | inr at ↦ right (subst (λ (x : VerifyFault). IsWrong I claim x) (same_number g f (omega (arith, below, here))) wrong)
+    | inr at ↦ right (subst (λ (x : VerifyFault). IsWrong I scale claim x) (same_number g f (omega (arith, below, here))) wrong)
   ];
 }
 
-pub first_of : (I : Network) (claim : Claim) (f : VerifyFault) → IsClean I claim (number_of f) → IsWrong I claim f → IsFirstWrong I claim f
-first_of I claim f clean wrong = record { wrong = wrong; first = clean.none }
+pub first_of : (I : Network) (scale : Scale) (claim : Claim) (f : VerifyFault) → IsClean I scale claim (number_of f) → IsWrong I scale claim f → IsFirstWrong I scale claim f
+first_of I scale claim f clean wrong = record { wrong = wrong; first = clean.none }
 
 -- ---- all but the cost
 
-pub fitting : (I : Network) (claim : Claim) → IsClean I claim 8 → IsFitting I claim
-fitting I claim clean = record {
+pub fitting : (I : Network) (scale : Scale) (claim : Claim) → IsClean I scale claim 8 → IsFitting I claim
+fitting I scale claim clean = record {
   in_range = clean.none OutOfRange (omega arith);
   links = clean.none NoLink (omega arith);
   once = by_case (repeats claim.edges) refl;
@@ -124,19 +126,19 @@ fitting I claim clean = record {
 
 -- ---- the cost
 
-pub other_cost : (I : Network) (claim : Claim) (c : ℕ) → Costs I claim c → differs_from c claim.primal ≡ true → CostsOther I claim
-other_cost I claim c k h = by_case claim.primal refl h
+pub other_cost : (I : Network) (scale : Scale) (claim : Claim) (c : ℕ) → Costs I claim c → differs_from scale c claim.primal ≡ true → CostsOther I scale claim
+other_cost I scale claim c k h = by_case claim.primal refl h
   where
-    by_case : (o : Option ℕ) → claim.primal ≡ o → differs_from c o ≡ true → CostsOther I claim
+    by_case : (o : Option ℕ) → claim.primal ≡ o → differs_from scale c o ≡ true → CostsOther I scale claim
     by_case None is h = absurd (false≢true h)
-    by_case (Some p) is h = (p, is, λ same. false≢true (sym (ap not (eq-eqb p (c * 1000000) (same ∙ ap (λ (x : ℕ). x * 1000000) (sym (k.is ∙ cost_is I claim k.tree k.claimed))))) ∙ h))
+    by_case (Some p) is h = (p, is, λ same. false≢true (sym (ap not (eq-eqb p (c * unit scale) (same ∙ ap (λ (x : ℕ). x * unit scale) (sym (k.is ∙ cost_is I claim k.tree k.claimed))))) ∙ h))
 
-pub its_cost : (I : Network) (claim : Claim) (c : ℕ) → Costs I claim c → differs_from c claim.primal ≡ false → IsStated I claim c
-its_cost I claim c k h = record { tree = k.tree; claimed = k.claimed; cost = k.is; primal = by_case claim.primal h }
+pub its_cost : (I : Network) (scale : Scale) (claim : Claim) (c : ℕ) → Costs I claim c → differs_from scale c claim.primal ≡ false → IsStated I scale claim c
+its_cost I scale claim c k h = record { tree = k.tree; claimed = k.claimed; cost = k.is; primal = by_case claim.primal h }
   where
-    by_case : (o : Option ℕ) → differs_from c o ≡ false → IfSome o (λ p. p ≡ c * 1000000)
+    by_case : (o : Option ℕ) → differs_from scale c o ≡ false → IfSome o (λ p. p ≡ c * unit scale)
     by_case None h = tt
-    by_case (Some p) h = eqb-true p (c * 1000000) (turned (p == c * 1000000) h)
+    by_case (Some p) h = eqb-true p (c * unit scale) (turned (p == c * unit scale) h)
       where
         turned : (b : Bool) → not b ≡ false → b ≡ true
         turned true h = refl
@@ -146,23 +148,23 @@ its_cost I claim c k h = record { tree = k.tree; claimed = k.claimed; cost = k.i
 pub told : {A B : Type 0} (f : A → B → Bool) (a x : A) (b y : B) (r s : Bool) → r ≡ f x y → x ≡ a → y ≡ b → r ≡ s → f a b ≡ s
 told f a x b y r s e p q t = sym (ap (λ z. f z y) p ∙ ap (f a) q) ∙ (sym e ∙ t)
 
-pub clean_2 : (I : Network) (claim : Claim) (start : ℕ) → IsTrue (has claim.vertices start) → IsClean I claim 2
-clean_2 I claim start there = clean_next I claim 1 Empty (clean_first I claim) refl (λ none. false≢true (ap (λ (vs : List ℕ). has vs start) (sym none) ∙ there))
+pub clean_2 : (I : Network) (scale : Scale) (claim : Claim) (start : ℕ) → IsTrue (has claim.vertices start) → IsClean I scale claim 2
+clean_2 I scale claim start there = clean_next I scale claim 1 Empty (clean_first I scale claim) refl (λ none. false≢true (ap (λ (vs : List ℕ). has vs start) (sym none) ∙ there))
 
-pub clean_3 : (I : Network) (claim : Claim) → IsClean I claim 2 → has_stranger I.n claim.vertices ≡ false → IsClean I claim 3
-clean_3 I claim clean e = clean_next I claim 2 OutOfRange clean refl (no_stranger I.n claim.vertices e)
+pub clean_3 : (I : Network) (scale : Scale) (claim : Claim) → IsClean I scale claim 2 → has_stranger I.n claim.vertices ≡ false → IsClean I scale claim 3
+clean_3 I scale claim clean e = clean_next I scale claim 2 OutOfRange clean refl (no_stranger I.n claim.vertices e)
 
-pub clean_4 : (I : Network) (claim : Claim) → IsClean I claim 3 → lacks_link I claim.edges ≡ false → IsClean I claim 4
-clean_4 I claim clean e = clean_next I claim 3 NoLink clean refl (no_lack I claim.edges e)
+pub clean_4 : (I : Network) (scale : Scale) (claim : Claim) → IsClean I scale claim 3 → lacks_link I claim.edges ≡ false → IsClean I scale claim 4
+clean_4 I scale claim clean e = clean_next I scale claim 3 NoLink clean refl (no_lack I claim.edges e)
 
-pub clean_5 : (I : Network) (claim : Claim) → IsClean I claim 4 → repeats claim.edges ≡ false → IsClean I claim 5
-clean_5 I claim clean e = clean_next I claim 4 Repeated clean refl (λ twice. false≢true (sym e ∙ twice))
+pub clean_5 : (I : Network) (scale : Scale) (claim : Claim) → IsClean I scale claim 4 → repeats claim.edges ≡ false → IsClean I scale claim 5
+clean_5 I scale claim clean e = clean_next I scale claim 4 Repeated clean refl (λ twice. false≢true (sym e ∙ twice))
 
-pub clean_6 : (I : Network) (claim : Claim) → IsClean I claim 5 → (IsApart claim → ⊥) → IsClean I claim 6
-clean_6 I claim clean none = clean_next I claim 5 NotConnected clean refl none
+pub clean_6 : (I : Network) (scale : Scale) (claim : Claim) → IsClean I scale claim 5 → (IsApart claim → ⊥) → IsClean I scale claim 6
+clean_6 I scale claim clean none = clean_next I scale claim 5 NotConnected clean refl none
 
-pub clean_7 : (I : Network) (claim : Claim) → IsClean I claim 6 → length claim.edges < length claim.vertices → IsClean I claim 7
-clean_7 I claim clean few = clean_next I claim 6 Cycle clean refl (λ many. absurd (omega (arith, few, many)))
+pub clean_7 : (I : Network) (scale : Scale) (claim : Claim) → IsClean I scale claim 6 → length claim.edges < length claim.vertices → IsClean I scale claim 7
+clean_7 I scale claim clean few = clean_next I scale claim 6 Cycle clean refl (λ many. absurd (omega (arith, few, many)))
 
-pub clean_8 : (I : Network) (claim : Claim) → IsClean I claim 7 → (LacksTerminal I claim → ⊥) → IsClean I claim 8
-clean_8 I claim clean none = clean_next I claim 7 Missing clean refl none
+pub clean_8 : (I : Network) (scale : Scale) (claim : Claim) → IsClean I scale claim 7 → (LacksTerminal I claim → ⊥) → IsClean I scale claim 8
+clean_8 I scale claim clean none = clean_next I scale claim 7 Missing clean refl none

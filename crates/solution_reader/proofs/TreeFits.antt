@@ -16,6 +16,8 @@ use Rattle.st_model.proofs.Distinct.{link-comm}
 use Rattle.st_model.proofs.Reaching.{tree-vertex}
 use Rattle.st_model.proofs.RegrowAlike.{total-IsPermutation}
 use Rattle.st_model.proofs.RegrowLaws.{missed-same}
+use Rattle.amounts.specs.declared.scale.Scale.{Scale}
+use Rattle.amounts.specs.Laws.{unit}
 use Rattle.solution_reader.specs.declared.verify_fault.VerifyFault.TheVariants.{Empty, OutOfRange, NoLink, Repeated, NotConnected, Cycle, Missing, CostDiffers, NoMemory}
 use Rattle.solution_reader.specs.Claim.{Claim, IsClaim}
 use Rattle.solution_reader.specs.Stated.{IsClaimedTree, IsStated, IsApart, HasStranger, LacksLink, LacksTerminal, CostsOther, StatedHasNoFault, claimed_cost, repeats}
@@ -143,25 +145,25 @@ cost_is I claim t k =
     let missed_same = missed-same I I.n (reached t) claim.vertices k.vertices in
     omega (arith, links, missed_same)
 
-primal_is : (o : Option ℕ) (p c : ℕ) → IfSome o (λ q. q ≡ c * 1000000) → o ≡ Some p → p ≡ c * 1000000
-primal_is None p c h e = absurd cc
-primal_is (Some q) p c h e = let same : q ≡ p = cc in sym same ∙ h
+primal_is : (o : Option ℕ) (p x : ℕ) → IfSome o (λ q. q ≡ x) → o ≡ Some p → p ≡ x
+primal_is None p x h e = absurd cc
+primal_is (Some q) p x h e = let same : q ≡ p = cc in sym same ∙ h
 
-pub not_other : (I : Network) (claim : Claim) (c : ℕ) → IsStated I claim c → CostsOther I claim → ⊥
-not_other I claim c s (p, is, differs) =
-    differs (primal_is claim.primal p c s.primal is ∙ ap (λ (x : ℕ). x * 1000000) (s.cost ∙ cost_is I claim s.tree s.claimed))
+pub not_other : (I : Network) (scale : Scale) (claim : Claim) (c : ℕ) → IsStated I scale claim c → CostsOther I scale claim → ⊥
+not_other I scale claim c s (p, is, differs) =
+    differs (primal_is claim.primal p (c * unit scale) s.primal is ∙ ap (λ (x : ℕ). x * unit scale) (s.cost ∙ cost_is I claim s.tree s.claimed))
 
 -- a claim that is a tree of an instance has one cost
-pub one_cost : (I : Network) (claim : Claim) (c d : ℕ) → IsStated I claim c → IsStated I claim d → c ≡ d
-one_cost I claim c d s o = (s.cost ∙ cost_is I claim s.tree s.claimed) ∙ sym (o.cost ∙ cost_is I claim o.tree o.claimed)
+pub one_cost : (I : Network) (scale : Scale) (claim : Claim) (c d : ℕ) → IsStated I scale claim c → IsStated I scale claim d → c ≡ d
+one_cost I scale claim c d s o = (s.cost ∙ cost_is I claim s.tree s.claimed) ∙ sym (o.cost ∙ cost_is I claim o.tree o.claimed)
 
 pub stated_has_no_fault_lem : StatedHasNoFault
-stated_has_no_fault_lem I claim c Empty instance is s f = absurd (not_empty I claim s.tree s.claimed f.wrong)
-stated_has_no_fault_lem I claim c OutOfRange instance is s f = absurd (not_stranger I claim s.tree instance s.claimed f.wrong)
-stated_has_no_fault_lem I claim c NoLink instance is s f = absurd (not_lacking I claim s.tree s.claimed f.wrong)
-stated_has_no_fault_lem I claim c Repeated instance is s f = absurd (false≢true (sym (not_repeated I claim s.tree s.claimed) ∙ f.wrong))
-stated_has_no_fault_lem I claim c NotConnected instance is s f = absurd (not_apart I claim s.tree s.claimed f.wrong)
-stated_has_no_fault_lem I claim c Cycle instance is s f = absurd (not_cycle I claim s.tree is s.claimed f.wrong)
-stated_has_no_fault_lem I claim c Missing instance is s f = absurd (not_lacking_terminal I claim s.tree s.claimed f.wrong)
-stated_has_no_fault_lem I claim c CostDiffers instance is s f = absurd (not_other I claim c s f.wrong)
-stated_has_no_fault_lem I claim c NoMemory instance is s f = refl
+stated_has_no_fault_lem I scale claim c Empty instance is s f = absurd (not_empty I claim s.tree s.claimed f.wrong)
+stated_has_no_fault_lem I scale claim c OutOfRange instance is s f = absurd (not_stranger I claim s.tree instance s.claimed f.wrong)
+stated_has_no_fault_lem I scale claim c NoLink instance is s f = absurd (not_lacking I claim s.tree s.claimed f.wrong)
+stated_has_no_fault_lem I scale claim c Repeated instance is s f = absurd (false≢true (sym (not_repeated I claim s.tree s.claimed) ∙ f.wrong))
+stated_has_no_fault_lem I scale claim c NotConnected instance is s f = absurd (not_apart I claim s.tree s.claimed f.wrong)
+stated_has_no_fault_lem I scale claim c Cycle instance is s f = absurd (not_cycle I claim s.tree is s.claimed f.wrong)
+stated_has_no_fault_lem I scale claim c Missing instance is s f = absurd (not_lacking_terminal I claim s.tree s.claimed f.wrong)
+stated_has_no_fault_lem I scale claim c CostDiffers instance is s f = absurd (not_other I scale claim c s f.wrong)
+stated_has_no_fault_lem I scale claim c NoMemory instance is s f = refl

@@ -8,8 +8,13 @@ use Rattle.std.proofs.lemmas.Bool.Decides.{nat_tests}
 use Rattle.std.proofs.lemmas.List.{append-nil}
 use Rattle.plain_text.specs.Numbers.{value}
 use Rattle.plain_text.proofs.Lacking.{lacks, lacks-append, lacks-decimal, are_whole}
+use Rattle.amounts.specs.declared.scale.Scale.{Scale}
+use Rattle.amounts.specs.Text.{amount_text}
+use Rattle.amounts.specs.Laws.{unit}
+use Rattle.amounts.proofs.Decimals.{value_decimal}
+use Rattle.amounts.proofs.Reread.{lacks-amount_text}
 use Rattle.stp_reader.specs.Lines.{words, word_lines, is_remark}
-use Rattle.dimacs_writer.specs.Solution.{number_line, quoted_line, name_byte, remark, comment_lines, solutions_lines, run_lines, tree_lines, vertex_line, edge_line, header, solution_text_of}
+use Rattle.dimacs_writer.specs.Solution.{number_line, amount_line, quoted_line, name_byte, remark, comment_lines, solutions_lines, run_lines, tree_lines, vertex_line, edge_line, header, solution_text_of}
 use Rattle.solution_reader.specs.declared.keyword.Keyword.TheVariants.{Other}
 use Rattle.solution_reader.specs.Words.{keyword_of, section_of}
 use Rattle.solution_reader.specs.Forms.{form_of}
@@ -18,7 +23,7 @@ use Rattle.solution_reader.specs.Reason.{or_else}
 use Rattle.solution_reader.specs.Place.{Final, Got, Whole, Place, nothing, no_lines, with_primal, at_header, outside, passed_over, in_run, in_final, after_end, after, after_all}
 use Rattle.solution_reader.specs.Reasons.{reason, repeated}
 use Rattle.solution_reader.specs.Reads.{AllRight, IsRead, whole_at}
-use Rattle.solution_reader.proofs.WrittenWords.{line_words, lines_written, no_cr, quote_last, one_more_word, value_decimal, number_right, millionths_decimal, number_whole, number_words, numbers_words}
+use Rattle.solution_reader.proofs.WrittenWords.{line_words, lines_written, no_cr, quote_last, one_more_word, number_right, primal_written, amount_whole, amount_words, number_whole, number_words, numbers_words}
 
 -- no line has a reason, the last leads to this place, and none has an end within it
 pub record Goes (place : Place) (lines : List (List ℕ)) (next : Place) : Type 0 where
@@ -112,27 +117,27 @@ solutions_opens : Goes (outside nothing) (codes "SECTION Solutions" ∷ []) (pas
 unfolding keyword_of section_of form_of
 solutions_opens = one_line (outside nothing) (passed_over nothing) (codes "SECTION Solutions") (codes "SECTION" ∷ codes "Solutions" ∷ []) refl refl refl refl
 
-solution_goes : (primal : ℕ) → Goes (passed_over nothing) (number_line (codes "Solution 0") primal ∷ []) (passed_over nothing)
+solution_goes : (primal : ℕ) (scale : Scale) → Goes (passed_over nothing) (amount_line (codes "Solution 0") primal scale ∷ []) (passed_over nothing)
 unfolding keyword_of
-solution_goes primal =
-    let line = number_line (codes "Solution 0") primal in
-    let rest = codes "0" ++ 32 ∷ decimal primal in
+solution_goes primal scale =
+    let line = amount_line (codes "Solution 0") primal scale in
+    let rest = codes "0" ++ 32 ∷ amount_text primal scale in
     let same : line ≡ codes "Solution" ++ 32 ∷ rest = refl in
-    let lacking : lacks 13 line ≡ true = lacks-append 13 (codes "Solution 0") (32 ∷ decimal primal) refl (lacks-decimal 13 primal (omega arith)) in
+    let lacking : lacks 13 line ≡ true = lacks-append 13 (codes "Solution 0") (32 ∷ amount_text primal scale) refl (lacks-amount_text 13 primal scale (omega arith)) in
     let are : line_words line ≡ codes "Solution" ∷ words rest = ap words (no_cr line lacking ∙ same) ∙ one_more_word (codes "Solution") rest refl in
-    passed_line nothing line (codes "Solution") (words rest) are refl refl (number_whole (codes "Solution 0") primal refl)
+    passed_line nothing line (codes "Solution") (words rest) are refl refl (amount_whole (codes "Solution 0") primal scale refl)
 
-solutions_go : (primal : ℕ) → Goes (outside nothing) (solutions_lines primal) (outside nothing)
-solutions_go primal = solutions_opens onto solution_goes primal onto passed_ends nothing
+solutions_go : (primal : ℕ) (scale : Scale) → Goes (outside nothing) (solutions_lines primal scale) (outside nothing)
+solutions_go primal scale = solutions_opens onto solution_goes primal scale onto passed_ends nothing
 
 -- ---- Run
 
--- what is stated when Run has begun, and when it has said the primal
+-- what is stated when Run has begun, and when it has said the primal, in millionths
 abbrev ran : Got
 ran = record { run = true; primal = None; final = None }
 
 abbrev pub priced : ℕ → Got
-priced p = record { run = true; primal = Some (p * 1000000); final = None }
+priced p = record { run = true; primal = Some p; final = None }
 
 run_opens : Goes (outside nothing) (codes "SECTION Run" ∷ []) (in_run ran)
 unfolding keyword_of section_of form_of
@@ -147,22 +152,24 @@ time_goes : Goes (in_run ran) (codes "Time 0" ∷ []) (in_run ran)
 unfolding keyword_of
 time_goes = run_line ran (codes "Time 0") (codes "Time") (codes "0" ∷ []) refl refl refl refl
 
-dual_goes : (dual : ℕ) → dual < 2 ^ 64 → Goes (in_run ran) (number_line (codes "Dual") dual ∷ []) (in_run ran)
+dual_goes : (dual : ℕ) (scale : Scale) → dual < 2 ^ 64 → Goes (in_run ran) (amount_line (codes "Dual") dual scale ∷ []) (in_run ran)
 unfolding keyword_of
-dual_goes dual small = run_line ran (number_line (codes "Dual") dual) (codes "Dual") (decimal dual ∷ []) (number_words (codes "Dual") dual small refl refl) refl refl (number_whole
-    (codes "Dual") dual refl)
+dual_goes dual scale small = run_line ran (amount_line (codes "Dual") dual scale) (codes "Dual") (amount_text dual scale ∷ []) (amount_words (codes "Dual") dual scale small refl refl) refl refl
+    (amount_whole (codes "Dual") dual scale refl)
 
-primal_goes : (primal : ℕ) → primal < 2 ^ 64 → Goes (in_run ran) (number_line (codes "Primal") primal ∷ []) (in_run (priced primal))
+primal_goes : (primal : ℕ) (scale : Scale) → primal < 2 ^ 64 → Goes (in_run ran) (amount_line (codes "Primal") primal scale ∷ []) (in_run (priced (primal * unit scale)))
 unfolding keyword_of form_of
-primal_goes primal small = one_line (in_run ran) (in_run (priced primal)) (number_line (codes "Primal") primal) (codes "Primal" ∷ decimal primal ∷ [])
-    (number_words (codes "Primal") primal small refl refl) refl (ap (λ (o : Option ℕ). in_run (with_primal ran o)) (millionths_decimal primal small)) (number_whole (codes "Primal") primal refl)
+primal_goes primal scale small = one_line (in_run ran) (in_run (priced (primal * unit scale))) (amount_line (codes "Primal") primal scale) (codes "Primal" ∷ amount_text primal scale ∷ [])
+    (amount_words (codes "Primal") primal scale small refl refl) refl (ap (λ (o : Option ℕ). in_run (with_primal ran o)) (primal_written primal scale small)) (amount_whole (codes "Primal") primal scale refl)
 
 run_ends : (got : Got) → Goes (in_run got) (codes "END" ∷ []) (outside got)
 unfolding keyword_of form_of
 run_ends got = one_line (in_run got) (outside got) (codes "END") (codes "END" ∷ []) refl refl refl refl
 
-run_goes : (workers dual primal : ℕ) → workers < 2 ^ 64 → dual < 2 ^ 64 → primal < 2 ^ 64 → Goes (outside nothing) (run_lines workers dual primal) (outside (priced primal))
-run_goes workers dual primal few low small = run_opens onto threads_go workers few onto time_goes onto dual_goes dual low onto primal_goes primal small onto run_ends (priced primal)
+run_goes : (workers dual primal : ℕ) (scale : Scale) → workers < 2 ^ 64 → dual < 2 ^ 64 → primal < 2 ^ 64
+    → Goes (outside nothing) (run_lines workers dual primal scale) (outside (priced (primal * unit scale)))
+run_goes workers dual primal scale few low small = run_opens onto threads_go workers few onto time_goes onto dual_goes dual scale low onto primal_goes primal scale small
+    onto run_ends (priced (primal * unit scale))
 
 -- ---- Finalsolution
 
@@ -224,12 +231,12 @@ edges_go got k vs m before [] few = goes_to (no_line (in_final got (both_listed 
 edges_go got k vs m before (e ∷ es) few = goes_to (edge_goes got k vs m before e few.0.0 few.0.1 onto edges_go got k vs m (before ++ e ∷ []) es few.1) (ap (λ (fs : List (ℕ × ℕ)). in_final got
     (both_listed k vs m fs)) (append_assoc before (e ∷ []) es))
 
--- the whole that is stated in the end
+-- the whole that is stated in the end, at a primal in millionths
 abbrev pub whole_said : ℕ → List ℕ → List (ℕ × ℕ) → Whole
-whole_said p vs es = record { primal = Some (p * 1000000); final = both_listed (length vs) vs (length es) es }
+whole_said p vs es = record { primal = Some p; final = both_listed (length vs) vs (length es) es }
 
 abbrev done : ℕ → List ℕ → List (ℕ × ℕ) → Got
-done p vs es = record { run = true; primal = Some (p * 1000000); final = Some (both_listed (length vs) vs (length es) es) }
+done p vs es = record { run = true; primal = Some p; final = Some (both_listed (length vs) vs (length es) es) }
 
 final_ends : (p : ℕ) (vs : List ℕ) (es : List (ℕ × ℕ)) → Goes (in_final (priced p) (both_listed (length vs) vs (length es) es)) (codes "END" ∷ []) (outside (done p vs es))
 unfolding keyword_of form_of
@@ -255,18 +262,21 @@ tree_goes p vs es few =
     onto (edge_count_goes (priced p) (length vs) vs (length es) few.edges onto edges_go (priced p) (length vs) vs (length es) [] es few.small_ends) onto final_ends p vs es
 
 -- all lines of a solution
-abbrev solution_lines : List ℕ → ℕ → List ℕ → List (ℕ × ℕ) → ℕ → ℕ → List (List ℕ)
-solution_lines name workers vs es dual primal = header ∷ comment_lines name dual primal ++ solutions_lines primal ++ run_lines workers dual primal ++ tree_lines vs es ++ codes "EOF" ∷ []
+abbrev solution_lines : List ℕ → ℕ → List ℕ → List (ℕ × ℕ) → ℕ → ℕ → Scale → List (List ℕ)
+solution_lines name workers vs es dual primal scale =
+    header ∷ comment_lines name dual primal ++ solutions_lines primal scale ++ run_lines workers dual primal scale ++ tree_lines vs es ++ codes "EOF" ∷ []
 
-all_lines_go : (name : List ℕ) (workers dual primal : ℕ) (vs : List ℕ) (es : List (ℕ × ℕ)) → workers < 2 ^ 64 → dual < 2 ^ 64 → primal < 2 ^ 64 → AreFew vs es
-    → Goes at_header (solution_lines name workers vs es dual primal) (after_end (whole_said primal vs es))
-all_lines_go name workers dual primal vs es few low small are =
-    header_goes onto comment_goes name dual primal onto solutions_go primal onto run_goes workers dual primal few low small onto tree_goes primal vs es are onto text_ends primal vs es
+all_lines_go : (name : List ℕ) (workers dual primal : ℕ) (scale : Scale) (vs : List ℕ) (es : List (ℕ × ℕ)) → workers < 2 ^ 64 → dual < 2 ^ 64 → primal < 2 ^ 64 → AreFew vs es
+    → Goes at_header (solution_lines name workers vs es dual primal scale) (after_end (whole_said (primal * unit scale) vs es))
+all_lines_go name workers dual primal scale vs es few low small are =
+    let p = primal * unit scale in
+    header_goes onto comment_goes name dual primal onto solutions_go primal scale onto run_goes workers dual primal scale few low small onto tree_goes p vs es are onto text_ends p vs es
 
-pub written_reads : (name : List ℕ) (workers dual primal : ℕ) (vs : List ℕ) (es : List (ℕ × ℕ)) → workers < 2 ^ 64 → dual < 2 ^ 64 → primal < 2 ^ 64 → AreFew vs es
-    → IsRead (word_lines (solution_text_of name workers vs es dual primal)) (whole_said primal vs es)
+pub written_reads : (name : List ℕ) (workers dual primal : ℕ) (scale : Scale) (vs : List ℕ) (es : List (ℕ × ℕ)) → workers < 2 ^ 64 → dual < 2 ^ 64 → primal < 2 ^ 64 → AreFew vs es
+    → IsRead (word_lines (solution_text_of name workers vs es dual primal scale)) (whole_said (primal * unit scale) vs es)
 unfolding solution_text_of
-written_reads name workers dual primal vs es few low small are =
-    let goes = all_lines_go name workers dual primal vs es few low small are in
-    let read : IsRead (map line_words (solution_lines name workers vs es dual primal)) (whole_said primal vs es) = record { right = goes.right; whole = ap whole_at goes.leads } in
-    subst (λ (ls : List (List (List ℕ))). IsRead ls (whole_said primal vs es)) (sym (lines_written (solution_lines name workers vs es dual primal) goes.whole)) read
+written_reads name workers dual primal scale vs es few low small are =
+    let said = whole_said (primal * unit scale) vs es in
+    let goes = all_lines_go name workers dual primal scale vs es few low small are in
+    let read : IsRead (map line_words (solution_lines name workers vs es dual primal scale)) said = record { right = goes.right; whole = ap whole_at goes.leads } in
+    subst (λ (ls : List (List (List ℕ))). IsRead ls said) (sym (lines_written (solution_lines name workers vs es dual primal scale) goes.whole)) read

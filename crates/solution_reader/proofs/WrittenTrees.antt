@@ -27,6 +27,7 @@ use Rattle.st_model.proofs.Members.{has-append}
 use Rattle.st_model.proofs.Marked.{AllApart-few, AllApart-from_increasing, has_at}
 use Rattle.st_model.proofs.Reaching.{tree-vertex}
 use Rattle.st_model.proofs.ThinGrowth.{has-reached_from}
+use Rattle.amounts.specs.Laws.{unit}
 use Rattle.dimacs_writer.specs.Solution.{AreVertices, AreEdges, edge_order}
 use Rattle.solution_reader.specs.Claim.{IsClaimOf, ends_of}
 use Rattle.solution_reader.specs.Stated.{IsClaimedTree, repeats}
@@ -149,8 +150,8 @@ module _ (I : Network) (t : Tree) (vs : List ℕ) (es : List (ℕ × ℕ)) (inst
       (h.1, h.0)) t.arcs (arcs_reached I (t.start ∷ []) t.arcs grows))) ((edges.same e).0 (element es k d within)) in
       (vertices.same e.0 ∙ in_tree.0, vertices.same e.1 ∙ in_tree.1))
 
-  pub claim_of : IsClaimOf (whole_said (cost I t) vs es) (record { vertices = vs; edges = es; primal = Some (cost I t * 1000000) })
-  claim_of = record {
+  pub claim_of : (p : ℕ) → IsClaimOf (whole_said p vs es) (record { vertices = vs; edges = es; primal = Some p })
+  claim_of p = record {
     ascending = vertices.ascending;
     same = λ v. same_test (has vs v) (has (vs ++ ends_of es) v)
         (λ h. has-append vs (ends_of es) v ∙ or_left (has vs v) (has (ends_of es) v) h)
@@ -209,13 +210,14 @@ small_cost I t instance tree =
     omega (arith, fit, all, missed_few)
 
 pub written_is_read_lem : WrittenIsRead
-written_is_read_lem I t name workers dual bytes instance tree few low s =
+written_is_read_lem I t name workers dual scale bytes instance tree few low s =
+    let p = cost I t * unit scale in
     let are = are_few I t s.vertices s.edges instance tree s.vertices_of_tree s.edges_of_tree in
-    let claimed = claimed_tree I t s.vertices s.edges instance tree s.vertices_of_tree s.edges_of_tree (Some (cost I t * 1000000)) in
-    let read = written_reads name workers dual (cost I t) s.vertices s.edges few low (small_cost I t instance tree) are in
+    let claimed = claimed_tree I t s.vertices s.edges instance tree s.vertices_of_tree s.edges_of_tree (Some p) in
+    let read = written_reads name workers dual (cost I t) scale s.vertices s.edges few low (small_cost I t instance tree) are in
     record {
-      claim = record { vertices = s.vertices; edges = s.edges; primal = Some (cost I t * 1000000) };
-      reads = (whole_said (cost I t) s.vertices s.edges, rw s.text read, claim_of I t s.vertices s.edges instance tree s.vertices_of_tree s.edges_of_tree);
+      claim = record { vertices = s.vertices; edges = s.edges; primal = Some p };
+      reads = (whole_said p s.vertices s.edges, rw s.text read, claim_of I t s.vertices s.edges instance tree s.vertices_of_tree s.edges_of_tree p);
       claimed = claimed;
       primal = refl;
       stated = record { tree = t; claimed = claimed; cost = refl; primal = refl };

@@ -1,20 +1,22 @@
 -- The lines of a text are those that were written, and what their words are.
-use Rattle.std.proofs.Common.{◌≡◌, ℕ, ◌+◌, ◌*◌, ◌^◌, ◌<◌, ◌≤◌, Bool, true, false, not, eqb, leb, ◌&&◌, List, [], ◌∷◌, ◌++◌, length, map, Some, None, refl, ap, ◌∙◌, append_assoc, arith, rules}
-use Rattle.std.specs.Char.{is_ascii_digit}
+use Rattle.std.proofs.Common.{◌≡◌, ℕ, ◌+◌, ◌*◌, ◌^◌, ◌<◌, ◌≤◌, Bool, true, false, not, eqb, leb, ◌&&◌, List, [], ◌∷◌, ◌++◌, length, map, Some, None, refl, ap, ◌∙◌, append_assoc, arith}
 use Rattle.std.specs.Fmt.{decimal}
 use Rattle.std.specs.List.{list_all, flat_map}
-use Rattle.std.proofs.lemmas.Bool.{and_parts, and_from}
+use Rattle.std.specs.Prelude.{IsTrue}
+use Rattle.std.proofs.lemmas.Bool.{and_parts, and_from, false≢true}
 use Rattle.std.proofs.lemmas.Bool.Decides.{nat_tests}
-use Rattle.std.proofs.lemmas.Fmt.{digits_decimal, digits_value-decimal, decimal_nonempty}
-use Rattle.std.proofs.lemmas.Str.Parse.{IsNumeralModel, numerals_by_fold}
 use Rattle.plain_text.specs.Lines.{ended}
-use Rattle.plain_text.specs.Numbers.{is_number, value, value_after}
-use Rattle.plain_text.specs.Pieces.{cut}
-use Rattle.plain_text.proofs.Lacking.{lacks, lacks-append, lacks-decimal, are_whole}
-use Rattle.stp_reader.specs.Amounts.{parts}
+use Rattle.plain_text.proofs.Lacking.{lacks, lacks-append, are_whole}
+use Rattle.amounts.specs.declared.scale.Scale.{Scale}
+use Rattle.amounts.specs.declared.scale.Scale.TheVariants.{Whole, Millionths}
+use Rattle.amounts.specs.Amounts.{parts, is_amount, first_digits, whole_part, amount_said}
+use Rattle.amounts.specs.Text.{amount_text}
+use Rattle.amounts.specs.Laws.{unit}
+use Rattle.amounts.proofs.Decimals.{number_decimal, value_decimal}
+use Rattle.amounts.proofs.Reread.{texts_are_read, lacks-amount_text}
 use Rattle.stp_reader.specs.Lines.{pieces, without_cr, is_blank, words, word_lines}
-use Rattle.dimacs_writer.specs.Solution.{number_line}
-use Rattle.solution_reader.specs.Numbers.{number_reason, first_six, millionths}
+use Rattle.dimacs_writer.specs.Solution.{number_line, amount_line}
+use Rattle.solution_reader.specs.Numbers.{number_reason, primal_said}
 
 -- ---- lines
 
@@ -88,30 +90,31 @@ pub one_more_word : (w rest : List ℕ) → is_plain w ≡ true → words (w ++ 
 one_more_word [] rest h = absurd cc
 one_more_word (b ∷ bs) rest h = words_before b bs rest (and_parts (not (eqb (length (b ∷ bs)) 0)) (list_all is_inner (b ∷ bs)) h).1 ∙ ap (λ ws. (b ∷ bs) ∷ ws) (words_space rest)
 
--- ---- numbers
+-- ---- numbers and amounts
 
-own : IsNumeralModel (λ ds. list_all is_ascii_digit ds ≡ true) (value_after 0)
-own = numerals_by_fold _ (search rules) value_after (search rules)
+-- no blank stands in bytes without space and tab
+inner : (cs : List ℕ) → lacks 32 cs ≡ true → lacks 9 cs ≡ true → list_all is_inner cs ≡ true
+inner [] space tab = refl
+inner (c ∷ cs) space tab =
+    let p = and_parts (not (eqb c 32)) (lacks 32 cs) space in
+    let q = and_parts (not (eqb c 9)) (lacks 9 cs) tab in
+    let here : is_inner c ≡ true = grind (arith, nat_tests, p.0, q.0) in
+    and_from (is_inner c) (list_all is_inner cs) here (inner cs p.1 q.1)
 
-some_digit : (n : ℕ) → n < 2 ^ 64 → not (eqb (length (decimal n)) 0) ≡ true
-some_digit n small = grind (arith, nat_tests, decimal_nonempty n small)
+-- an amount isn't empty
+some_byte : (word : List ℕ) → IsTrue (is_amount word) → not (eqb (length word) 0) ≡ true
+some_byte [] h = absurd (false≢true h)
+some_byte (b ∷ bs) h = grind (arith, nat_tests)
 
-number_decimal : (n : ℕ) → n < 2 ^ 64 → is_number (decimal n) ≡ true
-number_decimal n small = and_from (not (eqb (length (decimal n)) 0)) (list_all is_ascii_digit (decimal n)) (some_digit n small) (digits_decimal own n small)
-
-pub value_decimal : (n : ℕ) → n < 2 ^ 64 → value (decimal n) ≡ n
-value_decimal n small = digits_value-decimal own n small
-
-digits_inner : (cs : List ℕ) → list_all is_ascii_digit cs ≡ true → list_all is_inner cs ≡ true
-digits_inner [] h = refl
-digits_inner (c ∷ cs) h =
-    let p = and_parts (is_ascii_digit c) (list_all is_ascii_digit cs) h in
-    let digit : is_ascii_digit c ≡ true = p.0 in
-    let here : is_inner c ≡ true = grind (arith, nat_tests, digit) in
-    and_from (is_inner c) (list_all is_inner cs) here (digits_inner cs p.1)
+-- an amount that is written is a word
+plain_amount : (n : ℕ) (scale : Scale) → n < 2 ^ 64 → is_plain (amount_text n scale) ≡ true
+plain_amount n scale small =
+    let text = amount_text n scale in
+    and_from (not (eqb (length text) 0)) (list_all is_inner text) (some_byte text (texts_are_read n scale small).amount)
+    (inner text (lacks-amount_text 32 n scale (omega arith)) (lacks-amount_text 9 n scale (omega arith)))
 
 plain_decimal : (n : ℕ) → n < 2 ^ 64 → is_plain (decimal n) ≡ true
-plain_decimal n small = and_from (not (eqb (length (decimal n)) 0)) (list_all is_inner (decimal n)) (some_digit n small) (digits_inner (decimal n) (digits_decimal own n small))
+plain_decimal n small = plain_amount n Whole small
 
 -- a number up to a limit has no reason
 pub number_right : (limit n : ℕ) → n ≤ limit → limit < 2 ^ 64 → number_reason limit (decimal n) ≡ None
@@ -119,46 +122,53 @@ number_right limit n low few =
     let within : leb n limit ≡ true = grind (arith, nat_tests) in
     rw (number_decimal n (omega arith), value_decimal n (omega arith), within) refl
 
-no_cut : (d : ℕ) (bs : List ℕ) → lacks d bs ≡ true → cut d bs ≡ None
-no_cut d [] h = refl
-no_cut d (b ∷ bs) h =
-    let p = and_parts (not (eqb b d)) (lacks d bs) h in
-    let other : eqb b d ≡ false = grind (arith, nat_tests, p.0) in
-    rw (other, no_cut d bs p.1) refl
+-- the whole part of an amount is at most the number that is written
+low_whole : (n whole rest : ℕ) (scale : Scale) → whole * 1000000 + rest ≡ n * unit scale → whole ≤ n
+low_whole n whole rest Whole e = omega (arith, e)
+low_whole n whole rest Millionths e = omega (arith, e)
 
-parts_decimal : (n : ℕ) → parts (decimal n) ≡ (decimal n, [])
-parts_decimal n = let none = no_cut 46 (decimal n) (lacks-decimal 46 n (omega arith)) in rw none refl
+-- a primal that is written says so many units of its scale
+pub primal_written : (n : ℕ) (scale : Scale) → n < 2 ^ 64 → primal_said (amount_text n scale) ≡ Some (n * unit scale)
+unfolding primal_said amount_said
+primal_written n scale small =
+    let text = amount_text n scale in
+    let back = texts_are_read n scale small in
+    let low = low_whole n (whole_part text) (first_digits 6 (parts text).1) scale back.same in
+    let within : leb (whole_part text) 18446744073709551615 ≡ true = grind (arith, nat_tests, low) in
+    rw (back.amount, back.in_time, within) (ap (λ (x : ℕ). Some x) back.same)
 
--- and says so many whole
-pub millionths_decimal : (n : ℕ) → n < 2 ^ 64 → millionths (decimal n) ≡ Some (n * 1000000)
-unfolding millionths
-millionths_decimal n small =
-    let within : leb n 18446744073709551615 ≡ true = grind (arith, nat_tests) in
-    let six : first_six [] ≡ 0 = refl in
-    let sum : n * 1000000 + first_six [] ≡ n * 1000000 = omega (arith, six) in
-    rw (parts_decimal n, number_decimal n small, value_decimal n small, within) (ap (λ (x : ℕ). Some x) sum)
-
--- ---- a keyword and numbers
+-- ---- a keyword, and an amount or numbers after it
 
 keyword_line : (keyword rest : List ℕ) → is_plain keyword ≡ true → lacks 13 (keyword ++ 32 ∷ rest) ≡ true → line_words (keyword ++ 32 ∷ rest) ≡ keyword ∷ words rest
 keyword_line keyword rest plain lacking = ap words (no_cr (keyword ++ 32 ∷ rest) lacking) ∙ one_more_word keyword rest plain
 
-number_lacks : (d : ℕ) (keyword : List ℕ) (n : ℕ) → d < 32 → lacks d keyword ≡ true → lacks d (number_line keyword n) ≡ true
-number_lacks d keyword n low h = lacks-append d keyword (32 ∷ decimal n) h (and_from (not (eqb 32 d)) (lacks d (decimal n)) (grind (arith, nat_tests)) (lacks-decimal d n (omega arith)))
+amount_lacks : (d : ℕ) (keyword : List ℕ) (n : ℕ) (scale : Scale) → d < 32 → lacks d keyword ≡ true → lacks d (amount_line keyword n scale) ≡ true
+amount_lacks d keyword n scale low h =
+    let other : not (eqb 32 d) ≡ true = grind (arith, nat_tests) in
+    lacks-append d keyword (32 ∷ amount_text n scale) h (and_from (not (eqb 32 d)) (lacks d (amount_text n scale)) other (lacks-amount_text d n scale (omega arith)))
 
--- such a line has no end within it
+-- a line with an amount has no end within it
+pub amount_whole : (keyword : List ℕ) (n : ℕ) (scale : Scale) → lacks 10 keyword ≡ true → lacks 10 (amount_line keyword n scale) ≡ true
+amount_whole keyword n scale h = amount_lacks 10 keyword n scale (omega arith) h
+
+-- and its words are the keyword and the amount
+pub amount_words : (keyword : List ℕ) (n : ℕ) (scale : Scale) → n < 2 ^ 64 → is_plain keyword ≡ true → lacks 13 keyword ≡ true → line_words (amount_line keyword n scale) ≡ keyword ∷ amount_text n scale ∷ []
+amount_words keyword n scale small plain lacking =
+    keyword_line keyword (amount_text n scale) plain (amount_lacks 13 keyword n scale (omega arith) lacking)
+    ∙ ap (λ (ws : List (List ℕ)). keyword ∷ ws) (one_word (amount_text n scale) (plain_amount n scale small))
+
+-- the same of a number, which is an amount in wholes
 pub number_whole : (keyword : List ℕ) (n : ℕ) → lacks 10 keyword ≡ true → lacks 10 (number_line keyword n) ≡ true
-number_whole keyword n h = number_lacks 10 keyword n (omega arith) h
+number_whole keyword n h = amount_whole keyword n Whole h
 
 pub number_words : (keyword : List ℕ) (n : ℕ) → n < 2 ^ 64 → is_plain keyword ≡ true → lacks 13 keyword ≡ true → line_words (number_line keyword n) ≡ keyword ∷ decimal n ∷ []
-number_words keyword n small plain lacking =
-    keyword_line keyword (decimal n) plain (number_lacks 13 keyword n (omega arith) lacking) ∙ ap (λ (ws : List (List ℕ)). keyword ∷ ws) (one_word (decimal n) (plain_decimal n small))
+number_words keyword n small plain lacking = amount_words keyword n Whole small plain lacking
 
 -- two numbers
 pub numbers_words : (keyword : List ℕ) (a b : ℕ) → a < 2 ^ 64 → b < 2 ^ 64 → is_plain keyword ≡ true → lacks 13 keyword ≡ true
     → line_words (number_line (number_line keyword a) b) ≡ keyword ∷ decimal a ∷ decimal b ∷ []
 numbers_words keyword a b a_small b_small plain lacking =
-    let all = number_lacks 13 (number_line keyword a) b (omega arith) (number_lacks 13 keyword a (omega arith) lacking) in
+    let all = amount_lacks 13 (number_line keyword a) b Whole (omega arith) (amount_lacks 13 keyword a Whole (omega arith) lacking) in
     let regrouped : number_line (number_line keyword a) b ≡ keyword ++ 32 ∷ (decimal a ++ 32 ∷ decimal b) = append_assoc keyword (32 ∷ decimal a) (32 ∷ decimal b) in
     ap words (no_cr (number_line (number_line keyword a) b) all ∙ regrouped)
     ∙ (one_more_word keyword (decimal a ++ 32 ∷ decimal b) plain

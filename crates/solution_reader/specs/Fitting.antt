@@ -4,6 +4,8 @@ use Rattle.std.specs.List.{list_any}
 use Rattle.st_model.specs.declared.tree.Tree.{Tree}
 use Rattle.st_model.specs.Arborescence.{cost}
 use Rattle.st_model.specs.Network.{Network, link}
+use Rattle.amounts.specs.declared.scale.Scale.{Scale}
+use Rattle.amounts.specs.Laws.{unit}
 use Rattle.solution_reader.specs.Claim.{Claim}
 use Rattle.solution_reader.specs.Stated.{IsApart, IsClaimedTree, HasStranger, LacksLink, LacksTerminal, repeats}
 
@@ -16,9 +18,9 @@ abbrev pub lacks_link : Network → List (ℕ × ℕ) → Bool
 lacks_link I edges = list_any (λ edge. is_none (link I.links edge.0 edge.1)) edges
 
 -- whether a stated primal isn't this cost
-abbrev pub differs_from : ℕ → Option ℕ → Bool
-differs_from c None = false
-differs_from c (Some p) = not (p == c * 1000000)
+abbrev pub differs_from : Scale → ℕ → Option ℕ → Bool
+differs_from scale c None = false
+differs_from scale c (Some p) = not (p == c * unit scale)
 
 -- nothing is wrong but perhaps the cost
 pub record IsFitting (I : Network) (claim : Claim) : Type 0 where

@@ -10,7 +10,7 @@ use Rattle.solution_reader.specs.declared.reason.SolReason.{SolReason}
 use Rattle.solution_reader.specs.declared.reason.SolReason.TheVariants.{NoHeader, BadLine, RepeatedSection, BadNumber, CountMismatch, Unclosed, NoFinal}
 use Rattle.solution_reader.specs.Words.{section_of}
 use Rattle.solution_reader.specs.Forms.{Form, section_line, nameless_line, eof_line, end_line, primal_line, count_line, vertex_line, edge_count_line, edge_line, form}
-use Rattle.solution_reader.specs.Numbers.{is_within, millionths}
+use Rattle.solution_reader.specs.Numbers.{is_within, primal_said}
 use Rattle.solution_reader.specs.Place.{Final, Got, Whole, nothing, no_lines, with_primal, Place, at_header, outside, passed_over, in_run, in_final, after_end}
 use Rattle.solution_reader.specs.Reasons.{differs}
 
@@ -63,7 +63,7 @@ judge_passed got _ = passed_over got
 
 abbrev pub judge_run : Got → Form → Place
 judge_run got end_line = outside got
-judge_run got (primal_line x) = in_run (with_primal got (millionths x))
+judge_run got (primal_line x) = in_run (with_primal got (primal_said x))
 judge_run got _ = in_run got
 
 -- the edge of `E u v`

@@ -8,7 +8,7 @@ use Rattle.solution_reader.specs.declared.keyword.SectionName.{SectionName}
 use Rattle.solution_reader.specs.declared.keyword.SectionName.TheVariants as name
 use Rattle.solution_reader.specs.Words.{section_of}
 use Rattle.solution_reader.specs.Forms.{Form, section_line, eof_line, end_line, primal_line, count_line, vertex_line, edge_count_line, edge_line, form}
-use Rattle.solution_reader.specs.Numbers.{millionths}
+use Rattle.solution_reader.specs.Numbers.{primal_said}
 
 -- what a section Finalsolution states: its lines V and E in their order, and how many there are to be, where it says so
 pub record Final : Type 0 where
@@ -87,7 +87,7 @@ with_primal got (Some p) = record got { primal = Some p }
 
 abbrev pub after_run : Got → Form → Place
 after_run got end_line = outside got
-after_run got (primal_line x) = in_run (with_primal got (millionths x))
+after_run got (primal_line x) = in_run (with_primal got (primal_said x))
 after_run got _ = in_run got
 
 abbrev pub after_final : Got → Final → Form → Place

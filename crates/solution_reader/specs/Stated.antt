@@ -8,6 +8,8 @@ use Rattle.st_model.specs.Made.{has_pair}
 use Rattle.st_model.specs.Network.{Network, IsInstance, IsVertex, link}
 use Rattle.st_model.specs.Regrown.{unordered}
 use Rattle.st_model.specs.Terminals.{IsTerminal}
+use Rattle.amounts.specs.declared.scale.Scale.{Scale}
+use Rattle.amounts.specs.Laws.{unit}
 use Rattle.solution_reader.specs.declared.verify_fault.VerifyFault.{VerifyFault}
 use Rattle.solution_reader.specs.declared.verify_fault.VerifyFault.TheVariants.{Empty, OutOfRange, NoLink, Repeated, NotConnected, Cycle, Missing, CostDiffers, NoMemory}
 use Rattle.solution_reader.specs.Claim.{Claim, IsClaim}
@@ -18,12 +20,12 @@ pub record IsClaimedTree (I : Network) (claim : Claim) (t : Tree) : Type 0 where
   pub vertices : (v : ℕ) → has claim.vertices v ≡ has (reached t) v
   pub edges : IsPermutation (map unordered claim.edges) (map unordered t.arcs)
 
--- the claim is such a tree, c is what it costs, and a primal that is stated is c in millionths
-pub record IsStated (I : Network) (claim : Claim) (c : ℕ) : Type 0 where
+-- the claim is such a tree, c is what it costs, and a primal that is stated is c units of the scale, in millionths
+pub record IsStated (I : Network) (scale : Scale) (claim : Claim) (c : ℕ) : Type 0 where
   pub tree : Tree
   pub claimed : IsClaimedTree I claim tree
   pub cost : c ≡ cost I tree
-  pub primal : IfSome claim.primal (λ p. p ≡ c * 1000000)
+  pub primal : IfSome claim.primal (λ p. p ≡ c * unit scale)
 
 -- ---- faults
 
@@ -82,31 +84,31 @@ abbrev pub LacksTerminal : Network → Claim → Type 0
 LacksTerminal I claim = (v : ℕ) × IsTerminal I v × IsFalse (has claim.vertices v)
 
 -- a stated primal isn't the cost
-abbrev pub CostsOther : Network → Claim → Type 0
-CostsOther I claim = (p : ℕ) × (claim.primal ≡ Some p) × (p ≢ claimed_cost I claim * 1000000)
+abbrev pub CostsOther : Network → Scale → Claim → Type 0
+CostsOther I scale claim = (p : ℕ) × (claim.primal ≡ Some p) × (p ≢ claimed_cost I claim * unit scale)
 
 -- what each fault says of a claim; want of memory says nothing of it
-abbrev pub IsWrong : Network → Claim → VerifyFault → Type 0
-IsWrong I claim Empty = claim.vertices ≡ []
-IsWrong I claim OutOfRange = HasStranger I claim
-IsWrong I claim NoLink = LacksLink I claim
-IsWrong I claim Repeated = IsTrue (repeats claim.edges)
-IsWrong I claim NotConnected = IsApart claim
-IsWrong I claim Cycle = length claim.vertices ≤ length claim.edges
-IsWrong I claim Missing = LacksTerminal I claim
-IsWrong I claim CostDiffers = CostsOther I claim
-IsWrong I claim NoMemory = ⊥
+abbrev pub IsWrong : Network → Scale → Claim → VerifyFault → Type 0
+IsWrong I scale claim Empty = claim.vertices ≡ []
+IsWrong I scale claim OutOfRange = HasStranger I claim
+IsWrong I scale claim NoLink = LacksLink I claim
+IsWrong I scale claim Repeated = IsTrue (repeats claim.edges)
+IsWrong I scale claim NotConnected = IsApart claim
+IsWrong I scale claim Cycle = length claim.vertices ≤ length claim.edges
+IsWrong I scale claim Missing = LacksTerminal I claim
+IsWrong I scale claim CostDiffers = CostsOther I scale claim
+IsWrong I scale claim NoMemory = ⊥
 
 -- the fault is there, and none with a lower number
-pub record IsFirstWrong (I : Network) (claim : Claim) (f : VerifyFault) : Type 0 where
-  pub wrong : IsWrong I claim f
-  pub first : (g : VerifyFault) → number_of g < number_of f → IsWrong I claim g → ⊥
+pub record IsFirstWrong (I : Network) (scale : Scale) (claim : Claim) (f : VerifyFault) : Type 0 where
+  pub wrong : IsWrong I scale claim f
+  pub first : (g : VerifyFault) → number_of g < number_of f → IsWrong I scale claim g → ⊥
 
 -- the first thing that is wrong with the claim, where it isn't memory
-abbrev pub IsVerifyFault : Network → Claim → VerifyFault → Type 0
-IsVerifyFault I claim NoMemory = Unit {0}
-IsVerifyFault I claim f = IsFirstWrong I claim f
+abbrev pub IsVerifyFault : Network → Scale → Claim → VerifyFault → Type 0
+IsVerifyFault I scale claim NoMemory = Unit {0}
+IsVerifyFault I scale claim f = IsFirstWrong I scale claim f
 
 -- a claim that is a tree of an instance has no fault
 abbrev pub StatedHasNoFault : Type 0
-StatedHasNoFault = (I : Network) (claim : Claim) (c : ℕ) (f : VerifyFault) → IsInstance I → IsClaim claim → IsStated I claim c → IsVerifyFault I claim f → f ≡ NoMemory
+StatedHasNoFault = (I : Network) (scale : Scale) (claim : Claim) (c : ℕ) (f : VerifyFault) → IsInstance I → IsClaim claim → IsStated I scale claim c → IsVerifyFault I scale claim f → f ≡ NoMemory

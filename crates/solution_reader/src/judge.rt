@@ -1,14 +1,16 @@
-ghost use Rattle.std.specs.Prelude.{◌≡◌, ◌+◌, ◌<◌, ◌≤◌, ℕ, [], length, IsTrue, IsFalse, IfOk, IfErr, All, MatchOption};
+ghost use Rattle.std.specs.Prelude.{◌≡◌, ◌+◌, ◌*◌, ◌<◌, ◌≤◌, ℕ, [], length, IsTrue, IsFalse, IfOk, IfErr, All, MatchOption};
 ghost use Rattle.std.specs.List.{list_all};
 ghost use Rattle.st_model.specs.Growth.{neighbours};
 ghost use Rattle.st_model.specs.Led.{heads_at};
 ghost use Rattle.st_model.specs.Lists.{has};
 ghost use Rattle.st_model.specs.Network.{IsInstance, IsVertex};
+ghost use Rattle.amounts.specs.Laws.{unit};
 ghost use Rattle.solution_reader.specs.Claim.{IsClaim};
 ghost use Rattle.solution_reader.specs.Stated.{IsStated, IsApart, IsVerifyFault, LacksTerminal, repeats};
 ghost use Rattle.solution_reader.specs.Fitting.{has_stranger, lacks_link, differs_from, IsFitting, Costs};
 
 use crate::{Claimed, VerifyFault};
+use amounts::Scale;
 use indexmap::IndexSet;
 use st_model::{Instance, Need, VertexLists, VertexSet, thin, tree_cost, walk};
 use std::alloc::{AllocError, Global};
@@ -118,20 +120,35 @@ fn cost_of(
     Ok(tree_cost(instance, &tree))
 }
 
+// So many units of a scale, in millionths.
+fn in_millionths(scale: Scale, cost: u64) -> u128
+    ensures { result ≡ cost * unit scale }
+{
+    match scale {
+        Scale::Whole => u128::from(cost) * 1_000_000,
+        Scale::Millionths => u128::from(cost),
+    }
+}
+
 // Whether a stated primal isn't this cost.
-fn differs_from(cost: u64, primal: Option<u128>) -> bool
-    ensures { result ≡ differs_from cost primal }
+fn differs_from(scale: Scale, cost: u64, primal: Option<u128>) -> bool
+    ensures { result ≡ differs_from scale cost primal }
 {
     match primal {
-        Some(primal) => primal != u128::from(cost) * 1_000_000,
+        Some(primal) => primal != in_millionths(scale, cost),
         None => false,
     }
 }
 
 /// What the claimed tree costs, or the first thing that is wrong with it.
-pub fn judged(alloc: Global, instance: &Instance, claimed: &Claimed) -> Result<u64, VerifyFault>
-    ensures tree { IfOk result (IsStated instance.now claimed.now) }
-    ensures fault { IfErr result (IsVerifyFault instance.now claimed.now) }
+pub fn judged(
+    alloc: Global,
+    instance: &Instance,
+    scale: Scale,
+    claimed: &Claimed,
+) -> Result<u64, VerifyFault>
+    ensures tree { IfOk result (IsStated instance.now scale claimed.now) }
+    ensures fault { IfErr result (IsVerifyFault instance.now scale claimed.now) }
     ensures instance { IsInstance instance.now }
     ensures claim { IsClaim claimed.now }
 {
@@ -163,7 +180,7 @@ pub fn judged(alloc: Global, instance: &Instance, claimed: &Claimed) -> Result<u
         return Err(VerifyFault::Missing);
     }
     let cost = cost_of(alloc, instance, claimed, start)?;
-    if differs_from(cost, claimed.primal()) {
+    if differs_from(scale, cost, claimed.primal()) {
         return Err(VerifyFault::CostDiffers);
     }
     Ok(cost)

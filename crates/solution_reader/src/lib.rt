@@ -28,6 +28,7 @@ mod stage;
 mod tree_part;
 mod verify_fault;
 
+use amounts::Scale;
 pub use claimed::Claimed;
 pub use fault::{SolError, SolFault};
 use judge::judged;
@@ -57,18 +58,23 @@ pub fn read_solution(alloc: Global, bytes: &[u8]) -> Result<Claimed, SolError>
     Ok(claimed)
 }
 
-/// What a claimed tree costs in an instance, or the first thing that is wrong with the claim.
-pub fn verify(alloc: Global, instance: &Instance, claimed: &Claimed) -> Result<u64, VerifyFault>
+/// What a claimed tree costs in an instance, in units of its scale, or the first thing that is wrong with the claim.
+pub fn verify(
+    alloc: Global,
+    instance: &Instance,
+    scale: Scale,
+    claimed: &Claimed,
+) -> Result<u64, VerifyFault>
     // The claim is a tree of the instance, the cost is the tree's, and a primal that is stated is this cost.
-    ensures tree { IfOk result (IsStated instance.now claimed.now) }
+    ensures tree { IfOk result (IsStated instance.now scale claimed.now) }
     // A fault is the first thing that is wrong with the claim.
-    ensures fault { IfErr result (IsVerifyFault instance.now claimed.now) }
+    ensures fault { IfErr result (IsVerifyFault instance.now scale claimed.now) }
     // A claim that is such a tree is answered with its cost, unless memory runs out.
-    ensures ok { (c : ℕ) → IsStated instance.now claimed.now c
+    ensures ok { (c : ℕ) → IsStated instance.now scale claimed.now c
         → (result ≡ Ok c) ⊎ (result ≡ Err NoMemoryToJudge) }
     // A claim with a fault is answered with the first one, unless memory runs out.
-    ensures only { (f : FaultFound) → IsVerifyFault instance.now claimed.now f → f ≢ NoMemoryToJudge
+    ensures only { (f : FaultFound) → IsVerifyFault instance.now scale claimed.now f → f ≢ NoMemoryToJudge
         → (result ≡ Err f) ⊎ (result ≡ Err NoMemoryToJudge) }
 {
-    judged(alloc, instance, claimed)
+    judged(alloc, instance, scale, claimed)
 }

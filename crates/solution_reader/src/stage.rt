@@ -9,7 +9,7 @@ use crate::SolReason;
 use crate::fault::LineError;
 use crate::form::{Form, form_of};
 use crate::keyword::{SectionName, section_of};
-use crate::numbers::millionths;
+use crate::numbers::primal_said;
 use crate::tree_part::TreePart;
 use std::alloc::Global;
 use stp_reader::{has_magic, is_remark, next_word};
@@ -123,7 +123,7 @@ fn passed_line(got: GotPart, form: Form) -> Stage
 fn with_primal(mut got: GotPart, word: &[u8]) -> Stage
     ensures { place_of result ≡ judge_run (got_of got) (primal_line word.now) }
 {
-    if let Some(primal) = millionths(word) {
+    if let Some(primal) = primal_said(word) {
         got.primal = Some(primal);
     }
     Stage::InRun(got)

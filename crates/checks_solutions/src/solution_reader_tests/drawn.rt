@@ -1,4 +1,5 @@
 use crate::solution_reader_tests::answer;
+use amounts::Scale;
 use solution_reader::VerifyFault;
 use st_model::{Instance, Need};
 use std::alloc::{AllocError, Global};
@@ -223,7 +224,7 @@ fn agrees(alloc: Global, draws: &mut Draws) -> Result<Option<usize>, AllocError>
     let claim = drawn(alloc, draws, &instance)?;
     let text = text_of(alloc, &claim)?;
     let wanted = judged(&instance, &claim);
-    if answer(alloc, &instance, text.as_bytes()) != wanted {
+    if answer(alloc, &instance, Scale::Whole, text.as_bytes()) != wanted {
         return Ok(None);
     }
     match wanted {
