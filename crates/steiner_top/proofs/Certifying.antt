@@ -3,6 +3,7 @@ use Rattle.std.proofs.Common.{◌≡◌, ℕ, ◌+◌, ◌-◌, ◌^◌, ◌<◌
 use Rattle.std.specs.Prelude.{min}
 use Rattle.std.proofs.Math.Pow.{pow_mono}
 use Rattle.std.proofs.lemmas.Bool.Decides.{nat_tests}
+use Rattle.amounts.specs.declared.scale.Scale.{Scale}
 use Rattle.st_model.specs.declared.tree.Tree.{Tree}
 use Rattle.st_model.specs.Network.{Network, IsInstance}
 use Rattle.st_model.specs.Arborescence.{IsBound}
@@ -122,10 +123,10 @@ module _ (nodes : ℕ) (plain : Bool) (I : Network) (steps : List Step) (s : Sta
       (subst (λ (d : ℕ). IsFound nodes plain I a.tree a.primal d b.search.gathered.claimed (b.search ∷ []) log) same_dual (own holds)))
 
   -- so is what the log shows
-  pub shown_outcome : (o : Outcome) → AcceptedHolds → IsShownBy b.search log o → IsOutcome nodes plain I o
-  shown_outcome (Found tree primal dual expanded searches certificate) holds (claims, expanded_is, searches_is, certificate_is) =
-      rw (expanded_is, searches_is, certificate_is) (claimed_found tree primal dual holds claims)
-  shown_outcome (NoTree certificate) holds none = absurd none
+  pub shown_outcome : (unit : Scale) (o : Outcome) → AcceptedHolds → IsShownBy b.search log unit o → IsOutcome nodes plain I unit o
+  shown_outcome unit (Found tree primal dual expanded searches certificate scale) holds (claims, expanded_is, searches_is, certificate_is, scale_is) =
+      (rw (expanded_is, searches_is, certificate_is) (claimed_found tree primal dual holds claims), scale_is)
+  shown_outcome unit (NoTree certificate) holds none = absurd none
 
 -- a wall says that there is no tree
 pub without_tree : (I : Network) (wall : List ℕ) → AcceptedHolds → IsInstance I → IsWritableSet wall → IsWall I wall → IsWithoutTree I (record { claim = claim.NoTree wall })

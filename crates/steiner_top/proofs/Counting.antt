@@ -2,6 +2,7 @@
 use Rattle.std.proofs.Common.{◌≡◌, inl, inr, ℕ, ◌^◌, ◌<◌, ◌≤◌, List, length, Option, Some, refl, subst, ap, ◌∙◌, arith}
 use Rattle.std.specs.Prelude.{IfSome}
 use Rattle.std.specs.Io.KnownBytes.{append_known}
+use Rattle.amounts.specs.declared.scale.Scale.{Scale}
 use Rattle.st_model.specs.declared.tree.Tree.{Tree}
 use Rattle.st_model.specs.Network.{Network}
 use Rattle.st_model.specs.Arborescence.{IsTree}
@@ -19,41 +20,41 @@ use Rattle.steiner_top.specs.Output.{not_few_line}
 use Rattle.steiner_top.proofs.Loaded.{known_loaded}
 
 module _ (w : FewWords) (bytes : List ℕ) (taken now : Option (List ℕ)) (law : RefusedExactly bytes) (short : length bytes ≤ 2 ^ 34) where
-  -- the one instance of the file
-  alike : (P : Network → Type 0) (I J : Network) → Reads bytes I → Reads bytes J → P I → P J
-  alike P I J reads others p = subst P (law.one_instance I J reads others) p
+  -- the one instance of the file, and its one unit
+  alike : (P : Network → Type 0) (I J : Network) (scale unit : Scale) → Reads bytes I scale → Reads bytes J unit → P I → P J
+  alike P I J scale unit reads others p = subst P (law.one_instance I J scale unit reads others).0 p
 
   -- a best tree was sent
-  found : (I : Network) (sent : List ℕ) → Reads bytes I → IsBestText w I sent → now ≡ append_known taken sent → CountsFile w bytes Optimal taken now
-  found I sent reads s took = record {
+  found : (I : Network) (scale : Scale) (sent : List ℕ) → Reads bytes I scale → IsBestText w I scale sent → now ≡ append_known taken sent → CountsFile w bytes Optimal taken now
+  found I scale sent reads s took = record {
     too_long = ((λ e. absurd cc), (λ long. absurd (omega (arith, short, long))));
-    refused = λ _. ((λ e. absurd cc), (λ r. absurd (law.not_both I r.0 r.1 reads r.2)));
-    not_few = λ J others _. ((λ e. absurd cc), (λ f. absurd (s.few f.0 (alike (λ K. HasFault K f.0) J I others reads f.1))));
-    named = λ J f others _ has. absurd (s.few f (alike (λ K. HasFault K f) J I others reads has));
-    infeasible = λ J others _ _. ((λ e. absurd cc), (λ none. absurd (none s.tree (alike (λ K. IsTree K s.tree) I J reads others s.best.tree))));
-    solved = λ J t others _ _ _. alike (λ K. SendsBest w K Optimal taken now) I J reads others (record { ends = refl; tree = s.tree; best = s.best; sent = sent; text = s.text; took = took });
+    refused = λ _. ((λ e. absurd cc), (λ r. absurd (law.not_both I scale r.0 r.1 reads r.2)));
+    not_few = λ J unit others _. ((λ e. absurd cc), (λ f. absurd (s.few f.0 (alike (λ K. HasFault K f.0) J I unit scale others reads f.1))));
+    named = λ J unit f others _ has. absurd (s.few f (alike (λ K. HasFault K f) J I unit scale others reads has));
+    infeasible = λ J unit others _ _. ((λ e. absurd cc), (λ none. absurd (none s.tree (alike (λ K. IsTree K s.tree) I J scale unit reads others s.best.tree))));
+    solved = λ J unit t others _ _ _. alike (λ K. SendsBest w K unit Optimal taken now) I J scale unit reads others (subst (λ q. SendsBest w I q Optimal taken now) (law.one_instance I J scale unit reads others).1 (record { ends = refl; tree = s.tree; best = s.best; sent = sent; text = s.text; took = took }));
   }
 
   -- there is none
-  missing : (I : Network) (sent : List ℕ) → Reads bytes I → HasNoBest I sent → CountsFile w bytes Infeasible taken now
-  missing I sent reads s = record {
+  missing : (I : Network) (scale : Scale) (sent : List ℕ) → Reads bytes I scale → HasNoBest I sent → CountsFile w bytes Infeasible taken now
+  missing I scale sent reads s = record {
     too_long = ((λ e. absurd cc), (λ long. absurd (omega (arith, short, long))));
-    refused = λ _. ((λ e. absurd cc), (λ r. absurd (law.not_both I r.0 r.1 reads r.2)));
-    not_few = λ J others _. ((λ e. absurd cc), (λ f. absurd (s.few f.0 (alike (λ K. HasFault K f.0) J I others reads f.1))));
-    named = λ J f others _ has. absurd (s.few f (alike (λ K. HasFault K f) J I others reads has));
-    infeasible = λ J others _ _. ((λ e. alike (λ K. (t : Tree) → IsTree K t → ⊥) I J reads others s.none), (λ none. refl));
-    solved = λ J t others _ _ is. absurd (s.none t (alike (λ K. IsTree K t) J I others reads is));
+    refused = λ _. ((λ e. absurd cc), (λ r. absurd (law.not_both I scale r.0 r.1 reads r.2)));
+    not_few = λ J unit others _. ((λ e. absurd cc), (λ f. absurd (s.few f.0 (alike (λ K. HasFault K f.0) J I unit scale others reads f.1))));
+    named = λ J unit f others _ has. absurd (s.few f (alike (λ K. HasFault K f) J I unit scale others reads has));
+    infeasible = λ J unit others _ _. ((λ e. alike (λ K. (t : Tree) → IsTree K t → ⊥) I J scale unit reads others s.none), (λ none. refl));
+    solved = λ J unit t others _ _ is. absurd (s.none t (alike (λ K. IsTree K t) J I unit scale others reads is));
   }
 
   -- the fault was sent
-  refused_few : (I : Network) (sent : List ℕ) → Reads bytes I → IsNotFew I sent → now ≡ append_known taken sent → CountsFile w bytes NotFew taken now
-  refused_few I sent reads s took = record {
+  refused_few : (I : Network) (scale : Scale) (sent : List ℕ) → Reads bytes I scale → IsNotFew I sent → now ≡ append_known taken sent → CountsFile w bytes NotFew taken now
+  refused_few I scale sent reads s took = record {
     too_long = ((λ e. absurd cc), (λ long. absurd (omega (arith, short, long))));
-    refused = λ _. ((λ e. absurd cc), (λ r. absurd (law.not_both I r.0 r.1 reads r.2)));
-    not_few = λ J others _. ((λ e. (s.fault, alike (λ K. HasFault K s.fault) I J reads others s.has)), (λ f. refl));
-    named = λ J f others _ has. took ∙ ap (append_known taken) (s.text ∙ ap not_few_line (s.only f (alike (λ K. HasFault K f) J I others reads has)));
-    infeasible = λ J others _ few. absurd (few s.fault (alike (λ K. HasFault K s.fault) I J reads others s.has));
-    solved = λ J t others _ few is. absurd (few s.fault (alike (λ K. HasFault K s.fault) I J reads others s.has));
+    refused = λ _. ((λ e. absurd cc), (λ r. absurd (law.not_both I scale r.0 r.1 reads r.2)));
+    not_few = λ J unit others _. ((λ e. (s.fault, alike (λ K. HasFault K s.fault) I J scale unit reads others s.has)), (λ f. refl));
+    named = λ J unit f others _ has. took ∙ ap (append_known taken) (s.text ∙ ap not_few_line (s.only f (alike (λ K. HasFault K f) J I unit scale others reads has)));
+    infeasible = λ J unit others _ few. absurd (few s.fault (alike (λ K. HasFault K s.fault) I J scale unit reads others s.has));
+    solved = λ J unit t others _ few is. absurd (few s.fault (alike (λ K. HasFault K s.fault) I J scale unit reads others s.has));
   }
 
   -- the file was refused
@@ -61,17 +62,17 @@ module _ (w : FewWords) (bytes : List ℕ) (taken now : Option (List ℕ)) (law 
   refused_file sent s = record {
     too_long = ((λ e. absurd cc), (λ long. absurd (omega (arith, short, long))));
     refused = λ _. ((λ e. (s.line, s.reason, s.refused)), (λ r. refl));
-    not_few = λ J others _. absurd (law.not_both J s.line s.reason others s.refused);
-    named = λ J f others _ has. absurd (law.not_both J s.line s.reason others s.refused);
-    infeasible = λ J others _ few. absurd (law.not_both J s.line s.reason others s.refused);
-    solved = λ J t others _ few is. absurd (law.not_both J s.line s.reason others s.refused);
+    not_few = λ J unit others _. absurd (law.not_both J unit s.line s.reason others s.refused);
+    named = λ J unit f others _ has. absurd (law.not_both J unit s.line s.reason others s.refused);
+    infeasible = λ J unit others _ few. absurd (law.not_both J unit s.line s.reason others s.refused);
+    solved = λ J unit t others _ few is. absurd (law.not_both J unit s.line s.reason others s.refused);
   }
 
   -- how a file that was loaded whole is answered decides the status
   answered_few : (status : Status) (sent : List ℕ) → FewAnswer w bytes status sent → now ≡ append_known taken sent → CountsFile w bytes status taken now
-  answered_few Optimal sent s took = found s.instance sent s.reads s.line took
-  answered_few Infeasible sent s took = missing s.instance sent s.reads s.line
-  answered_few NotFew sent s took = refused_few s.instance sent s.reads s.line took
+  answered_few Optimal sent s took = found s.instance s.scale sent s.reads s.line took
+  answered_few Infeasible sent s took = missing s.instance s.scale sent s.reads s.line
+  answered_few NotFew sent s took = refused_few s.instance s.scale sent s.reads s.line took
   answered_few RefusedFile sent s took = refused_file sent s
   answered_few Usage sent s took = absurd s.line
   answered_few Budget sent s took = absurd s.line
@@ -88,10 +89,10 @@ long_few : (w : FewWords) (bytes : List ℕ) (taken now : Option (List ℕ)) →
 long_few w bytes taken now long = record {
   too_long = ((λ _. long), (λ _. refl));
   refused = λ short. absurd (omega (arith, short, long));
-  not_few = λ I reads short. absurd (omega (arith, short, long));
-  named = λ I f reads short has. absurd (omega (arith, short, long));
-  infeasible = λ I reads short few. absurd (omega (arith, short, long));
-  solved = λ I t reads short few is. absurd (omega (arith, short, long));
+  not_few = λ I scale reads short. absurd (omega (arith, short, long));
+  named = λ I scale f reads short has. absurd (omega (arith, short, long));
+  infeasible = λ I scale reads short few. absurd (omega (arith, short, long));
+  solved = λ I scale t reads short few is. absurd (omega (arith, short, long));
 }
 
 -- how a run ends decides how the file is answered, where nothing fails

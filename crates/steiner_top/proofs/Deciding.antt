@@ -8,12 +8,14 @@ use Rattle.std.proofs.Common.{◌≡◌, ◌≢◌, ◌⊎◌, ◌↔◌, inl, i
 use Rattle.std.specs.Prelude.{IfSome}
 use Rattle.std.specs.Io.KnownBytes.{append_known}
 use Rattle.st_edge.specs.Faults.{Rose}
+use Rattle.amounts.specs.declared.scale.Scale.{Scale}
 use Rattle.st_model.specs.declared.tree.Tree.{Tree}
 use Rattle.st_model.specs.Arborescence.{IsTree}
 use Rattle.stp_reader.specs.Laws.{RefusedExactly}
 use Rattle.solution_reader.specs.Laws.{RefusedExactly as SolutionsRefusedExactly}
 use Rattle.cert_checker.specs.declared.fault.CheckFault.{CheckFault}
 use Rattle.cert_checker.specs.declared.fault.CheckFault.TheVariants as fault
+use Rattle.cert_checker.specs.declared.verdict.Checked.{Checked}
 use Rattle.cert_checker.specs.declared.verdict.Verdict.{Verdict}
 use Rattle.cert_checker.specs.declared.verdict.Verdict.TheVariants as verdict
 use Rattle.command_line.specs.Words.{Command, SolveWords, CheckWords, GenWords, TrialWords, solve, check, gen, trial, few, verify}
@@ -26,27 +28,27 @@ use Rattle.steiner_top.specs.Answer.{IsSolution, SolveAnswer, CheckAnswer, IsLin
 use Rattle.steiner_top.specs.Causes.{Texts, EndsWith, IsSaved, IsStopped}
 use Rattle.steiner_top.specs.Drawn.{IsDrawn, IsTried}
 use Rattle.steiner_top.specs.Checked.{ChecksExactly, ChecksBothWays}
-use Rattle.steiner_top.specs.Headline.{Headline, NothingFails, SolvesFile, ChecksLog, Sends}
+use Rattle.steiner_top.specs.Headline.{Headline, NothingFails, IsSolved, SolvesFile, ChecksLog, Sends}
 use Rattle.steiner_top.specs.Output.{status_of_verdict}
 use Rattle.steiner_top.proofs.Loaded.{known_loaded}
 use Rattle.steiner_top.proofs.Counting.{counts_file}
 use Rattle.steiner_top.proofs.Verifying.{verifies_solution}
 
 -- a check accepts the certificate of a solution
-certificate_checks : (w : SolveWords) (bytes : List ℕ) (tree : Tree) (primal dual expanded : ℕ) (searches : List Searched) (log : Log) (sent : List ℕ) → IsSolution w bytes tree primal dual expanded searches log sent → IsAnswer bytes (log_text log) (Ok (cond (eqb dual primal) (verdict.Optimal primal) (verdict.Bound dual primal)))
-certificate_checks w bytes tree primal dual expanded searches log sent s =
+certificate_checks : (w : SolveWords) (bytes : List ℕ) (tree : Tree) (primal dual expanded : ℕ) (searches : List Searched) (log : Log) (scale : Scale) (sent : List ℕ) → IsSolution w bytes tree primal dual expanded searches log scale sent → IsAnswer bytes (log_text log) (Ok (record { verdict = cond (eqb dual primal) (verdict.Optimal primal) (verdict.Bound dual primal); scale = scale }))
+certificate_checks w bytes tree primal dual expanded searches log scale sent s =
     let c = s.found.certified in
     (s.instance, s.reads, (log, record { is_log = c.is_log; text = refl }, c.accepted, sym (ap verdict_of c.claims)))
 
 -- a file whose solution is given is answered by that tree, and by no refusal
-answered_found : (w : SolveWords) (bytes : List ℕ) (status : Status) (tree : Tree) (primal dual expanded : ℕ) (searches : List Searched) (log : Log) (texts : Texts) (taken now : Option (List ℕ)) (sent : List ℕ)
-    → RefusedExactly bytes → length bytes ≤ 2 ^ 34 → IsSolution w bytes tree primal dual expanded searches log sent → ((status ≡ Optimal) × (dual ≡ primal)) ⊎ ((status ≡ Budget) × (dual < primal)) → now ≡ append_known taken sent → IsSaved (Some (solve w)) texts (Some (Found tree primal dual expanded searches log))
-    → SolvesFile w bytes status (Some (Found tree primal dual expanded searches log)) texts taken now
-answered_found w bytes status tree primal dual expanded searches log texts taken now sent law short s ends took saved = record {
+answered_found : (w : SolveWords) (bytes : List ℕ) (status : Status) (tree : Tree) (primal dual expanded : ℕ) (searches : List Searched) (log : Log) (scale : Scale) (texts : Texts) (taken now : Option (List ℕ)) (sent : List ℕ)
+    → RefusedExactly bytes → length bytes ≤ 2 ^ 34 → IsSolution w bytes tree primal dual expanded searches log scale sent → ((status ≡ Optimal) × (dual ≡ primal)) ⊎ ((status ≡ Budget) × (dual < primal)) → now ≡ append_known taken sent → IsSaved (Some (solve w)) texts (Some (Found tree primal dual expanded searches log scale))
+    → SolvesFile w bytes status (Some (Found tree primal dual expanded searches log scale)) texts taken now
+answered_found w bytes status tree primal dual expanded searches log scale texts taken now sent law short s ends took saved = record {
   too_long = ((λ e. absurd (never TooLong (λ same. cc) (λ same. cc) e)), (λ long. absurd (omega (arith, short, long))));
-  refused = λ _. ((λ e. absurd (never RefusedFile (λ same. cc) (λ same. cc) e)), (λ r. absurd (law.not_both s.instance r.0 r.1 s.reads r.2)));
-  infeasible = λ I reads _. ((λ e. absurd (never Infeasible (λ same. cc) (λ same. cc) e)), (λ none. absurd (subst (λ J. IsTree J tree → ⊥) (law.one_instance I s.instance reads s.reads) (none tree) s.found.is_tree)));
-  solved = λ I t reads _ _. record {
+  refused = λ _. ((λ e. absurd (never RefusedFile (λ same. cc) (λ same. cc) e)), (λ r. absurd (law.not_both s.instance scale r.0 r.1 s.reads r.2)));
+  infeasible = λ I unit reads _. ((λ e. absurd (never Infeasible (λ same. cc) (λ same. cc) e)), (λ none. absurd (subst (λ J. IsTree J tree → ⊥) (law.one_instance I s.instance unit scale reads s.reads).0 (none tree) s.found.is_tree)));
+  solved = λ I unit t reads _ _. subst (λ q. IsSolved w bytes I q status (Some (Found tree primal dual expanded searches log scale)) texts taken now) (law.one_instance s.instance I scale unit s.reads reads).1 (record {
     tree = tree;
     primal = primal;
     dual = dual;
@@ -55,13 +57,13 @@ answered_found w bytes status tree primal dual expanded searches log texts taken
     certificate = log;
     sent = sent;
     given = refl;
-    found = subst (λ J. IsFound w.nodes w.plain J tree primal dual expanded searches log) (law.one_instance s.instance I s.reads reads) s.found;
+    found = subst (λ J. IsFound w.nodes w.plain J tree primal dual expanded searches log) (law.one_instance s.instance I scale unit s.reads reads).0 s.found;
     text = s.text;
     took = took;
     ends = ends;
-    checks = certificate_checks w bytes tree primal dual expanded searches log sent s;
+    checks = certificate_checks w bytes tree primal dual expanded searches log scale sent s;
     log = saved;
-  };
+  });
 }
   where
     never : (other : Status) → Optimal ≢ other → Budget ≢ other → status ≡ other → ⊥
@@ -71,23 +73,23 @@ answered_found w bytes status tree primal dual expanded searches log texts taken
 answered_file : (w : SolveWords) (bytes : List ℕ) (status : Status) (outcome : Option Outcome) (texts : Texts) (taken now : Option (List ℕ)) (sent : List ℕ)
     → RefusedExactly bytes → length bytes ≤ 2 ^ 34 → SolveAnswer w bytes status outcome sent → now ≡ append_known taken sent → IsSaved (Some (solve w)) texts outcome
     → SolvesFile w bytes status outcome texts taken now
-answered_file w bytes Optimal (Some (Found tree primal dual expanded searches log)) texts taken now sent law short (s, same) took saved = answered_found w bytes Optimal tree primal dual expanded searches log texts taken now sent law short s (inl (refl, same)) took saved
-answered_file w bytes Budget (Some (Found tree primal dual expanded searches log)) texts taken now sent law short (s, below) took saved = answered_found w bytes Budget tree primal dual expanded searches log texts taken now sent law short s (inr (refl, below)) took saved
+answered_file w bytes Optimal (Some (Found tree primal dual expanded searches log scale)) texts taken now sent law short (s, same) took saved = answered_found w bytes Optimal tree primal dual expanded searches log scale texts taken now sent law short s (inl (refl, same)) took saved
+answered_file w bytes Budget (Some (Found tree primal dual expanded searches log scale)) texts taken now sent law short (s, below) took saved = answered_found w bytes Budget tree primal dual expanded searches log scale texts taken now sent law short s (inr (refl, below)) took saved
 answered_file w bytes Infeasible (Some (NoTree log)) texts taken now sent law short s took saved = record {
   too_long = ((λ e. absurd cc), (λ long. absurd (omega (arith, short, long))));
-  refused = λ _. ((λ e. absurd cc), (λ r. absurd (law.not_both s.instance r.0 r.1 s.reads r.2)));
-  infeasible = λ I reads _. ((λ e. subst (λ J. (t : Tree) → IsTree J t → ⊥) (law.one_instance s.instance I s.reads reads) s.without_tree.none), (λ none. refl));
-  solved = λ I t reads _ is. absurd (s.without_tree.none t (subst (λ J. IsTree J t) (law.one_instance I s.instance reads s.reads) is));
+  refused = λ _. ((λ e. absurd cc), (λ r. absurd (law.not_both s.instance s.scale r.0 r.1 s.reads r.2)));
+  infeasible = λ I scale reads _. ((λ e. subst (λ J. (t : Tree) → IsTree J t → ⊥) (law.one_instance s.instance I s.scale scale s.reads reads).0 s.without_tree.none), (λ none. refl));
+  solved = λ I scale t reads _ is. absurd (s.without_tree.none t (subst (λ J. IsTree J t) (law.one_instance I s.instance scale s.scale reads s.reads).0 is));
 }
 answered_file w bytes RefusedFile None texts taken now sent law short s took saved = record {
   too_long = ((λ e. absurd cc), (λ long. absurd (omega (arith, short, long))));
   refused = λ _. ((λ e. (s.line, s.reason, s.refused)), (λ r. refl));
-  infeasible = λ I reads _. absurd (law.not_both I s.line s.reason reads s.refused);
-  solved = λ I t reads _ _. absurd (law.not_both I s.line s.reason reads s.refused);
+  infeasible = λ I scale reads _. absurd (law.not_both I scale s.line s.reason reads s.refused);
+  solved = λ I scale t reads _ _. absurd (law.not_both I scale s.line s.reason reads s.refused);
 }
 answered_file w bytes Budget (Some (NoTree log)) texts taken now sent law short s took saved = absurd s
 answered_file w bytes Budget None texts taken now sent law short s took saved = absurd s
-answered_file w bytes Infeasible (Some (Found tree primal dual expanded searches log)) texts taken now sent law short s took saved = absurd s
+answered_file w bytes Infeasible (Some (Found tree primal dual expanded searches log scale)) texts taken now sent law short s took saved = absurd s
 answered_file w bytes Infeasible None texts taken now sent law short s took saved = absurd s
 answered_file w bytes NoMemory outcome texts taken now sent law short s took saved = absurd s
 answered_file w bytes Optimal (Some (NoTree log)) texts taken now sent law short s took saved = absurd s
@@ -107,8 +109,8 @@ long_file : (w : SolveWords) (bytes : List ℕ) (outcome : Option Outcome) (text
 long_file w bytes outcome texts taken now long = record {
   too_long = ((λ _. long), (λ _. refl));
   refused = λ short. absurd (omega (arith, short, long));
-  infeasible = λ I reads short. absurd (omega (arith, short, long));
-  solved = λ I t reads short is. absurd (omega (arith, short, long));
+  infeasible = λ I scale reads short. absurd (omega (arith, short, long));
+  solved = λ I scale t reads short is. absurd (omega (arith, short, long));
 }
 
 -- how a run ends decides how a file is answered, where nothing fails
@@ -143,8 +145,8 @@ verdict_ends (verdict.Bound dual primal) = ((λ e. absurd cc), (λ e. absurd cc)
 verdict_ends verdict.NoTree = ((λ e. absurd cc), (λ e. absurd cc))
 
 -- nor does any answer of a check
-line_ends : (answer : Result Verdict CheckFault) (status : Status) (sent : List ℕ) → IsLineOf answer status sent → (status ≡ TooLong → ⊥) × (status ≡ Usage → ⊥)
-line_ends (Ok v) status sent h = ((λ e. (verdict_ends v).0 (sym h.0 ∙ e)), (λ e. (verdict_ends v).1 (sym h.0 ∙ e)))
+line_ends : (answer : Result Checked CheckFault) (status : Status) (sent : List ℕ) → IsLineOf answer status sent → (status ≡ TooLong → ⊥) × (status ≡ Usage → ⊥)
+line_ends (Ok checked) status sent h = ((λ e. (verdict_ends checked.verdict).0 (sym h.0 ∙ e)), (λ e. (verdict_ends checked.verdict).1 (sym h.0 ∙ e)))
 line_ends (Err (fault.Stp f)) status sent h = ((λ e. let bad : RefusedFile ≡ TooLong = sym h.0 ∙ e in absurd cc), (λ e. let bad : RefusedFile ≡ Usage = sym h.0 ∙ e in absurd cc))
 line_ends (Err (fault.Log f)) status sent h = ((λ e. let bad : RefusedLog ≡ TooLong = sym h.0 ∙ e in absurd cc), (λ e. let bad : RefusedLog ≡ Usage = sym h.0 ∙ e in absurd cc))
 line_ends (Err fault.NoMemory) status sent h = absurd h
@@ -160,8 +162,8 @@ answered_log stp log status taken now sent short short' h took = record {
       | inr l ↦ absurd (omega (arith, l, short'))
     ]),
   );
-  verdict = λ v _ _ is.
-      let line : IsLineOf (Ok v) status sent = subst (λ a. IsLineOf a status sent) (h.only (Ok v) is (λ e. absurd cc)) h.line in
+  verdict = λ checked _ _ is.
+      let line : IsLineOf (Ok checked) status sent = subst (λ a. IsLineOf a status sent) (h.only (Ok checked) is (λ e. absurd cc)) h.line in
       (line.0, took ∙ ap (append_known taken) line.1);
 }
 
@@ -169,7 +171,7 @@ answered_log stp log status taken now sent short short' h took = record {
 long_log : (stp log : List ℕ) (taken now : Option (List ℕ)) → ((2 ^ 34 < length stp) ⊎ (2 ^ 34 < length log)) → ChecksLog stp log TooLong taken now
 long_log stp log taken now long = record {
   too_long = ((λ _. long), (λ _. refl));
-  verdict = λ v short short' _. elim long [
+  verdict = λ checked short short' _. elim long [
     | inl l ↦ absurd (omega (arith, l, short))
     | inr l ↦ absurd (omega (arith, l, short'))
   ];

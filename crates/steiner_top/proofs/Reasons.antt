@@ -2,6 +2,7 @@
 use Rattle.std.proofs.Common.{◌≡◌, ◌≢◌, ◌⊎◌, inl, inr, ℕ, Bool, List, [], ◌∷◌, Result, Ok, Err, Option, Some, None, refl, sym, subst, ap, ap₂, ◌∙◌}
 use Rattle.std.specs.Prelude.{IfOk}
 use Rattle.st_edge.specs.Shelf.{SameTexts}
+use Rattle.amounts.specs.declared.scale.Scale.{Scale}
 use Rattle.st_model.specs.Network.{Network}
 use Rattle.stp_reader.specs.declared.reason.Reason.{Reason}
 use Rattle.stp_reader.specs.Reads.{Reads, Refused}
@@ -9,6 +10,7 @@ use Rattle.stp_reader.specs.Laws.{RefusedExactly}
 use Rattle.log_format.specs.declared.kind.Kind.{Kind}
 use Rattle.cert_checker.specs.declared.fault.CheckFault.{CheckFault}
 use Rattle.cert_checker.specs.declared.fault.CheckFault.TheVariants as check_fault
+use Rattle.cert_checker.specs.declared.verdict.Checked.{Checked}
 use Rattle.cert_checker.specs.declared.verdict.Verdict.{Verdict}
 use Rattle.cert_checker.specs.declared.verdict.Verdict.TheVariants as verdict
 use Rattle.cert_checker.specs.Checking.{Answers, IsAnswer, IsAcceptedText, IsWrongText}
@@ -22,12 +24,12 @@ use Rattle.steiner_top.specs.declared.status.Status.TheVariants.{Optimal, Usage,
 use Rattle.steiner_top.specs.Outcome.{Solves}
 use Rattle.st_edge.specs.Sink.{TakesFront}
 use Rattle.command_line.specs.Words.{Command, solve, check, gen, trial, few, verify}
-use Rattle.steiner_top.specs.Output.{line_of}
+use Rattle.steiner_top.specs.Output.{line_of, status_of_verdict}
 use Rattle.steiner_top.specs.Causes.{Texts, IsAnswered, IsCutShort, IsSaved, IsStopped, IsUnanswered, StopsAtLoad}
 
 -- bytes that are refused are answered so
 pub refused_answer : (nodes : ℕ) (plain : Bool) (bytes : List ℕ) (result : Result Outcome SolveFault) → RefusedExactly bytes → Solves nodes plain bytes result → (line : ℕ) (reason : Reason) → Refused bytes line reason → (result ≡ Err (Stp (record { line = line; reason = reason }))) ⊎ (result ≡ Err NoMemory)
-refused_answer nodes plain bytes (Ok outcome) law h line reason r = absurd (law.not_both h.0 line reason h.1 r)
+refused_answer nodes plain bytes (Ok outcome) law h line reason r = absurd (law.not_both h.0 h.1 line reason h.2 r)
 refused_answer nodes plain bytes (Err (Stp f)) law h line reason r =
     let one = law.one_fault f.line line f.reason reason h r in
     inl (ap₂ (λ l q. Err (Stp (record { line = l; reason = q }))) one.0 one.1)
@@ -69,12 +71,12 @@ second_stops a b old new NotTree same h = h
 second_stops a b old new RefusedSolution same h = h
 
 -- what a check found is the answer to the file and the log, and the only one
-pub check_answered : (stp log : List ℕ) (found : Result Verdict CheckFault) (status : Status) (sent : List ℕ)
-    → ((I : Network) → Reads stp I → IfOk found (Concludes I))
+pub check_answered : (stp log : List ℕ) (found : Result Checked CheckFault) (status : Status) (sent : List ℕ)
+    → ((I : Network) (scale : Scale) → Reads stp I scale → IfOk found (λ checked. Concludes I checked.verdict))
     → IsAnswer stp log found
-    → ((I : Network) (verdict : Verdict) → Reads stp I → IsAcceptedText I log verdict → Answers found (Ok verdict))
+    → ((I : Network) (scale : Scale) (verdict : Verdict) → Reads stp I scale → IsAcceptedText I log verdict → Answers found (Ok (record { verdict = verdict; scale = scale })))
     → ((line : ℕ) (reason : Reason) → Refused stp line reason → Answers found (Err (check_fault.Stp (record { line = line; reason = reason }))))
-    → ((I : Network) (line : ℕ) (kind : Kind) → Reads stp I → IsWrongText I log line kind → Answers found (Err (check_fault.Log (record { line = line; kind = kind }))))
+    → ((I : Network) (scale : Scale) (line : ℕ) (kind : Kind) → Reads stp I scale → IsWrongText I log line kind → Answers found (Err (check_fault.Log (record { line = line; kind = kind }))))
     → IsLineOf found status sent → CheckAnswer stp log status sent
 check_answered stp log found status sent concludes exact accepted file text line = record {
   answer = found;
@@ -83,17 +85,23 @@ check_answered stp log found status sent concludes exact accepted file text line
   concludes = concludes;
   line = line;
 } where
-  settled : (wanted : Result Verdict CheckFault) → Answers found wanted → found ≡ wanted
+  settled : (wanted : Result Checked CheckFault) → Answers found wanted → found ≡ wanted
   settled wanted h = elim h [
     | inl same ↦ same
     | inr memory ↦ absurd (subst (λ f. IsLineOf f status sent) memory line)
   ]
 
-  only : (other : Result Verdict CheckFault) → IsAnswer stp log other → other ≢ Err check_fault.NoMemory → found ≡ other
-  only (Ok v) h other = settled (Ok v) (accepted h.0 v h.1 h.2)
+  only : (other : Result Checked CheckFault) → IsAnswer stp log other → other ≢ Err check_fault.NoMemory → found ≡ other
+  only (Ok checked) h other = settled (Ok checked) (accepted h.0 checked.scale checked.verdict h.1 h.2)
   only (Err (check_fault.Stp f)) h other = settled (Err (check_fault.Stp f)) (file f.line f.reason h)
-  only (Err (check_fault.Log f)) h other = settled (Err (check_fault.Log f)) (text h.0 f.line f.kind h.1 h.2)
+  only (Err (check_fault.Log f)) h other = settled (Err (check_fault.Log f)) (text h.0 h.1 f.line f.kind h.2 h.3)
   only (Err check_fault.NoMemory) h other = absurd (other refl)
+
+-- a verdict ends a run with one of three statuses
+verdict_ends : (v : Verdict) → (status_of_verdict v ≡ Optimal) ⊎ (status_of_verdict v ≡ Budget) ⊎ (status_of_verdict v ≡ Infeasible)
+verdict_ends (verdict.Optimal primal) = inl refl
+verdict_ends (verdict.Bound dual primal) = inr (inl refl)
+verdict_ends verdict.NoTree = inr (inr refl)
 
 -- whether a write failed
 write_or_not : (status : Status) → (status ≡ WriteFault) ⊎ (status ≢ WriteFault)
@@ -124,10 +132,14 @@ no_write (Some (trial w)) texts outcome sent h = elim h.ends [
 ]
 no_write (Some (check w)) texts outcome sent h = by_answer h.4.answer h.4.line
   where
-    by_answer : (answer : Result Verdict CheckFault) → IsLineOf answer WriteFault sent → ⊥
-    by_answer (Ok (verdict.Optimal primal)) line = let bad : WriteFault ≡ Optimal = line.0 in absurd cc
-    by_answer (Ok (verdict.Bound dual primal)) line = let bad : WriteFault ≡ Budget = line.0 in absurd cc
-    by_answer (Ok verdict.NoTree) line = let bad : WriteFault ≡ Infeasible = line.0 in absurd cc
+    by_answer : (answer : Result Checked CheckFault) → IsLineOf answer WriteFault sent → ⊥
+    by_answer (Ok checked) line = elim (verdict_ends checked.verdict) [
+      | inl e ↦ let bad : WriteFault ≡ Optimal = line.0 ∙ e in absurd cc
+      | inr other ↦ elim other [
+        | inl e ↦ let bad : WriteFault ≡ Budget = line.0 ∙ e in absurd cc
+        | inr e ↦ let bad : WriteFault ≡ Infeasible = line.0 ∙ e in absurd cc
+      ]
+    ]
     by_answer (Err (check_fault.Stp f)) line = let bad : WriteFault ≡ RefusedFile = line.0 in absurd cc
     by_answer (Err (check_fault.Log f)) line = let bad : WriteFault ≡ RefusedLog = line.0 in absurd cc
     by_answer (Err check_fault.NoMemory) line = line
@@ -139,10 +151,14 @@ never_unwritten command texts status outcome sent answered failed = no_write com
 no_load : (command : Option Command) (texts : Texts) (status : Status) (outcome : Option Outcome) (sent : List ℕ) → (status ≡ ReadFault) ⊎ (status ≡ TooLong) → IsAnswered command texts status outcome sent → ⊥
 no_load command texts status outcome sent (inl read) h = unread command (subst (λ s. IsAnswered command texts s outcome sent) read h)
   where
-    by_answer : (answer : Result Verdict CheckFault) → IsLineOf answer ReadFault sent → ⊥
-    by_answer (Ok (verdict.Optimal primal)) line = let bad : ReadFault ≡ Optimal = line.0 in absurd cc
-    by_answer (Ok (verdict.Bound dual primal)) line = let bad : ReadFault ≡ Budget = line.0 in absurd cc
-    by_answer (Ok verdict.NoTree) line = let bad : ReadFault ≡ Infeasible = line.0 in absurd cc
+    by_answer : (answer : Result Checked CheckFault) → IsLineOf answer ReadFault sent → ⊥
+    by_answer (Ok checked) line = elim (verdict_ends checked.verdict) [
+      | inl e ↦ let bad : ReadFault ≡ Optimal = line.0 ∙ e in absurd cc
+      | inr other ↦ elim other [
+        | inl e ↦ let bad : ReadFault ≡ Budget = line.0 ∙ e in absurd cc
+        | inr e ↦ let bad : ReadFault ≡ Infeasible = line.0 ∙ e in absurd cc
+      ]
+    ]
     by_answer (Err (check_fault.Stp f)) line = let bad : ReadFault ≡ RefusedFile = line.0 in absurd cc
     by_answer (Err (check_fault.Log f)) line = let bad : ReadFault ≡ RefusedLog = line.0 in absurd cc
     by_answer (Err check_fault.NoMemory) line = line
@@ -160,10 +176,14 @@ no_load command texts status outcome sent (inl read) h = unread command (subst (
     unread (Some (check w)) h = by_answer h.4.answer h.4.line
 no_load command texts status outcome sent (inr long) h = short command (subst (λ s. IsAnswered command texts s outcome sent) long h)
   where
-    by_answer : (answer : Result Verdict CheckFault) → IsLineOf answer TooLong sent → ⊥
-    by_answer (Ok (verdict.Optimal primal)) line = let bad : TooLong ≡ Optimal = line.0 in absurd cc
-    by_answer (Ok (verdict.Bound dual primal)) line = let bad : TooLong ≡ Budget = line.0 in absurd cc
-    by_answer (Ok verdict.NoTree) line = let bad : TooLong ≡ Infeasible = line.0 in absurd cc
+    by_answer : (answer : Result Checked CheckFault) → IsLineOf answer TooLong sent → ⊥
+    by_answer (Ok checked) line = elim (verdict_ends checked.verdict) [
+      | inl e ↦ let bad : TooLong ≡ Optimal = line.0 ∙ e in absurd cc
+      | inr other ↦ elim other [
+        | inl e ↦ let bad : TooLong ≡ Budget = line.0 ∙ e in absurd cc
+        | inr e ↦ let bad : TooLong ≡ Infeasible = line.0 ∙ e in absurd cc
+      ]
+    ]
     by_answer (Err (check_fault.Stp f)) line = let bad : TooLong ≡ RefusedFile = line.0 in absurd cc
     by_answer (Err (check_fault.Log f)) line = let bad : TooLong ≡ RefusedLog = line.0 in absurd cc
     by_answer (Err check_fault.NoMemory) line = line

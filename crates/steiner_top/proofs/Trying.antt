@@ -1,6 +1,8 @@
 -- What solving a drawn instance gave is what `trial` is answered with.
 use Rattle.std.proofs.Common.{◌≡◌, ◌⊎◌, inl, inr, ℕ, ◌<◌, Bool, true, false, not, cond, eqb, List, Some, refl, sym, subst, ap, ap₂, ◌∙◌, arith}
 use Rattle.std.proofs.lemmas.Bool.Decides.{nat_tests}
+use Rattle.amounts.specs.declared.scale.Scale.{Scale}
+use Rattle.amounts.specs.declared.scale.Scale.TheVariants.{Whole}
 use Rattle.st_model.specs.declared.tree.Tree.{Tree}
 use Rattle.st_model.specs.Lists.{has}
 use Rattle.st_model.specs.Network.{Network}
@@ -37,9 +39,9 @@ no_wall I wall connected h = by_case (has wall 1) refl
         absurd cc
 
 -- so solving it gives a tree
-has_tree : (nodes : ℕ) (plain : Bool) (I : Network) (outcome : Outcome) → IsConnected I → IsOutcome nodes plain I outcome → HasTree outcome
-has_tree nodes plain I (Found tree primal dual expanded searches log) connected h = tt
-has_tree nodes plain I (NoTree log) connected h = no_wall I h.wall connected (subst (AcceptsClaim I) h.claims h.accepted)
+has_tree : (nodes : ℕ) (plain : Bool) (I : Network) (scale : Scale) (outcome : Outcome) → IsConnected I → IsOutcome nodes plain I scale outcome → HasTree outcome
+has_tree nodes plain I unit (Found tree primal dual expanded searches log scale) connected h = tt
+has_tree nodes plain I unit (NoTree log) connected h = no_wall I h.wall connected (subst (AcceptsClaim I) h.claims h.accepted)
 
 -- a tree whose cost is a bound is a best one
 best_tree : (nodes : ℕ) (plain : Bool) (I : Network) (tree : Tree) (primal dual expanded : ℕ) (searches : List Searched) (log : Log) → IsFound nodes plain I tree primal dual expanded searches log → dual ≡ primal → IsBest I tree
@@ -54,7 +56,7 @@ best_cost I t u first second = let low = first.least u second.tree in let high =
 
 tried_found : (w : TrialWords) (status : Status) (tree : Tree) (primal dual expanded : ℕ) (searches : List Searched) (log : Log) (text : List ℕ)
     → IsFound 1000000 false (tried_instance w) tree primal dual expanded searches log → text ≡ summary primal dual → ((status ≡ Optimal) × (dual ≡ primal)) ⊎ ((status ≡ Budget) × (dual < primal))
-    → IsTried w status (Some (Found tree primal dual expanded searches log)) text
+    → IsTried w status (Some (Found tree primal dual expanded searches log Whole)) text
 tried_found w status tree primal dual expanded searches log text h is ends = record {
   tree = tree;
   primal = primal;
@@ -82,12 +84,12 @@ tried_found w status tree primal dual expanded searches log text h is ends = rec
   costs optimal t best = h.is_cost ∙ best_cost I tree t (best_tree 1000000 false I tree primal dual expanded searches log h (reached optimal)) best
 
 -- what solving the instance gave is what is sent, as a summary
-pub tried : (w : TrialWords) (outcome : Outcome) (text : List ℕ) → IsOutcome 1000000 false (tried_instance w) outcome → IsSummary outcome text → IsTried w (status_of_outcome outcome) (Some outcome) text
-tried w (Found tree primal dual expanded searches log) text h is = by_case (eqb dual primal) refl
+pub tried : (w : TrialWords) (outcome : Outcome) (text : List ℕ) → IsOutcome 1000000 false (tried_instance w) Whole outcome → IsSummary outcome text → IsTried w (status_of_outcome outcome) (Some outcome) text
+tried w (Found tree primal dual expanded searches log scale) text h is = subst (λ q. IsTried w (cond (eqb dual primal) Optimal Budget) (Some (Found tree primal dual expanded searches log q)) text) (sym h.1) (by_case (eqb dual primal) refl)
   where
-    by_case : (b : Bool) → eqb dual primal ≡ b → IsTried w (cond b Optimal Budget) (Some (Found tree primal dual expanded searches log)) text
-    by_case true same = tried_found w Optimal tree primal dual expanded searches log text h is (inl (refl, grind (arith, nat_tests)))
-    by_case false apart = let below = h.is_below in tried_found w Budget tree primal dual expanded searches log text h is (inr (refl, grind (arith, nat_tests)))
+    by_case : (b : Bool) → eqb dual primal ≡ b → IsTried w (cond b Optimal Budget) (Some (Found tree primal dual expanded searches log Whole)) text
+    by_case true same = tried_found w Optimal tree primal dual expanded searches log text h.0 is (inl (refl, grind (arith, nat_tests)))
+    by_case false apart = let below = h.0.is_below in tried_found w Budget tree primal dual expanded searches log text h.0 is (inr (refl, grind (arith, nat_tests)))
 tried w (NoTree log) text h is = absurd is
 
 -- the numbers of the words are in their ranges
@@ -104,7 +106,7 @@ numbers_in_range w = record {
 }
 
 -- so solving what they say gives a tree
-pub drawn_has_tree : (w : Trial) (I : Network) (outcome : Outcome) → GeneratedAreConnected → I ≡ tried_instance (trial_words w) → IsOutcome 1000000 false I outcome → HasTree outcome
-drawn_has_tree w I outcome law is h =
+pub drawn_has_tree : (w : Trial) (I : Network) (scale : Scale) (outcome : Outcome) → GeneratedAreConnected → I ≡ tried_instance (trial_words w) → IsOutcome 1000000 false I scale outcome → HasTree outcome
+drawn_has_tree w I scale outcome law is h =
     let connected = law w.drawn.seed w.drawn.n w.drawn.m w.drawn.t false (numbers_in_range w.drawn) in
-    has_tree 1000000 false I outcome (subst IsConnected (sym is) connected) h
+    has_tree 1000000 false I scale outcome (subst IsConnected (sym is) connected) h

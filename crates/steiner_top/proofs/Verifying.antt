@@ -2,6 +2,7 @@
 use Rattle.std.proofs.Common.{◌≡◌, ◌≢◌, ◌⊎◌, inl, inr, ℕ, ◌^◌, ◌<◌, List, length, Option, Some, Result, Ok, Err, refl, sym, subst, ap, ◌∙◌, arith}
 use Rattle.std.specs.Prelude.{IfSome}
 use Rattle.std.specs.Io.KnownBytes.{append_known}
+use Rattle.amounts.specs.declared.scale.Scale.{Scale}
 use Rattle.st_model.specs.Network.{Network}
 use Rattle.stp_reader.specs.Reads.{Reads}
 use Rattle.stp_reader.specs.Laws.{RefusedExactly}
@@ -29,11 +30,11 @@ err_same : (f g : VerifyFault) (r : Result ℕ VerifyFault) → r ≡ Err f → 
 err_same f g r a b = let same : Err f ≡ Err g = sym a ∙ b in cc
 
 -- a cost that was answered is the only one, and the claim has no fault
-pub tree_answered : (I : Network) (claim : Claim) (cost : ℕ) (result : Result ℕ VerifyFault) (sent : List ℕ) → result ≡ Ok cost → IsStated I claim cost
-    → ((c : ℕ) → IsStated I claim c → (result ≡ Ok c) ⊎ (result ≡ Err fault.NoMemory))
-    → ((f : VerifyFault) → IsVerifyFault I claim f → f ≢ fault.NoMemory → (result ≡ Err f) ⊎ (result ≡ Err fault.NoMemory))
-    → sent ≡ tree_line cost → IsTreeLine I claim sent
-tree_answered I claim cost result sent is stated ok only text = record {
+pub tree_answered : (I : Network) (scale : Scale) (claim : Claim) (cost : ℕ) (result : Result ℕ VerifyFault) (sent : List ℕ) → result ≡ Ok cost → IsStated I scale claim cost
+    → ((c : ℕ) → IsStated I scale claim c → (result ≡ Ok c) ⊎ (result ≡ Err fault.NoMemory))
+    → ((f : VerifyFault) → IsVerifyFault I scale claim f → f ≢ fault.NoMemory → (result ≡ Err f) ⊎ (result ≡ Err fault.NoMemory))
+    → sent ≡ tree_line cost scale → IsTreeLine I scale claim sent
+tree_answered I scale claim cost result sent is stated ok only text = record {
   cost = cost;
   stated = stated;
   only = λ c other. elim (ok c other) [
@@ -48,11 +49,11 @@ tree_answered I claim cost result sent is stated ok only text = record {
 }
 
 -- a fault that was answered is the only one, and the claim is no such tree
-pub fault_answered : (I : Network) (claim : Claim) (f : VerifyFault) (result : Result ℕ VerifyFault) (sent : List ℕ) → result ≡ Err f → f ≢ fault.NoMemory → IsVerifyFault I claim f
-    → ((c : ℕ) → IsStated I claim c → (result ≡ Ok c) ⊎ (result ≡ Err fault.NoMemory))
-    → ((g : VerifyFault) → IsVerifyFault I claim g → g ≢ fault.NoMemory → (result ≡ Err g) ⊎ (result ≡ Err fault.NoMemory))
-    → sent ≡ not_tree_line f → IsNotTreeLine I claim sent
-fault_answered I claim f result sent is known wrong ok only text = record {
+pub fault_answered : (I : Network) (scale : Scale) (claim : Claim) (f : VerifyFault) (result : Result ℕ VerifyFault) (sent : List ℕ) → result ≡ Err f → f ≢ fault.NoMemory → IsVerifyFault I scale claim f
+    → ((c : ℕ) → IsStated I scale claim c → (result ≡ Ok c) ⊎ (result ≡ Err fault.NoMemory))
+    → ((g : VerifyFault) → IsVerifyFault I scale claim g → g ≢ fault.NoMemory → (result ≡ Err g) ⊎ (result ≡ Err fault.NoMemory))
+    → sent ≡ not_tree_line f → IsNotTreeLine I scale claim sent
+fault_answered I scale claim f result sent is known wrong ok only text = record {
   fault = f;
   has = (wrong, known);
   only = λ g has. elim (only g has.0 has.1) [
@@ -72,46 +73,48 @@ module _ (stp solution : List ℕ) (taken now : Option (List ℕ)) (law : Refuse
   fits (inl long) = omega (arith, short.short_file, long)
   fits (inr long) = omega (arith, short.short_solution, long)
 
-  -- the one instance of the file, and the one claim of the solution
-  beside : (P : Network → Claim → Type 0) (I J : Network) (claim other : Claim) → Reads stp I → Reads stp J → ReadsSolution solution claim → ReadsSolution solution other → P I claim → P J other
-  beside P I J claim other reads reads' read read' p = subst (P J) (claims.one_claim claim other read read') (subst (λ K. P K claim) (law.one_instance I J reads reads') p)
+  -- the one instance of the file at its one scale, and the one claim of the solution
+  beside : (P : Network → Scale → Claim → Type 0) (I J : Network) (scale unit : Scale) (claim other : Claim) → Reads stp I scale → Reads stp J unit → ReadsSolution solution claim → ReadsSolution solution other → P I scale claim → P J unit other
+  beside P I J scale unit claim other reads reads' read read' p =
+      let one = law.one_instance I J scale unit reads reads' in
+      subst (P J unit) (claims.one_claim claim other read read') (subst (λ K. P K unit claim) one.0 (subst (λ q. P I q claim) one.1 p))
 
   -- the cost of the claimed tree was sent
-  judged_tree : (I : Network) (claim : Claim) (sent : List ℕ) → Reads stp I → ReadsSolution solution claim → IsTreeLine I claim sent → now ≡ append_known taken sent → VerifiesSolution stp solution Optimal taken now
-  judged_tree I claim sent reads read s took = record {
+  judged_tree : (I : Network) (scale : Scale) (claim : Claim) (sent : List ℕ) → Reads stp I scale → ReadsSolution solution claim → IsTreeLine I scale claim sent → now ≡ append_known taken sent → VerifiesSolution stp solution Optimal taken now
+  judged_tree I scale claim sent reads read s took = record {
     too_long = ((λ e. absurd cc), (λ long. absurd (fits long)));
-    refused_file = λ _. ((λ e. absurd cc), (λ r. absurd (law.not_both I r.0 r.1 reads r.2)));
-    refused = λ J others _. ((λ e. absurd cc), (λ r. absurd (claims.not_both claim r.0 r.1 read r.2)));
-    why = λ J line reason others no _. absurd (claims.not_both claim line reason read no);
-    not_tree = λ J other others read' _. ((λ e. absurd cc), (λ f. absurd (s.right f.0 (beside (λ K c. HasVerifyFault K c f.0) J I other claim others reads read' read f.1))));
-    named = λ J other f others read' has _. absurd (s.right f (beside (λ K c. HasVerifyFault K c f) J I other claim others reads read' read has));
-    verified = λ J other c others read' stated _. (refl, took ∙ ap (append_known taken) (s.text ∙ ap tree_line (s.only c (beside (λ K d. IsStated K d c) J I other claim others reads read' read stated))));
+    refused_file = λ _. ((λ e. absurd cc), (λ r. absurd (law.not_both I scale r.0 r.1 reads r.2)));
+    refused = λ J unit others _. ((λ e. absurd cc), (λ r. absurd (claims.not_both claim r.0 r.1 read r.2)));
+    why = λ J unit line reason others no _. absurd (claims.not_both claim line reason read no);
+    not_tree = λ J unit other others read' _. ((λ e. absurd cc), (λ f. absurd (s.right f.0 (beside (λ K q c. HasVerifyFault K q c f.0) J I unit scale other claim others reads read' read f.1))));
+    named = λ J unit other f others read' has _. absurd (s.right f (beside (λ K q c. HasVerifyFault K q c f) J I unit scale other claim others reads read' read has));
+    verified = λ J unit other c others read' stated _. (refl, took ∙ ap (append_known taken) (s.text ∙ (λ i. tree_line (s.only c (beside (λ K q d. IsStated K q d c) J I unit scale other claim others reads read' read stated) i) ((law.one_instance I J scale unit reads others).1 i))));
   }
 
   -- what is wrong with the claim was sent
-  judged_wrong : (I : Network) (claim : Claim) (sent : List ℕ) → Reads stp I → ReadsSolution solution claim → IsNotTreeLine I claim sent → now ≡ append_known taken sent → VerifiesSolution stp solution NotTree taken now
-  judged_wrong I claim sent reads read s took = record {
+  judged_wrong : (I : Network) (scale : Scale) (claim : Claim) (sent : List ℕ) → Reads stp I scale → ReadsSolution solution claim → IsNotTreeLine I scale claim sent → now ≡ append_known taken sent → VerifiesSolution stp solution NotTree taken now
+  judged_wrong I scale claim sent reads read s took = record {
     too_long = ((λ e. absurd cc), (λ long. absurd (fits long)));
-    refused_file = λ _. ((λ e. absurd cc), (λ r. absurd (law.not_both I r.0 r.1 reads r.2)));
-    refused = λ J others _. ((λ e. absurd cc), (λ r. absurd (claims.not_both claim r.0 r.1 read r.2)));
-    why = λ J line reason others no _. absurd (claims.not_both claim line reason read no);
-    not_tree = λ J other others read' _. ((λ e. (s.fault, beside (λ K c. HasVerifyFault K c s.fault) I J claim other reads others read read' s.has)), (λ f. refl));
-    named = λ J other f others read' has _. took ∙ ap (append_known taken) (s.text ∙ ap not_tree_line (s.only f (beside (λ K c. HasVerifyFault K c f) J I other claim others reads read' read has)));
-    verified = λ J other c others read' stated _. absurd (s.wrong c (beside (λ K d. IsStated K d c) J I other claim others reads read' read stated));
+    refused_file = λ _. ((λ e. absurd cc), (λ r. absurd (law.not_both I scale r.0 r.1 reads r.2)));
+    refused = λ J unit others _. ((λ e. absurd cc), (λ r. absurd (claims.not_both claim r.0 r.1 read r.2)));
+    why = λ J unit line reason others no _. absurd (claims.not_both claim line reason read no);
+    not_tree = λ J unit other others read' _. ((λ e. (s.fault, beside (λ K q c. HasVerifyFault K q c s.fault) I J scale unit claim other reads others read read' s.has)), (λ f. refl));
+    named = λ J unit other f others read' has _. took ∙ ap (append_known taken) (s.text ∙ ap not_tree_line (s.only f (beside (λ K q c. HasVerifyFault K q c f) J I unit scale other claim others reads read' read has)));
+    verified = λ J unit other c others read' stated _. absurd (s.wrong c (beside (λ K q d. IsStated K q d c) J I unit scale other claim others reads read' read stated));
   }
 
   -- why the bytes are no solution was sent
-  judged_none : (I : Network) (sent : List ℕ) → Reads stp I → IsNoSolutionLine solution sent → now ≡ append_known taken sent → VerifiesSolution stp solution RefusedSolution taken now
-  judged_none I sent reads s took = record {
+  judged_none : (I : Network) (scale : Scale) (sent : List ℕ) → Reads stp I scale → IsNoSolutionLine solution sent → now ≡ append_known taken sent → VerifiesSolution stp solution RefusedSolution taken now
+  judged_none I scale sent reads s took = record {
     too_long = ((λ e. absurd cc), (λ long. absurd (fits long)));
-    refused_file = λ _. ((λ e. absurd cc), (λ r. absurd (law.not_both I r.0 r.1 reads r.2)));
-    refused = λ J others _. ((λ e. (s.line, s.reason, s.refused)), (λ r. refl));
-    why = λ J line reason others no _.
+    refused_file = λ _. ((λ e. absurd cc), (λ r. absurd (law.not_both I scale r.0 r.1 reads r.2)));
+    refused = λ J unit others _. ((λ e. (s.line, s.reason, s.refused)), (λ r. refl));
+    why = λ J unit line reason others no _.
         let one = claims.one_fault s.line line s.reason reason s.refused no in
         took ∙ ap (append_known taken) (s.text ∙ (λ i. refused_solution (one.0 i) (one.1 i)));
-    not_tree = λ J other others read' _. absurd (claims.not_both other s.line s.reason read' s.refused);
-    named = λ J other f others read' has _. absurd (claims.not_both other s.line s.reason read' s.refused);
-    verified = λ J other c others read' stated _. absurd (claims.not_both other s.line s.reason read' s.refused);
+    not_tree = λ J unit other others read' _. absurd (claims.not_both other s.line s.reason read' s.refused);
+    named = λ J unit other f others read' has _. absurd (claims.not_both other s.line s.reason read' s.refused);
+    verified = λ J unit other c others read' stated _. absurd (claims.not_both other s.line s.reason read' s.refused);
   }
 
   -- the file was refused
@@ -119,18 +122,18 @@ module _ (stp solution : List ℕ) (taken now : Option (List ℕ)) (law : Refuse
   judged_file sent s = record {
     too_long = ((λ e. absurd cc), (λ long. absurd (fits long)));
     refused_file = λ _. ((λ e. (s.line, s.reason, s.refused)), (λ r. refl));
-    refused = λ J others _. absurd (law.not_both J s.line s.reason others s.refused);
-    why = λ J line reason others no _. absurd (law.not_both J s.line s.reason others s.refused);
-    not_tree = λ J other others read' _. absurd (law.not_both J s.line s.reason others s.refused);
-    named = λ J other f others read' has _. absurd (law.not_both J s.line s.reason others s.refused);
-    verified = λ J other c others read' stated _. absurd (law.not_both J s.line s.reason others s.refused);
+    refused = λ J unit others _. absurd (law.not_both J unit s.line s.reason others s.refused);
+    why = λ J unit line reason others no _. absurd (law.not_both J unit s.line s.reason others s.refused);
+    not_tree = λ J unit other others read' _. absurd (law.not_both J unit s.line s.reason others s.refused);
+    named = λ J unit other f others read' has _. absurd (law.not_both J unit s.line s.reason others s.refused);
+    verified = λ J unit other c others read' stated _. absurd (law.not_both J unit s.line s.reason others s.refused);
   }
 
   -- how texts that were loaded whole are answered decides the status
   answered_solution : (status : Status) (sent : List ℕ) → VerifyAnswer stp solution status sent → now ≡ append_known taken sent → VerifiesSolution stp solution status taken now
-  answered_solution Optimal sent s took = judged_tree s.instance s.line.claim sent s.reads s.line.reads s.line.line took
-  answered_solution NotTree sent s took = judged_wrong s.instance s.line.claim sent s.reads s.line.reads s.line.line took
-  answered_solution RefusedSolution sent s took = judged_none s.instance sent s.reads s.line took
+  answered_solution Optimal sent s took = judged_tree s.instance s.scale s.line.claim sent s.reads s.line.reads s.line.line took
+  answered_solution NotTree sent s took = judged_wrong s.instance s.scale s.line.claim sent s.reads s.line.reads s.line.line took
+  answered_solution RefusedSolution sent s took = judged_none s.instance s.scale sent s.reads s.line took
   answered_solution RefusedFile sent s took = judged_file sent s
   answered_solution Usage sent s took = absurd s.line.line
   answered_solution Budget sent s took = absurd s.line.line
@@ -147,11 +150,11 @@ long_texts : (stp solution : List ℕ) (taken now : Option (List ℕ)) → (2 ^ 
 long_texts stp solution taken now long = record {
   too_long = ((λ _. long), (λ _. refl));
   refused_file = λ short. absurd (too_long short long);
-  refused = λ J others short. absurd (too_long short long);
-  why = λ J line reason others no short. absurd (too_long short long);
-  not_tree = λ J other others read short. absurd (too_long short long);
-  named = λ J other f others read has short. absurd (too_long short long);
-  verified = λ J other c others read stated short. absurd (too_long short long);
+  refused = λ J unit others short. absurd (too_long short long);
+  why = λ J unit line reason others no short. absurd (too_long short long);
+  not_tree = λ J unit other others read short. absurd (too_long short long);
+  named = λ J unit other f others read has short. absurd (too_long short long);
+  verified = λ J unit other c others read stated short. absurd (too_long short long);
 } where
   too_long : AreShort stp solution → (2 ^ 34 < length stp) ⊎ (2 ^ 34 < length solution) → ⊥
   too_long short (inl long) = omega (arith, short.short_file, long)

@@ -3,7 +3,7 @@ use Rattle.std.specs.Prelude.{◌≡◌, ◌≢◌, ℕ, ◌^◌, ◌≤◌, Lis
 use Rattle.std.specs.Io.KnownBytes.{append_known}
 use Rattle.cert_checker.specs.declared.fault.CheckFault.{CheckFault}
 use Rattle.cert_checker.specs.declared.fault.CheckFault.TheVariants.{NoMemory}
-use Rattle.cert_checker.specs.declared.verdict.Verdict.{Verdict}
+use Rattle.cert_checker.specs.declared.verdict.Checked.{Checked}
 use Rattle.cert_checker.specs.Checking.{IsAnswer}
 use Rattle.command_line.specs.Words.{Command, CheckWords, check}
 use Rattle.steiner_top.specs.declared.status.Status.{Status}
@@ -11,13 +11,13 @@ use Rattle.steiner_top.specs.Answer.{IsLineOf}
 use Rattle.steiner_top.specs.Causes.{Texts}
 
 -- the run ended with the status of this answer, and its line was sent
-abbrev pub Gives : Status → Option (List ℕ) → Option (List ℕ) → Result Verdict CheckFault → Type 0
+abbrev pub Gives : Status → Option (List ℕ) → Option (List ℕ) → Result Checked CheckFault → Type 0
 Gives status taken now answer = (line : List ℕ) × IsLineOf answer status line × (now ≡ append_known taken line)
 
 -- an answer was given that is right of the file and the log, and each that is right is the one that was given
 pub record ChecksExactly (stp log : List ℕ) (status : Status) (taken now : Option (List ℕ)) : Type 0 where
-  pub some : (answer : Result Verdict CheckFault) × IsAnswer stp log answer × Gives status taken now answer
-  pub each : (answer : Result Verdict CheckFault) → IsAnswer stp log answer → answer ≢ Err NoMemory → Gives status taken now answer
+  pub some : (answer : Result Checked CheckFault) × IsAnswer stp log answer × Gives status taken now answer
+  pub each : (answer : Result Checked CheckFault) → IsAnswer stp log answer → answer ≢ Err NoMemory → Gives status taken now answer
 
 -- so it is where the words ask for it and both texts are known, short enough and loaded
 abbrev pub ChecksBothWays : Option Command → Texts → Status → Option (List ℕ) → Option (List ℕ) → Type 0

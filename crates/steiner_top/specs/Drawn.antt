@@ -1,5 +1,6 @@
 -- What the commands `gen` and `trial` are answered with.
 use Rattle.std.specs.Prelude.{◌≡◌, ◌⊎◌, ℕ, ◌<◌, Bool, false, List, Option, Some, None}
+use Rattle.amounts.specs.declared.scale.Scale.TheVariants.{Whole}
 use Rattle.st_model.specs.declared.tree.Tree.{Tree}
 use Rattle.st_model.specs.Network.{Network}
 use Rattle.st_model.specs.Arborescence.{IsBest, cost}
@@ -23,7 +24,7 @@ drawn_instance w prizes = generated w.seed w.n w.m w.t prizes
 pub record IsDrawn (w : GenWords) (status : Status) (outcome : Option Outcome) (sent : List ℕ) : Type 0 where
   pub ends : status ≡ Optimal
   pub no_outcome : outcome ≡ None
-  pub text : sent ≡ stp_text (drawn_instance w.drawn w.prizes)
+  pub text : sent ≡ stp_text (drawn_instance w.drawn w.prizes) Whole
 
 -- the instance that `trial` solves
 abbrev pub tried_instance : TrialWords → Network
@@ -31,12 +32,12 @@ tried_instance w = drawn_instance w.drawn false
 
 -- a tree was found
 abbrev pub HasTree : Outcome → Type 0
-HasTree (Found tree primal dual expanded searches log) = Unit {0}
+HasTree (Found tree primal dual expanded searches log scale) = Unit {0}
 HasTree (NoTree log) = ⊥
 
 -- the summary of a tree that was found
 abbrev pub IsSummary : Outcome → List ℕ → Type 0
-IsSummary (Found tree primal dual expanded searches log) text = text ≡ summary primal dual
+IsSummary (Found tree primal dual expanded searches log scale) text = text ≡ summary primal dual
 IsSummary (NoTree log) text = ⊥
 
 -- how `trial` is answered: by the cost of a tree and a bound, which are equal unless the whole budget was spent
@@ -47,7 +48,7 @@ pub record IsTried (w : TrialWords) (status : Status) (outcome : Option Outcome)
   pub expanded : ℕ
   pub searches : List Searched
   pub certificate : Log
-  pub given : outcome ≡ Some (Found tree primal dual expanded searches certificate)
+  pub given : outcome ≡ Some (Found tree primal dual expanded searches certificate Whole)
   pub found : IsFound 1000000 false (tried_instance w) tree primal dual expanded searches certificate
   pub text : sent ≡ summary primal dual
   pub ends : ((status ≡ Optimal) × (dual ≡ primal)) ⊎ ((status ≡ Budget) × (dual < primal))

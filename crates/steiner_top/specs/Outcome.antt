@@ -1,5 +1,6 @@
 -- What solving a file gives: a tree and a bound with their certificate, or a certificate that there is no tree.
 use Rattle.std.specs.Prelude.{◌≡◌, ℕ, ◌+◌, ◌^◌, ◌<◌, ◌≤◌, Bool, true, false, if◌then◌else◌, List, [], ◌∷◌, Result, Ok, Err}
+use Rattle.amounts.specs.declared.scale.Scale.{Scale}
 use Rattle.st_model.specs.declared.tree.Tree.{Tree}
 use Rattle.st_model.specs.Lists.{sum_to}
 use Rattle.st_model.specs.Network.{Network, is_required}
@@ -95,19 +96,19 @@ pub record IsWithoutTree (I : Network) (log : Log) : Type 0 where
   pub is_log : IsLog log
   pub accepted : Accepts I log
 
--- what is right of an instance, where so many nodes may be expanded, and it is to be plain or not
-abbrev pub IsOutcome : ℕ → Bool → Network → Outcome → Type 0
-IsOutcome nodes plain I (Found tree primal dual expanded searches log) = IsFound nodes plain I tree primal dual expanded searches log
-IsOutcome nodes plain I (NoTree log) = IsWithoutTree I log
+-- what is right of an instance whose costs count units of this scale, where so many nodes may be expanded, and it is to be plain or not
+abbrev pub IsOutcome : ℕ → Bool → Network → Scale → Outcome → Type 0
+IsOutcome nodes plain I unit (Found tree primal dual expanded searches log scale) = IsFound nodes plain I tree primal dual expanded searches log × (scale ≡ unit)
+IsOutcome nodes plain I unit (NoTree log) = IsWithoutTree I log
 
 -- the certificate of an outcome
 abbrev pub certificate_of : Outcome → Log
-certificate_of (Found tree primal dual expanded searches log) = log
+certificate_of (Found tree primal dual expanded searches log scale) = log
 certificate_of (NoTree log) = log
 
 -- what the bytes of a file give: an outcome of their instance, or the line at which they are refused
 abbrev pub Solves : ℕ → Bool → List ℕ → Result Outcome SolveFault → Type 0
-Solves nodes plain bytes (Ok outcome) = (I : Network) × Reads bytes I × IsOutcome nodes plain I outcome
+Solves nodes plain bytes (Ok outcome) = (I : Network) × (scale : Scale) × Reads bytes I scale × IsOutcome nodes plain I scale outcome
 Solves nodes plain bytes (Err (Stp f)) = Refused bytes f.line f.reason
 Solves nodes plain bytes (Err NoMemory) = Unit {0}
 

@@ -1,6 +1,8 @@
 -- What each status is called outside: its exit code, and the line that is sent in place of a solution or a verdict.
 use Rattle.std.specs.Prelude.{ℕ, List, [], ◌++◌, codes}
 use Rattle.std.specs.Fmt.{decimal}
+use Rattle.amounts.specs.declared.scale.Scale.{Scale}
+use Rattle.amounts.specs.Text.{amount_text}
 use Rattle.stp_reader.specs.declared.reason.Reason.{Reason}
 use Rattle.stp_reader.specs.Reason as reason
 use Rattle.log_format.specs.declared.kind.Kind.{Kind}
@@ -12,6 +14,7 @@ use Rattle.solution_reader.specs.declared.reason.SolReason.{SolReason}
 use Rattle.solution_reader.specs.declared.verify_fault.VerifyFault.{VerifyFault}
 use Rattle.solution_reader.specs.Reason as sol_reason
 use Rattle.solution_reader.specs.Stated.{number_of, fault_name}
+use Rattle.cert_checker.specs.declared.verdict.Checked.{Checked}
 use Rattle.cert_checker.specs.declared.verdict.Verdict.{Verdict}
 use Rattle.cert_checker.specs.declared.verdict.Verdict.TheVariants as verdict
 use Rattle.steiner_top.specs.declared.status.Status.{Status}
@@ -54,8 +57,8 @@ abbrev pub not_few_line : FewFault → List ℕ
 not_few_line f = codes "not few " ++ (decimal (few_fault.code_of f) ++ (codes " " ++ (few_fault.name_of f ++ codes "\n")))
 
 -- what is claimed is a tree of this cost
-abbrev pub tree_line : ℕ → List ℕ
-tree_line cost = codes "tree " ++ (decimal cost ++ codes "\n")
+abbrev pub tree_line : ℕ → Scale → List ℕ
+tree_line cost scale = codes "tree " ++ (amount_text cost scale ++ codes "\n")
 
 -- or it isn't, by the number and the name of what is wrong
 abbrev pub not_tree_line : VerifyFault → List ℕ
@@ -65,11 +68,15 @@ not_tree_line f = codes "not a tree " ++ (decimal (number_of f) ++ (codes " " ++
 abbrev pub refused_solution : ℕ → SolReason → List ℕ
 refused_solution line r = codes "refused solution " ++ (decimal line ++ (codes " " ++ (decimal (sol_reason.code_of r) ++ (codes " " ++ (sol_reason.name_of r ++ codes "\n")))))
 
+-- a verdict whose numbers count units of this scale
+abbrev pub verdict_text : Verdict → Scale → List ℕ
+verdict_text (verdict.Optimal primal) scale = codes "optimal " ++ (amount_text primal scale ++ codes "\n")
+verdict_text (verdict.Bound dual primal) scale = codes "bound " ++ (amount_text dual scale ++ (codes " " ++ (amount_text primal scale ++ codes "\n")))
+verdict_text verdict.NoTree scale = codes "no tree\n"
+
 -- the verdict on a log
-abbrev pub verdict_line : Verdict → List ℕ
-verdict_line (verdict.Optimal primal) = codes "optimal " ++ (decimal primal ++ codes "\n")
-verdict_line (verdict.Bound dual primal) = codes "bound " ++ (decimal dual ++ (codes " " ++ (decimal primal ++ codes "\n")))
-verdict_line verdict.NoTree = codes "no tree\n"
+abbrev pub verdict_line : Checked → List ℕ
+verdict_line checked = verdict_text checked.verdict checked.scale
 
 -- the cost of a tree that was found, the bound, and whether they are equal
 abbrev pub summary : ℕ → ℕ → List ℕ

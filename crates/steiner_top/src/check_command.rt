@@ -9,18 +9,18 @@ use crate::Status;
 use crate::answer::Answer;
 use crate::lines::{refused_log, refused_stp, verdict};
 use crate::loading::load;
-use cert_checker::{CheckFault, Verdict, check};
+use cert_checker::{CheckFault, Checked, check};
 use command_line::CheckWords;
 use st_edge::Shelf;
 use std::alloc::{AllocError, Global};
 
 // How what a check found is answered.
-fn answer_to(alloc: Global, found: Result<Verdict, CheckFault>) -> Result<Answer, AllocError>
+fn answer_to(alloc: Global, found: Result<Checked, CheckFault>) -> Result<Answer, AllocError>
     ensures line { IfOk result (λ a. IsLineOf found a.status a.text.items) }
     ensures outcome { IfOk result (λ a. a.outcome ≡ None) }
 {
     match found {
-        Ok(concluded) => Ok(Answer::of_line(Status::of(concluded), verdict(alloc, concluded)?)),
+        Ok(checked) => Ok(Answer::of_line(Status::of(checked.verdict), verdict(alloc, checked)?)),
         Err(CheckFault::Stp(fault)) => Ok(Answer::of_line(
             Status::RefusedFile,
             refused_stp(alloc, fault)?,

@@ -15,40 +15,41 @@ use command_line::FewWords;
 use dimacs_writer::solution_text;
 use few_terminals::{FewFault, few};
 use st_edge::Shelf;
-use st_model::{Instance, Tree, tree_cost};
+use st_model::{Tree, tree_cost};
 use std::alloc::{AllocError, Global};
-use stp_reader::{ReadError, read_stp};
+use stp_reader::{ReadError, Reading, read_stp};
 
 // The text of a best tree.
 fn best_text(
     alloc: Global,
     words: &FewWords<'_>,
-    instance: &Instance,
+    reading: &Reading,
     tree: &Tree,
 ) -> Result<Vec<u8>, AllocError>
-    requires { IsBest instance.now tree.now }
+    requires { IsBest reading.now.instance tree.now }
     ensures { IfOk result (λ text. IsSolutionText words.now.file.now 1 tree.now
-        (cost instance.now tree.now) (cost instance.now tree.now) text.items) }
+        (cost reading.now.instance tree.now) (cost reading.now.instance tree.now)
+        reading.now.scale text.items) }
 {
-    let cost = tree_cost(instance, tree);
-    solution_text(alloc, words.file, 1, tree, cost, cost)
+    let cost = tree_cost(&reading.instance, tree);
+    solution_text(alloc, words.file, 1, tree, cost, cost, reading.scale)
 }
 
 // How an instance is answered whose best tree is wanted.
-fn answer_instance(
+fn answer_reading(
     alloc: Global,
     words: &FewWords<'_>,
-    instance: &Instance,
+    reading: &Reading,
 ) -> Result<Answer, AllocError>
     ensures answer { IfOk result (λ a.
-        IsFoundText (few_words words.now) instance.now a.status a.text.items) }
+        IsFoundText (few_words words.now) reading.now.instance reading.now.scale a.status a.text.items) }
     ensures outcome { IfOk result (λ a. a.outcome ≡ None) }
 {
-    match few(alloc, instance) {
+    match few(alloc, &reading.instance) {
         Ok(Some(tree)) => Ok(Answer {
             status: Status::Optimal,
             outcome: None,
-            text: best_text(alloc, words, instance, &tree)?,
+            text: best_text(alloc, words, reading, &tree)?,
         }),
         Ok(None) => Ok(Answer::of_line(Status::Infeasible, infeasible(alloc)?)),
         Err(FewFault::NoMemory) => Err(AllocError),
@@ -62,7 +63,7 @@ fn answer_bytes(alloc: Global, words: &FewWords<'_>, bytes: &[u8]) -> Result<Ans
     ensures outcome { IfOk result (λ a. a.outcome ≡ None) }
 {
     match read_stp(alloc, bytes) {
-        Ok(instance) => answer_instance(alloc, words, &instance),
+        Ok(reading) => answer_reading(alloc, words, &reading),
         Err(ReadError::Fault(fault)) => Ok(Answer::of_line(
             Status::RefusedFile,
             refused_stp(alloc, fault)?,

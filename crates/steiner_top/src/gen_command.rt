@@ -4,6 +4,7 @@ ghost use Rattle.steiner_top.specs.Drawn.{IsDrawn};
 
 use crate::Status;
 use crate::answer::Answer;
+use amounts::Scale;
 use command_line::GenWords;
 use instance_gen::{generate, write_stp};
 use std::alloc::{AllocError, Global};
@@ -14,7 +15,7 @@ pub fn gen_command(alloc: Global, words: &GenWords) -> Result<Answer, AllocError
 {
     let drawn = words.drawn;
     let instance = generate(alloc, drawn.seed, drawn.n, drawn.m, drawn.t, words.prizes)?;
-    let text = write_stp(alloc, &instance)?;
+    let text = write_stp(alloc, &instance, Scale::Whole)?;
     Ok(Answer {
         status: Status::Optimal,
         outcome: None,

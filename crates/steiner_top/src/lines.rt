@@ -2,7 +2,8 @@ ghost use Rattle.std.specs.Prelude.{◌≡◌, IfOk, string_bytes};
 ghost use Rattle.dimacs_writer.specs.Solution.{remark};
 ghost use Rattle.steiner_top.specs.Output.{infeasible_line, not_few_line, not_tree_line, refused_stp, refused_log, refused_solution, summary, tree_line, verdict_line};
 
-use cert_checker::Verdict;
+use amounts::{Scale, amount_text};
+use cert_checker::{Checked, Verdict};
 use few_terminals::FewFault;
 use log_format::LogFault;
 use solution_reader::{SolFault, VerifyFault};
@@ -41,9 +42,10 @@ pub fn not_few(alloc: Global, fault: FewFault) -> Result<String, AllocError>
 }
 
 /// The line of the cost of a tree that was claimed.
-pub fn claimed_tree(alloc: Global, cost: u64) -> Result<String, AllocError>
-    ensures { IfOk result (λ line. string_bytes line ≡ tree_line cost) }
+pub fn claimed_tree(alloc: Global, cost: u64, scale: Scale) -> Result<String, AllocError>
+    ensures { IfOk result (λ line. string_bytes line ≡ tree_line cost scale) }
 {
+    let cost = amount_text(alloc, cost, scale)?;
     format!(in alloc; "tree {cost}\n")
 }
 
@@ -64,12 +66,19 @@ pub fn refused_claim(alloc: Global, fault: SolFault) -> Result<String, AllocErro
 }
 
 /// The line of a verdict.
-pub fn verdict(alloc: Global, verdict: Verdict) -> Result<String, AllocError>
-    ensures { IfOk result (λ line. string_bytes line ≡ verdict_line verdict) }
+pub fn verdict(alloc: Global, checked: Checked) -> Result<String, AllocError>
+    ensures { IfOk result (λ line. string_bytes line ≡ verdict_line checked) }
 {
-    match verdict {
-        Verdict::Optimal(primal) => format!(in alloc; "optimal {primal}\n"),
-        Verdict::Bound { dual, primal } => format!(in alloc; "bound {dual} {primal}\n"),
+    match checked.verdict {
+        Verdict::Optimal(primal) => {
+            let primal = amount_text(alloc, primal, checked.scale)?;
+            format!(in alloc; "optimal {primal}\n")
+        }
+        Verdict::Bound { dual, primal } => {
+            let dual = amount_text(alloc, dual, checked.scale)?;
+            let primal = amount_text(alloc, primal, checked.scale)?;
+            format!(in alloc; "bound {dual} {primal}\n")
+        }
         Verdict::NoTree => String::from_str(alloc, "no tree\n"),
     }
 }

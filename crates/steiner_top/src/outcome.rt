@@ -2,6 +2,7 @@ ghost use Rattle.std.specs.Prelude.{◌≡◌};
 ghost use Rattle.steiner_top.specs.declared.outcome.SolveFault.TheVariants.{NoMemory};
 ghost use Rattle.steiner_top.specs.Outcome.{certificate_of, fault_of_file};
 
+use amounts::Scale;
 use log_format::Log;
 use search_core::Searched;
 use st_model::{Listed, Tree};
@@ -12,7 +13,7 @@ use stp_reader::{ReadError, StpFault};
 #[derive(Debug, Drop)]
 pub enum Outcome {
     /// A tree of cost `primal`, and that no tree costs less than `dual`; how many nodes were
-    /// expanded, and the searches that found it.
+    /// expanded, the searches that found it, and what costs count.
     Found {
         tree: Tree,
         primal: u64,
@@ -20,6 +21,7 @@ pub enum Outcome {
         expanded: u64,
         searches: Listed<Searched>,
         certificate: Log,
+        scale: Scale,
     },
     /// There is no tree.
     NoTree {

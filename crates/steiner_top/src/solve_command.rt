@@ -39,8 +39,17 @@ fn outcome_text(
             tree,
             primal,
             dual,
+            scale,
             ..
-        } => solution_text(alloc, words.file, words.workers, tree, *dual, *primal),
+        } => solution_text(
+            alloc,
+            words.file,
+            words.workers,
+            tree,
+            *dual,
+            *primal,
+            *scale,
+        ),
         Outcome::NoTree { .. } => Ok(infeasible(alloc)?.into_bytes()),
     }
 }

@@ -1,4 +1,5 @@
 ghost use Rattle.std.specs.Prelude.{◌≡◌, ◌⊎◌, ℕ, Bool, IfOk, Err};
+ghost use Rattle.amounts.specs.declared.scale.Scale.{Scale as FileScale};
 ghost use Rattle.st_model.specs.declared.tree.Tree.{Tree as Grown};
 ghost use Rattle.st_model.specs.Arborescence.{IsTree};
 ghost use Rattle.st_model.specs.Wall.{IsWall};
@@ -17,6 +18,7 @@ use crate::nearing::near_start;
 use crate::outcome::{Outcome, SolveFault};
 use crate::reducing::{count_steps, left_of, left_over};
 use crate::start::wall_of;
+use amounts::Scale;
 use certificate_log::assemble;
 use graph_store::Whole;
 use lift_back::Reduced;
@@ -26,7 +28,7 @@ use st_model::{Instance, Listed, Sides, Tree, tree_cost};
 use std::alloc::{AllocError, Global};
 use std::sync::Wait;
 use std::thread::Threads;
-use stp_reader::read_stp;
+use stp_reader::{Reading, read_stp};
 use worker_loop::{Gate, run_all};
 
 /// Solves an STP file, all of the bytes, expanding so many nodes at most: a tree and a bound with
@@ -64,26 +66,26 @@ fn solve<R: Threads + Wait + Sync, G: Gate>(
 ) -> Result<Outcome, SolveFault>
     ensures { Solves nodes plain stp.now result }
 {
-    let instance = read_stp(alloc, stp)?;
-    let outcome = solve_instance(rt, alloc, &instance, workers, nodes, plain, gate)?;
+    let reading = read_stp(alloc, stp)?;
+    let outcome = solve_reading(rt, alloc, &reading, workers, nodes, plain, gate)?;
     Ok(outcome)
 }
 
-/// Solves an instance, expanding so many nodes at most.
-pub fn solve_instance<R: Threads + Wait + Sync, G: Gate>(
+/// Solves an instance that was read, expanding so many nodes at most.
+pub fn solve_reading<R: Threads + Wait + Sync, G: Gate>(
     rt: &R,
     alloc: Global,
-    instance: &Instance,
+    reading: &Reading,
     workers: u32,
     nodes: u64,
     plain: bool,
     gate: &G,
 ) -> Result<Outcome, AllocError>
-    ensures { IfOk result (IsOutcome nodes plain instance.now) }
+    ensures { IfOk result (IsOutcome nodes plain reading.now.instance reading.now.scale) }
 {
-    match wall_of(alloc, instance)? {
-        Some(wall) => Ok(without_tree(instance, wall)),
-        None => find(rt, alloc, instance, workers, nodes, plain, gate),
+    match wall_of(alloc, &reading.instance)? {
+        Some(wall) => Ok(without_tree(&reading.instance, wall)),
+        None => find(rt, alloc, reading, workers, nodes, plain, gate),
     }
 }
 
@@ -91,19 +93,20 @@ pub fn solve_instance<R: Threads + Wait + Sync, G: Gate>(
 fn find<R: Threads + Wait + Sync, G: Gate>(
     rt: &R,
     alloc: Global,
-    instance: &Instance,
+    reading: &Reading,
     workers: u32,
     nodes: u64,
     plain: bool,
     gate: &G,
 ) -> Result<Outcome, AllocError>
-    requires { (t : Grown) × IsTree instance.now t }
-    ensures { IfOk result (IsOutcome nodes plain instance.now) }
+    requires { (t : Grown) × IsTree reading.now.instance t }
+    ensures { IfOk result (IsOutcome nodes plain reading.now.instance reading.now.scale) }
 {
+    let instance = &reading.instance;
     prove!(1 <= instance.vertices());
     let left = left_of(alloc, instance, plain)?;
     let best = search_left(rt, alloc, &left.reduced, workers, nodes, gate)?;
-    found(alloc, instance, nodes, plain, left, best)
+    found(alloc, reading, nodes, plain, left, best)
 }
 
 // Searches for a least tree of what is left.
@@ -168,30 +171,35 @@ fn search_from<R: Threads + Wait + Sync, G: Gate>(
 // What a search in what is left found, as a tree of the instance, with its certificate.
 fn found(
     alloc: Global,
-    instance: &Instance,
+    reading: &Reading,
     nodes: u64,
     plain: bool,
     left: Left,
     best: Best,
 ) -> Result<Outcome, AllocError>
-    requires left { IsLeftOf instance.now plain left }
+    requires left { IsLeftOf reading.now.instance plain left }
     requires best { IsBestOf left.reduced.state nodes best }
-    ensures { IfOk result (IsOutcome nodes plain instance.now) }
+    ensures { IfOk result (IsOutcome nodes plain reading.now.instance reading.now.scale) }
 {
     log_format::accepted_holds();
-    prove!(1 <= instance.vertices());
+    prove!(1 <= reading.instance.vertices());
     let Left { steps, reduced } = left;
     // So that each step can be written.
     count_steps(&steps);
     let Best { tree, search } = best;
     let certificate = assemble(alloc, steps, &reduced, &tree, &search.gathered)?;
-    shown(alloc, search, certificate)
+    shown(alloc, search, certificate, reading.scale)
 }
 
 // What a log shows, as what a search found.
-fn shown(alloc: Global, search: Searched, certificate: Log) -> Result<Outcome, AllocError>
+fn shown(
+    alloc: Global,
+    search: Searched,
+    certificate: Log,
+    scale: Scale,
+) -> Result<Outcome, AllocError>
     requires { IsFoundClaim certificate.claim }
-    ensures { IfOk result (IsShownBy search certificate) }
+    ensures { IfOk result (IsShownBy search certificate scale) }
 {
     let expanded = search.gathered.claimed;
     let (tree, primal, dual) = claimed(alloc, &certificate)?;
@@ -202,6 +210,7 @@ fn shown(alloc: Global, search: Searched, certificate: Log) -> Result<Outcome, A
         expanded,
         searches: Listed::of(vec![in alloc; search]?),
         certificate,
+        scale,
     })
 }
 
@@ -225,7 +234,7 @@ fn claimed(alloc: Global, log: &Log) -> Result<(Tree, u64, u64), AllocError>
 fn without_tree(instance: &Instance, wall: Vec<u32>) -> Outcome
     requires set { IsWritableSet wall.items }
     requires wall { IsWall instance.now wall.items }
-    ensures { (nodes : ℕ) (plain : Bool) → IsOutcome nodes plain instance.now result }
+    ensures { (nodes : ℕ) (plain : Bool) (unit : FileScale) → IsOutcome nodes plain instance.now unit result }
 {
     log_format::accepted_holds();
     prove!(1 <= instance.vertices());

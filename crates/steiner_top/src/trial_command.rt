@@ -1,4 +1,5 @@
 ghost use Rattle.std.specs.Prelude.{◌≡◌, IfOk};
+ghost use Rattle.amounts.specs.declared.scale.Scale.TheVariants.{Whole};
 ghost use Rattle.command_line.specs.Seen.{trial_words};
 ghost use Rattle.steiner_top.specs.Drawn.{HasTree, IsSummary, IsTried, tried_instance};
 
@@ -6,24 +7,30 @@ use crate::answer::Answer;
 use crate::lines::summary;
 use crate::outcome::Outcome;
 use crate::solve_command::outcome_status;
-use crate::solving::solve_instance;
+use crate::solving::solve_reading;
+use amounts::Scale;
 use command_line::TrialWords;
 use instance_gen::{generate, generated_are_connected};
-use st_model::Instance;
 use std::alloc::{AllocError, Global};
 use std::sync::Wait;
 use std::thread::Threads;
+use stp_reader::Reading;
 use worker_loop::Gate;
 
 // How many nodes may be expanded.
 const NODES: u64 = 1_000_000;
 
-// The instance that the words say.
-fn draw(alloc: Global, words: &TrialWords) -> Result<Instance, AllocError>
-    ensures { IfOk result (λ i. i ≡ tried_instance (trial_words words.now)) }
+// The instance that the words say, whose costs are whole.
+fn draw(alloc: Global, words: &TrialWords) -> Result<Reading, AllocError>
+    ensures instance { IfOk result (λ r. r.instance ≡ tried_instance (trial_words words.now)) }
+    ensures scale { IfOk result (λ r. r.scale ≡ Whole) }
 {
     let drawn = words.drawn;
-    generate(alloc, drawn.seed, drawn.n, drawn.m, drawn.t, false)
+    let instance = generate(alloc, drawn.seed, drawn.n, drawn.m, drawn.t, false)?;
+    Ok(Reading {
+        instance,
+        scale: Scale::Whole,
+    })
 }
 
 // The summary of a tree that was found.
@@ -47,8 +54,8 @@ pub fn trial_command<R: Threads + Wait + Sync, G: Gate>(
     ensures { IfOk result (λ a. IsTried (trial_words words.now) a.status a.outcome a.text.items) }
 {
     generated_are_connected();
-    let instance = draw(alloc, words)?;
-    let outcome = solve_instance(rt, alloc, &instance, words.workers, NODES, false, gate)?;
+    let reading = draw(alloc, words)?;
+    let outcome = solve_reading(rt, alloc, &reading, words.workers, NODES, false, gate)?;
     let text = summary_of(alloc, &outcome)?;
     Ok(Answer {
         status: outcome_status(&outcome),

@@ -12,33 +12,30 @@ use crate::loading::load;
 use command_line::VerifyWords;
 use solution_reader::{Claimed, SolError, VerifyFault, read_solution, verify};
 use st_edge::Shelf;
-use st_model::Instance;
 use std::alloc::{AllocError, Global};
-use stp_reader::{ReadError, read_stp};
+use stp_reader::{ReadError, Reading, read_stp};
 
 // How a claim is answered.
-fn answer_claim(alloc: Global, instance: &Instance, claimed: &Claimed) -> Result<Answer, AllocError>
-    ensures line { IfOk result (λ a. IsClaimLine instance.now claimed.now a.status a.text.items) }
+fn answer_claim(alloc: Global, reading: &Reading, claimed: &Claimed) -> Result<Answer, AllocError>
+    ensures line { IfOk result (λ a.
+        IsClaimLine reading.now.instance reading.now.scale claimed.now a.status a.text.items) }
     ensures outcome { IfOk result (λ a. a.outcome ≡ None) }
 {
-    match verify(alloc, instance, claimed) {
-        Ok(cost) => Ok(Answer::of_line(Status::Optimal, claimed_tree(alloc, cost)?)),
+    match verify(alloc, &reading.instance, reading.scale, claimed) {
+        Ok(cost) => Ok(Answer::of_line(Status::Optimal, claimed_tree(alloc, cost, reading.scale)?)),
         Err(VerifyFault::NoMemory) => Err(AllocError),
         Err(fault) => Ok(Answer::of_line(Status::NotTree, not_tree(alloc, fault)?)),
     }
 }
 
 // How the bytes of a solution are answered beside an instance.
-fn answer_solution(
-    alloc: Global,
-    instance: &Instance,
-    solution: &[u8],
-) -> Result<Answer, AllocError>
-    ensures line { IfOk result (λ a. IsSolutionLine instance.now solution.now a.status a.text.items) }
+fn answer_solution(alloc: Global, reading: &Reading, solution: &[u8]) -> Result<Answer, AllocError>
+    ensures line { IfOk result (λ a.
+        IsSolutionLine reading.now.instance reading.now.scale solution.now a.status a.text.items) }
     ensures outcome { IfOk result (λ a. a.outcome ≡ None) }
 {
     match read_solution(alloc, solution) {
-        Ok(claimed) => answer_claim(alloc, instance, &claimed),
+        Ok(claimed) => answer_claim(alloc, reading, &claimed),
         Err(SolError::Fault(fault)) => Ok(Answer::of_line(
             Status::RefusedSolution,
             refused_claim(alloc, fault)?,
@@ -53,7 +50,7 @@ fn answer_bytes(alloc: Global, stp: &[u8], solution: &[u8]) -> Result<Answer, Al
     ensures outcome { IfOk result (λ a. a.outcome ≡ None) }
 {
     match read_stp(alloc, stp) {
-        Ok(instance) => answer_solution(alloc, &instance, solution),
+        Ok(reading) => answer_solution(alloc, &reading, solution),
         Err(ReadError::Fault(fault)) => Ok(Answer::of_line(
             Status::RefusedFile,
             refused_stp(alloc, fault)?,

@@ -11,11 +11,11 @@ use Rattle.steiner_top.proofs.solving.found.Goals as goal
 pub assemble-requires-clause-steps : goal.assemble-requires-clause-steps
 assemble-requires-clause-steps c =
     let counted = rw c.deref.ensures.value at c.count_steps.ensures.vertices in
-    steps_are_writable c.args.instance.now c.args.left.steps.items c.args.left.reduced.state c.vertices.ensures.instance c.requires.left.applies counted
+    steps_are_writable c.args.reading.now.instance c.args.left.steps.items c.args.left.reduced.state c.vertices.ensures.instance c.requires.left.applies counted
 
 pub returns : goal.returns
 returns c =
-    let I = c.args.instance.now in
+    let I = c.args.reading.now.instance in
     let steps = c.args.left.steps.items in
     let s = c.args.left.reduced.state in
     let log = c.in_ok-certificate.certificate in
@@ -26,5 +26,5 @@ returns c =
       best = c.requires.best;
       assembled = subst (λ (J : Network). IsAssembled steps J s c.args.best.search.gathered log) c.requires.left.first c.in_ok-certificate.ensures;
     } in
-    IfOk-weaker c.shown.result (IsShownBy c.args.best.search log) (IsOutcome c.args.nodes c.args.plain I)
-    (λ o. shown_outcome c.args.nodes c.args.plain I steps s c.args.best log led o c.accepted_holds.ensures) c.shown.ensures
+    IfOk-weaker c.shown.result (IsShownBy c.args.best.search log c.args.reading.now.scale) (IsOutcome c.args.nodes c.args.plain I c.args.reading.now.scale)
+    (λ o. shown_outcome c.args.nodes c.args.plain I steps s c.args.best log led c.args.reading.now.scale o c.accepted_holds.ensures) c.shown.ensures

@@ -1,4 +1,0 @@
-use Rattle.steiner_top.proofs.solving.solve_instance.Goals as goal
-
-pub returns-in-Some : goal.returns-in-Some
-returns-in-Some g c = c.without_tree.ensures c.args.nodes c.args.plain
