@@ -1,5 +1,5 @@
 -- What joining one by one ends with: all are joined, or there is no tree.
-use Rattle.std.proofs.Common.{◌≡◌, ℕ, ◌^◌, ◌≤◌, List, [], ◌∷◌, Option, Some, None, refl, sym, ap, subst, ◌∙◌, arith}
+use Rattle.std.proofs.Common.{◌≡◌, ℕ, ◌-◌, ◌^◌, ◌≤◌, List, [], ◌∷◌, Option, Some, None, refl, sym, ap, subst, ◌∙◌, arith}
 use Rattle.std.specs.Prelude.{All, IfSome, IsTrue, IsFalse}
 use Rattle.std.specs.declared.cmp.Reverse.{Reverse}
 use Rattle.std.proofs.lemmas.Bool.{false≢true}
@@ -37,7 +37,7 @@ those_terminal I terminals v those there =
     let vertex = IsVertexSet-member I.n terminals v those.set there in
     record { vertex = vertex; required = sym (those.same v vertex) ∙ there }
 
-module _ (I : Network) (c : Cells) (j : Joining) (terminals : List ℕ) (is : IsJoining I c j) (those : AreThose (is_required I) I.n terminals) where
+module _ (I : Network) (c : Cells) (j : Joining) (terminals : List ℕ) (is : IsJoining I c j []) (those : AreThose (is_required I) I.n terminals) where
   ordered : ((v : ℕ) → IsTrue (has terminals v) → IsTrue (has j.joined.members v)) → (v : ℕ) → IsTerminal I v → IsTrue (has is.order v)
   ordered all v t = sym (is.same v) ∙ all v (those.same v t.vertex ∙ t.required)
 
@@ -48,17 +48,16 @@ module _ (I : Network) (c : Cells) (j : Joining) (terminals : List ℕ) (is : Is
     required = λ v vertex required. same v ∙ is.reached v (ordered all v (record { vertex = vertex; required = required }));
   }
 
-  pub laid_twice : ((v : ℕ) → IsTrue (has terminals v) → IsTrue (has j.joined.members v)) → IsInstance I → NobodyPays I → (t new : Tree) → total (arc_cost I) t.arcs ≡ spent I j.laid → cost I new ≤ cost I t → IsWithinTwice I new
-  laid_twice all instance free t new sum less =
+  pub laid_twice : ((v : ℕ) → IsTrue (has terminals v) → IsTrue (has j.joined.members v)) → IsInstance I → NobodyPays I → (t : Tree) → total (arc_cost I) t.arcs ≡ spent I j.laid → IsWithinTwice I t
+  laid_twice all instance free t sum =
       let whole = free_cost I t free in
       let cheap = is.cheap in
-      within_twice I new is.first is.order is.paid instance is.terminal is.are_joined (ordered all) (omega (arith, whole, cheap, sum, less))
+      within_twice I t is.first is.order is.paid instance is.terminal is.are_joined (ordered all) (omega (arith, whole, cheap, sum))
 
   -- or one isn't, and no link leads on
-  pub left_alone : AreCells I c → j.offers ≡ [] → (q : ℕ) → IsTrue (has terminals q) → IsFalse (has j.joined.members q) → (t : Tree) → IsTree I t → ⊥
-  left_alone cells none q listed out t tree =
-      let low = subst (All (λ (o : Reverse Offer). 2 ^ 64 ≤ o.0.cost)) (sym none) (All-nil (λ (o : Reverse Offer). 2 ^ 64 ≤ o.0.cost)) in
-      let near = none_is_nearer I c is.first is.order is.paid j.offers (2 ^ 64) cells.instance cells is.terminal is.are_joined is.offered (omega arith) low in
+  pub left_alone : AreCells I c → (q : ℕ) → IsTrue (has terminals q) → IsFalse (has j.joined.members q) → (t : Tree) → IsTree I t → ⊥
+  left_alone cells q listed out t tree =
+      let near = none_is_nearer I c is.first is.order is.paid j.opening.least.items [] (2 ^ 64 - 1) cells.instance cells is.terminal is.are_joined is.low is.told (omega arith) (All-nil (λ (o : Reverse Offer). 2 ^ 64 - 1 ≤ o.0.cost)) in
       no_tree I t is.order is.first q cells.instance is.terminal (joined_first I is.first is.order is.paid is.are_joined) (those_terminal I terminals q those listed) (sym (is.same q) ∙ out) near tree
 
 -- ---- what is found
@@ -107,14 +106,6 @@ pub none_present : (g : Graph) → ((v : ℕ) → IsVertex g.network.n v → IsF
 none_present g none t tree belongs present =
     let here = present t.start (has-reached_from (t.start ∷ []) t.arcs t.start (has-cons_head [] t.start t.start refl)) in
     false≢true (sym (none t.start tree.arborescence.start) ∙ here)
-
--- ---- the branch of all trees
-
-pub everything : (I : Network) → IsBranch I all_trees
-everything I = record { inside = IsVertexSet-nil I.n; outside = IsVertexSet-nil I.n; apart = λ v there. absurd (false≢true there) }
-
-pub belongs_to_all : (t : Tree) → Belongs all_trees t
-belongs_to_all t = record { inside = λ v there. absurd (false≢true there); outside = λ v there. absurd (false≢true there) }
 
 -- where all that are listed are in an empty set, there is none
 pub none_listed : (I : Network) (terminals set : List ℕ) → AreThose (is_required I) I.n terminals → set ≡ [] → ((v : ℕ) → IsTrue (has terminals v) → IsTrue (has set v)) → (v : ℕ) → IsTerminal I v → ⊥

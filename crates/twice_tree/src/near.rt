@@ -1,5 +1,5 @@
-ghost use Rattle.std.specs.Prelude.{◌≡◌, ℕ, ◌≤◌, [], IfNone, IfOk, IfSome, IsFalse, IsTrue};
-ghost use Rattle.st_model.specs.Arborescence.{IsTree, cost};
+ghost use Rattle.std.specs.Prelude.{◌≡◌, ℕ, [], IfNone, IfOk, IfSome, IsFalse, IsTrue};
+ghost use Rattle.st_model.specs.Arborescence.{IsTree};
 ghost use Rattle.st_model.specs.Branch.{AreThose, all_trees};
 ghost use Rattle.st_model.specs.Lists.{has};
 ghost use Rattle.st_model.specs.Network.{IsVertex, is_required as required};
@@ -11,9 +11,8 @@ ghost use Rattle.twice_tree.specs.Twice.{IsWithinTwice};
 use crate::cells::Cells;
 use crate::joining::Joining;
 use graph_store::Store;
-use st_model::{Branch, Listed, Need, Sides, Tree, VertexSet};
+use st_model::{Listed, Need, Tree, VertexSet};
 use std::alloc::{AllocError, Global};
-use tree_heuristic::prune;
 
 /// A tree of a graph in which nobody pays that costs at most twice the least, less a share of one
 /// in as many as are required. From a first required vertex on, the nearest one is joined again and
@@ -85,10 +84,7 @@ fn joined_tree(
     let joining = Joining::over(alloc, store, &cells, first)?;
     match missing(terminals, &joining.joined) {
         Some(_) => Ok(None),
-        None => {
-            let tree = pruned(alloc, store, joining.laid.into_tree())?;
-            Ok(Some(tree))
-        }
+        None => Ok(Some(joining.laid.into_tree())),
     }
 }
 
@@ -103,18 +99,6 @@ fn missing(vertices: &[u32], set: &VertexSet) -> Option<u32>
         }
     }
     None
-}
-
-// The tree without the leaves that nobody requires.
-fn pruned(alloc: Global, store: &Store, tree: Tree) -> Result<Tree, AllocError>
-    requires { IsTree store.now.network tree }
-    ensures tree { IfOk result (IsTree store.now.network) }
-    ensures cost { IfOk result (λ new. cost store.now.network new ≤ cost store.now.network tree) }
-{
-    let instance = store.instance(alloc)?;
-    let branch = Sides::of(alloc, Branch::all(alloc))?;
-    let new = prune(alloc, &instance, &branch, tree)?;
-    Ok(new)
 }
 
 // One vertex that is present.

@@ -1,7 +1,7 @@
-use Rattle.std.proofs.Common.{◌≤◌, ◌∷◌, List, subst, sym, ◌∙◌}
+use Rattle.std.proofs.Common.{◌≤◌, [], ◌∷◌, List, subst}
 use Rattle.std.specs.declared.cmp.Reverse.{Reverse}
 use Rattle.std.proofs.lemmas.List.Elements.{All-tail}
-use Rattle.std.proofs.lemmas.List.Sorted.{All-permutation}
+use Rattle.std.proofs.lemmas.List.Sorted.{All-permutation, IsPermutation-refl}
 use Rattle.twice_tree.specs.declared.offers.Offer.{Offer}
 use Rattle.twice_tree.specs.Joining.{IsJoining}
 use Rattle.twice_tree.proofs.Joined.{joining_moved}
@@ -10,13 +10,14 @@ use Rattle.twice_tree.proofs.joining.Joining.over.Goals as goal
 pub take-requires-clause-taking : goal.take-requires-clause-taking
 take-requires-clause-taking c =
     let offer = c.in-Some.offer in
-    let old = c.loop-offer.joining.offers in
+    let old = c.loop-offer.joining.opening.offers in
     let new = c.next.new.self in
     record {
-      joining = joining_moved c.args.store.now.network c.args.cells.now c.loop-offer.joining (record { 0 = offer } ∷ new) c.loop-offer.invariant c.in-Some.ensures.moved;
+      joining = joining_moved c.args.store.now.network c.args.cells.now c.loop-offer.joining old (record { 0 = offer } ∷ new) new c.loop-offer.invariant c.in-Some.ensures.moved;
       cheapest = All-tail (λ (other : Reverse Offer). offer.cost ≤ other.0.cost) (record { 0 = offer }) new (All-permutation (λ (other : Reverse Offer). offer.cost ≤ other.0.cost) old (record { 0 = offer } ∷ new) c.in-Some.ensures.moved c.in-Some.ensures.cheapest);
     }
 
-pub returns-clause-joining : goal.returns-clause-joining
-returns-clause-joining c =
-    subst (λ (offers : List (Reverse Offer)). IsJoining c.args.store.now.network c.args.cells.now (record c.loop-offer.joining { offers = offers })) (c.in_default.ensures.empty ∙ sym c.in_default.ensures.none) c.loop-offer.invariant
+pub returns : goal.returns
+returns c =
+    let is = subst (λ (offers : List (Reverse Offer)). IsJoining c.args.store.now.network c.args.cells.now c.loop-offer.joining offers) c.in_default.ensures.empty c.loop-offer.invariant in
+    joining_moved c.args.store.now.network c.args.cells.now c.loop-offer.joining [] [] c.next.new.self is (IsPermutation-refl [])
