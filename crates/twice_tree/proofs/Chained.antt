@@ -1,9 +1,9 @@
 -- The vertices of each cell, chained one by one from the last one down.
-use Rattle.std.proofs.Common.{◌≡◌, ℕ, ◌+◌, ◌<◌, ◌≤◌, List, ◌∷◌, length, get_or, map, set, replicate, cond, Bool, true, false, Option, refl, sym, ap, subst, ◌∙◌, ◌⊎◌, inl, inr, arith}
-use Rattle.std.proofs.lemmas.Bool.{cases_eq, cases_lt}
+use Rattle.std.proofs.Common.{◌≡◌, ℕ, ◌+◌, ◌<◌, ◌≤◌, List, ◌∷◌, length, get_or, map, set, replicate, cond, Option, sym, ap, subst, ◌∙◌, ◌⊎◌, inl, inr, arith}
+use Rattle.std.proofs.lemmas.Bool.{cases_eq}
 use Rattle.std.proofs.lemmas.List.{length-set, length-replicate, get_or-replicate, get_or-set_same, get_or-set_other}
 use Rattle.st_model.specs.Network.{Network, IsVertex, is_required}
-use Rattle.short_paths.specs.Routes.{Route, route_of, source_of}
+use Rattle.short_paths.specs.Routes.{Route, source_of}
 use Rattle.twice_tree.specs.declared.chains.Chains.{Chains}
 use Rattle.twice_tree.specs.declared.chains.Place.{Place}
 use Rattle.twice_tree.specs.Cells.{AreChained, IsFirst, IsPlace, far_in, place_at, terminal_of}

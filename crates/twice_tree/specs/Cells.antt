@@ -2,7 +2,7 @@
 use Rattle.std.specs.Prelude.{◌≡◌, ℕ, ◌+◌, ◌-◌, ◌^◌, ◌<◌, ◌≤◌, if◌then◌else◌, List, length, Option, slice_index_or, unwrap_or}
 use Rattle.std.specs.Option.{option_map}
 use Rattle.st_model.specs.Branch.{AreThose}
-use Rattle.st_model.specs.Network.{Network, IsInstance, IsVertex, is_required}
+use Rattle.st_model.specs.Network.{Network, IsInstance, is_required}
 use Rattle.short_paths.specs.Routes.{Route, AreRoutes, route_of, source_of}
 use Rattle.twice_tree.specs.declared.cells.Cells.{Cells}
 use Rattle.twice_tree.specs.declared.chains.Chains.{Chains}

@@ -1,4 +1,4 @@
-ghost use Rattle.std.specs.Prelude.{◌≡◌, ◌+◌, ◌^◌, ◌<◌, ◌≤◌, ◌∷◌, ◌++◌, [], IfOk, IsFalse, OnOk, length};
+ghost use Rattle.std.specs.Prelude.{◌≡◌, ◌+◌, ◌^◌, ◌<◌, ◌≤◌, ◌⊎◌, ◌∷◌, ◌++◌, [], IfOk, IsFalse, OnOk, length};
 ghost use Rattle.st_model.specs.Lists.{has};
 ghost use Rattle.st_model.specs.Terminals.{IsTerminal};
 ghost use Rattle.twice_tree.specs.Cells.{AreCells};
@@ -25,19 +25,26 @@ pub struct Joining {
 }
 
 impl Joining {
-    // From a first terminal on, as many as links lead to.
+    // From a first terminal on, until so many are joined or no link leads on.
     pub fn over(
         alloc: Global,
         store: &Store,
         cells: &Cells,
         first: u32,
+        count: usize,
     ) -> Result<Joining, AllocError>
         requires cells { AreCells store.now.network cells.now }
         requires first { IsTerminal store.now.network first }
-        ensures { IfOk result (λ joining. IsJoining store.now.network cells.now joining []) }
+        ensures joining { IfOk result (λ joining. IsJoining store.now.network cells.now joining
+            joining.opening.offers) }
+        ensures ended { IfOk result (λ joining. (count ≤ length joining.joined.members)
+            ⊎ (joining.opening.offers ≡ [])) }
     {
         let mut joining = Joining::at(alloc, store, cells, first)?;
-        while let Some(offer) = joining.opening.offers.next() {
+        while joining.joined.members().len() < count {
+            let Some(offer) = joining.opening.offers.next() else {
+                return Ok(joining);
+            };
             joining.take(alloc, store, cells, offer)?;
         }
         Ok(joining)

@@ -81,7 +81,7 @@ fn joined_tree(
     ensures none { IfOk result (λ found. IfNone found (HasNoTree store.now all_trees)) }
 {
     let cells = Cells::of(alloc, store, terminals)?;
-    let joining = Joining::over(alloc, store, &cells, first)?;
+    let joining = Joining::over(alloc, store, &cells, first, terminals.len())?;
     match missing(terminals, &joining.joined) {
         Some(_) => Ok(None),
         None => Ok(Some(joining.laid.into_tree())),

@@ -47,12 +47,7 @@ impl Opening {
     }
 
     // Offers each link from a vertex that costs less than any before to the cell that it leads to.
-    fn offer_links(
-        &mut self,
-        store: &Store,
-        cells: &Cells,
-        vertex: u32,
-    ) -> Result<(), AllocError>
+    fn offer_links(&mut self, store: &Store, cells: &Cells, vertex: u32) -> Result<(), AllocError>
         requires cells { AreCells store.now.network cells.now }
         requires vertex { IsVertex store.now.network.n vertex }
         requires least { length self.old.least.items ≡ store.now.network.n + 1 }

@@ -1,6 +1,6 @@
 use Rattle.std.proofs.Common.{◌≡◌, ℕ, ◌+◌, ◌-◌, ◌^◌, ◌≤◌, Option, replicate, unwrap_or, sym, ap, subst, ◌∙◌, arith}
 use Rattle.st_model.specs.Network.{IsVertex}
-use Rattle.twice_tree.specs.Cells.{AreChained, terminal_of}
+use Rattle.twice_tree.specs.Cells.{AreChained}
 use Rattle.twice_tree.proofs.Chained.{chained_none, chained_more, terminal_told}
 use Rattle.twice_tree.proofs.chains.Chains.of.Goals as goal
 

@@ -1,4 +1,4 @@
-use Rattle.std.proofs.Common.{ℕ, ◌+◌, ◌<◌, ◌≤◌, length, subst, sym, ◌∙◌, arith}
+use Rattle.std.proofs.Common.{ℕ, ◌≤◌, subst, sym, ◌∙◌, arith}
 use Rattle.st_model.specs.Terminals.{IsTerminal}
 use Rattle.twice_tree.proofs.Joined.{joining_dropped, joining_next, fewer_wait, taken_made, taken_reached, taken_to, taken_terminal}
 use Rattle.twice_tree.specs.Joining.{IsJoining}

@@ -1,7 +1,6 @@
-use Rattle.std.proofs.Common.{◌≡◌, ℕ, ◌+◌, ◌-◌, ◌^◌, ◌<◌, List, length, get_or, min, subst, sym, ap, ◌∙◌, arith}
+use Rattle.std.proofs.Common.{◌≡◌, ℕ, ◌+◌, ◌-◌, ◌^◌, ◌<◌, List, length, get_or, min, subst, ap, ◌∙◌, arith}
 use Rattle.std.proofs.lemmas.List.{take_all}
 use Rattle.std.proofs.lemmas.List.Elements.{Contains-get_or}
-use Rattle.st_model.specs.Network.{IsVertex}
 use Rattle.graph_store.specs.declared.half.Half.{Half}
 use Rattle.twice_tree.specs.Cells.{far_in}
 use Rattle.twice_tree.specs.Opening.{OffersHalves, sum_by}
@@ -43,7 +42,7 @@ loop-half-preserved c =
     let from = c.place-far.ensures I c.requires.cells c.requires.vertex in
     let to = c.place-place.ensures I c.requires.cells vertex in
     let told : c.sum-cost.result ≡ min (sum_by cells c.args.vertex half.cost half.to) (2 ^ 64 - 1) =
-        c.sum-cost.ensures ∙ (ap (λ (far : ℕ). min (far + half.cost + c.place-place.result.far) (2 ^ 64 - 1)) from.far ∙ ap (λ (far : ℕ). min (far_in cells.distances c.args.vertex + half.cost + far) (2 ^ 64 - 1)) to.far) in
+    c.sum-cost.ensures ∙ (ap (λ (far : ℕ). min (far + half.cost + c.place-place.result.far) (2 ^ 64 - 1)) from.far ∙ ap (λ (far : ℕ). min (far_in cells.distances c.args.vertex + half.cost + far) (2 ^ 64 - 1)) to.far) in
     let cell = to.terminal in
     let range = cell_range I c.requires.cells.terminals cells.distances (2 ^ 64 - 1) half.to c.requires.cells.those c.requires.cells.routes vertex in
     let many = c.loop-half.invariant.opens.many in

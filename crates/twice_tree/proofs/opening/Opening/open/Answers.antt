@@ -1,4 +1,4 @@
-use Rattle.std.proofs.Common.{◌+◌, ◌<◌, ◌≤◌, length, refl, ◌∙◌, arith}
+use Rattle.std.proofs.Common.{◌<◌, ◌≤◌, length, refl, ◌∙◌, arith}
 use Rattle.twice_tree.proofs.Opened.{cell_none, cell_more, cell_all}
 use Rattle.twice_tree.proofs.opening.Opening.open.Goals as goal
 
