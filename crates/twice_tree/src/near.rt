@@ -17,8 +17,9 @@ use std::alloc::{AllocError, Global};
 /// A tree of a graph in which nobody pays that costs at most twice the least, less a share of one
 /// in as many as are required. From a first required vertex on, the nearest one is joined again and
 /// again (Takahashi and Matsuyama 1980), over the cells of all (Mehlhorn 1988), so it takes about
-/// the time of a search for distances; then leaves are pruned. Where none is required it is one
-/// vertex. None comes exactly where no tree reaches all that are required and nobody who is gone.
+/// twice the time of the search for distances that it begins with. Each path that it takes ends at
+/// a required vertex, so no leaf is pruned. Where none is required it is one vertex. None comes
+/// exactly where no tree reaches all that are required and nobody who is gone.
 pub fn near_tree(alloc: Global, store: &Store) -> Result<Option<Tree>, AllocError>
     requires here { (v : ℕ) → IsTerminal store.now.network v → IsTrue (is_in store.now v) }
     requires free { NobodyPays store.now.network }
