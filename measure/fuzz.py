@@ -1,6 +1,7 @@
 """Drawn and spoilt texts against the program: fuzz.py STEINER RUNS [SEED [WORKERS]]
 
-Each run draws a small network, writes it as an STP file in one of many spellings, and may spoil the text.
+Each run draws a small network, writes it as an STP file in one of many spellings, in half of the runs with
+decimals and in a third with a line RootP, and may spoil the text.
 A reader of its own says what the program has to answer: the line and the reason of a refusal, or an
 instance, whose least cost a search over all sets of vertices tells: `solve` and, where nobody pays, `few` have
 to answer it, and `verify` that what they send is a tree. The log that the program saves is judged by a checker
@@ -16,7 +17,7 @@ import tempfile
 REASONS = [
     "NoHeader", "BadLine", "UnknownSection", "RepeatedSection", "GraphFirst", "BadNumber", "Fraction",
     "OutOfRange", "VertexRange", "CountMismatch", "RepeatedPrize", "RootNotTerminal", "Directed",
-    "Unclosed", "NoGraph", "NoTerminals", "NoVertices",
+    "Unclosed", "NoGraph", "NoTerminals", "NoVertices", "ScaleRange",
 ]
 KINDS = {
     1: "BadLine", 2: "EndsEarly", 3: "NotTree", 4: "WrongCost", 5: "DualAbovePrimal", 6: "BadStep",
@@ -40,6 +41,7 @@ class Refused(Exception):
 class Network:
     def __init__(self):
         self.vertices, self.links, self.required, self.pays = 0, {}, set(), {}
+        self.unit = 10**6  # in millionths
 
     def link(self, a, b):
         return self.links.get((min(a, b), max(a, b)))
@@ -53,8 +55,13 @@ class Network:
     def copy(self):
         other = Network()
         other.vertices, other.links = self.vertices, dict(self.links)
-        other.required, other.pays = set(self.required), dict(self.pays)
+        other.required, other.pays, other.unit = set(self.required), dict(self.pays), self.unit
         return other
+
+    def spelled(self, cost):
+        """How the program writes a cost of so many units."""
+        whole, rest = divmod(cost * self.unit, 10**6)
+        return f"{whole}.{rest:06d}".rstrip("0") if rest else str(whole)
 
 
 def cut_lines(text):
@@ -81,15 +88,16 @@ def vertex_of(word, last):
 
 
 def amount_of(word):
-    whole, dot, rest = word.partition(b".")
+    """Why a word is no amount, and its millionths."""
+    whole, _, rest = word.partition(b".")
     if not whole or not set(whole) <= DIGITS or not set(rest) <= DIGITS:
         return {6}, 0
     reasons = set()
-    if dot and set(rest) - {ord("0")}:
+    if set(rest[6:]) - {ord("0")}:
         reasons.add(7)
     if int(whole) > 10**12:
         reasons.add(8)
-    return reasons, int(whole)
+    return reasons, int(whole) * 10**6 + int((rest + b"000000")[:6])
 
 
 class Reader:
@@ -100,7 +108,18 @@ class Reader:
         self.begun, self.section, self.seen = False, None, set()
         self.nodes = self.edges = self.terminals = None
         self.edge_lines = self.terminal_lines = 0
-        self.roots, self.prized, self.listed = [], set(), set()
+        self.roots, self.pinned, self.prized, self.listed = [], [], set(), set()
+        self.amounts = []
+
+    def scaled(self, reasons, amount):
+        """The reasons of a line with this amount, and that of the scale."""
+        amounts = self.amounts + [amount]
+        fine = any(x % 10**6 for x in amounts)
+        if not reasons and fine and any(x > 10**12 for x in amounts):
+            return {18}
+        if not reasons:
+            self.amounts = amounts
+        return reasons
 
     def refuse(self, line, reasons):
         if reasons:
@@ -124,8 +143,14 @@ class Reader:
             raise Refused(end, 15)
         if "TERMINALS" not in self.seen:
             raise Refused(end, 16)
-        for v in self.listed:
+        for v in self.listed | set(self.pinned):
             self.network.required.add(v)
+        if any(x % 10**6 for x in self.amounts):
+            self.network.unit = 1
+        unit = 10**6 // self.network.unit
+        for table in (self.network.links, self.network.pays):
+            for key, x in table.items():
+                table[key] = x * unit // 10**6
         return self.network
 
     def take(self, at, words):
@@ -185,7 +210,7 @@ class Reader:
             first, a = vertex_of(words[1], self.nodes)
             second, b = vertex_of(words[2], self.nodes)
             reasons, cost = amount_of(words[3])
-            self.refuse(at, ({first, second} | reasons) - {0})
+            self.refuse(at, self.scaled(({first, second} | reasons) - {0}, cost))
             self.edge_lines += 1
             if a != b:
                 pair = (min(a, b), max(a, b))
@@ -204,6 +229,10 @@ class Reader:
             reason, v = vertex_of(words[1], self.nodes)
             self.refuse(at, {reason} - {0})
             self.roots.append(v)
+        elif key == b"ROOTP" and len(words) == 2 and not self.pinned:
+            reason, v = vertex_of(words[1], self.nodes)
+            self.refuse(at, {reason} - {0})
+            self.pinned.append(v)
         elif self.terminals is not None and key == b"T" and len(words) == 2:
             reason, v = vertex_of(words[1], self.nodes)
             self.refuse(at, {reason} - {0})
@@ -212,17 +241,17 @@ class Reader:
         elif self.terminals is not None and key == b"TP" and len(words) == 3:
             reason, v = vertex_of(words[1], self.nodes)
             reasons, pay = amount_of(words[2])
-            self.refuse(at, ({reason} | reasons | ({11} if not reason and v in self.prized else set())) - {0})
+            self.refuse(at, self.scaled(({reason} | reasons | ({11} if not reason and v in self.prized else set())) - {0}, pay))
             self.terminal_lines += 1
             self.prized.add(v)
             self.network.pays[v] = pay
         elif self.terminals is not None and key == b"END" and len(words) == 1:
             reasons = set()
-            if self.terminal_lines != self.terminals:
+            if self.terminals - self.terminal_lines not in range(len(self.pinned) + 1):
                 reasons.add(10)
-            if set(self.roots) - self.listed:
+            if set(self.roots) - self.listed - set(self.pinned):
                 reasons.add(12)
-            if self.terminal_lines == 0:
+            if self.terminal_lines + len(self.pinned) == 0:
                 reasons.add(16)
             self.refuse(at, reasons)
             self.section = None
@@ -493,36 +522,53 @@ def judge(network, log):
             weight = sum(state.network.pay(v) for v in outside) + sum(y for _, _, y in line[3])
             if weight + state.offset < log.dual:
                 raise Refused(line[0], 9)
-    return f"optimal {log.primal}\n" if log.dual == log.primal else f"bound {log.dual} {log.primal}\n"
+    primal = network.spelled(log.primal)
+    return f"optimal {primal}\n" if log.dual == log.primal else f"bound {network.spelled(log.dual)} {primal}\n"
 
 
 # ---------------------------------------------------------------- drawn texts
 
 
+def written(draw, places, amount):
+    """An amount as a word, divided by a power of ten in half of the files."""
+    if not places:
+        return amount
+    whole, rest = divmod(amount, 10**places)
+    word = f"{whole}.{rest:0{places}d}"
+    return word + "0" * draw.randint(0, 3) if draw.random() < 0.3 else word.rstrip("0") if rest else word
+
+
 def drawn(draw):
     """The lines of a small file."""
     n = draw.randint(1, 9)
+    places = draw.randint(1, 6) if draw.random() < 0.5 else 0
     greatest = draw.choice([1, 3, 9, 100])
     links = [(draw.randint(1, n), draw.randint(1, n), draw.randint(0, greatest)) for _ in range(draw.randint(0, 2 * n))]
     if draw.random() < 0.8:
         links += [(draw.randint(1, v - 1), v, draw.randint(0, greatest)) for v in range(2, n + 1)]
     draw.shuffle(links)
+    links = [(a, b, written(draw, places, cost)) for a, b, cost in links]
     share = draw.choice([0.0, 0.3, 0.6])
     terminals = [("T", v) for v in range(1, n + 1) if draw.random() < share]
     if draw.random() < 0.6:
-        terminals += [("TP", v, draw.randint(0, 2 * greatest)) for v in range(1, n + 1) if draw.random() < 0.5]
-    if not terminals:
+        pays = [(v, draw.randint(0, 2 * greatest)) for v in range(1, n + 1) if draw.random() < 0.5]
+        terminals += [("TP", v, written(draw, places, pay)) for v, pay in pays]
+    pinned = draw.randint(1, n) if draw.random() < 0.33 else 0
+    if not terminals and not pinned:
         terminals = [("TP", draw.randint(1, n), draw.randint(0, greatest))]
     draw.shuffle(terminals)
     if draw.random() < 0.1 and any(line[0] == "T" for line in terminals):
         root = draw.choice([line[1] for line in terminals if line[0] == "T"])
         terminals.insert(draw.randint(0, len(terminals)), ("Root", root))
+    counted = sum(line[0] != "Root" for line in terminals)
+    if pinned:
+        terminals.insert(draw.randint(0, len(terminals)), ("RootP", pinned))
+        counted += draw.randint(0, 1)
     rows = [(MAGIC, "STP", "File,", "STP", "Format", "Version", "1.0")]
     if draw.random() < 0.3:
         rows += [("SECTION", "Comment"), ("Name", '"a"'), ("END",)]
-    count = sum(line[0] != "Root" for line in terminals)
     rows += [("SECTION", "Graph"), ("Nodes", n), ("Edges", len(links))] + [("E",) + link for link in links] + [("END",)]
-    rows += [("SECTION", "Terminals"), ("Terminals", count)] + terminals + [("END",), ("EOF",)]
+    rows += [("SECTION", "Terminals"), ("Terminals", counted)] + terminals + [("END",), ("EOF",)]
     return [" ".join(map(str, row)) for row in rows]
 
 
@@ -542,7 +588,7 @@ def spelt(draw, lines):
 
 
 WORDS = [b"0", b"1", b"2", b"9", b"10", b"007", b"1000000", b"1000001", b"1000000000000", b"1000000000001", b"5.0",
-         b"5.5", b"-1", b"x", b"E", b"T", b"TP", b"END", b"EOF", b"SECTION", b"A", b"18446744073709551616", b"C", b"S",
+         b"5.5", b"0.0000005", b"0.5000000", b"1000000.5", b".5", b"RootP", b"-1", b"x", b"E", b"T", b"TP", b"END", b"EOF", b"SECTION", b"A", b"18446744073709551616", b"C", b"S",
          b"U", b"D", b"P", b"H", b"F", b""]
 
 
@@ -644,7 +690,9 @@ class Run:
         for line in answer.splitlines():
             key, *rest = line.split(" ")
             if key in ("Dual", "Primal"):
-                numbers[key] = int(rest[0])
+                whole, _, decimals = rest[0].partition(".")
+                numbers[key] = (int(whole) * 10**6 + int((decimals + "000000")[:6])) // network.unit
+                self.want("spelling", network.spelled(numbers[key]), rest[0])
             elif key == "V":
                 vertices.add(int(rest[0]))
             elif key == "E":
@@ -665,7 +713,7 @@ class Run:
         self.want("tree", (reached, left, is_tree(network, start, arcs)), (vertices, [], True))
         self.want("cost", tree_cost(network, start, arcs), primal)
         self.save(self.solution, answer.encode("latin-1"))
-        self.want("verify", self.call("verify", self.stp, self.solution), (0, f"tree {primal}\n"))
+        self.want("verify", self.call("verify", self.stp, self.solution), (0, f"tree {network.spelled(primal)}\n"))
 
     def check(self, network, text, status):
         self.save(self.log, text)
