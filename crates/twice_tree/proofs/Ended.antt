@@ -13,7 +13,6 @@ use Rattle.st_model.specs.Terminals.{IsTerminal, NobodyPays, terminal_count}
 use Rattle.st_model.proofs.Branches.{IsVertexSet-member}
 use Rattle.st_model.proofs.Distinct.{has-cons_head, has-cons_tail}
 use Rattle.st_model.proofs.Marked.{AllApart-from_increasing}
-use Rattle.st_model.proofs.Members.{has-one}
 use Rattle.st_model.proofs.Sums.{sum_to_same}
 use Rattle.st_model.proofs.ThinGrowth.{has-reached_from}
 use Rattle.graph_store.specs.Graph.{Graph, IsGraph, is_in}
@@ -102,25 +101,14 @@ lone_tree g start graph none here = record {
   required = λ v vertex required. absurd (none v (record { vertex = vertex; required = required }));
 }
 
-lone_present : (g : Graph) (start : ℕ) → IsTrue (is_in g start) → ReachesPresent g (record { start = start; arcs = [] })
-lone_present g start here v there = subst (λ (w : ℕ). IsTrue (is_in g w)) (has-one start v there) here
-
 module _ (g : Graph) (graph : IsGraph g) (none : (v : ℕ) → IsTerminal g.network v → ⊥) where
   pub lone_found_tree : (found : Option Tree) → IfSome found (λ t. IsTrue (is_in g t.start)) → IfSome found (λ t. t.arcs ≡ []) → IfSome found (IsTree g.network)
   lone_found_tree None here lone = tt
   lone_found_tree (Some t) here lone = subst (IsTree g.network) (lone_is t lone) (lone_tree g t.start graph none here)
 
-  pub lone_found_present : (found : Option Tree) → IfSome found (λ t. IsTrue (is_in g t.start)) → IfSome found (λ t. t.arcs ≡ []) → IfSome found (ReachesPresent g)
-  lone_found_present None here lone = tt
-  lone_found_present (Some t) here lone = subst (ReachesPresent g) (lone_is t lone) (lone_present g t.start here)
-
   pub lone_found_twice : (found : Option Tree) → IfSome found (IsWithinTwice g.network)
   lone_found_twice None = tt
   lone_found_twice (Some t) = λ s tree some. absurd (let zero_of = no_terminal g.network none in omega (arith, zero_of, some))
-
-pub lone_found_lone : (I : Network) (found : Option Tree) → IfSome found (λ t. t.arcs ≡ []) → IfSome found (λ t. terminal_count I ≡ 0 → t.arcs ≡ [])
-lone_found_lone I None lone = tt
-lone_found_lone I (Some t) lone = λ none. lone
 
 -- where nobody is present
 pub none_present : (g : Graph) → ((v : ℕ) → IsVertex g.network.n v → IsFalse (is_in g v)) → HasNoTree g all_trees

@@ -48,7 +48,7 @@ still_less I c old new u less none w cost linked =
     let now = less (terminal_of I c.distances w) in
     omega (arith, before, now)
 
-pub opens_none : (I : Network) (c : Cells) (k : ℕ) (o : Opening) → Opens I c k o o
+opens_none : (I : Network) (c : Cells) (k : ℕ) (o : Opening) → Opens I c k o o
 opens_none I c k o = record {
   kept = λ p there. there;
   only = λ p there. inl there;
