@@ -1,8 +1,9 @@
-ghost use Rattle.std.specs.Prelude.{◌≡◌, ◌≤◌, IfOk};
-ghost use Rattle.st_model.specs.Network.{prize};
+ghost use Rattle.std.specs.Prelude.{◌≡◌, ◌≤◌, ◌<◌, All, IfOk};
+ghost use Rattle.st_model.specs.Lists.{total};
+ghost use Rattle.st_model.specs.Network.{IsVertex, prize};
 
 use few_terminals::{FewFault, few, tables_bound};
-use st_model::{Instance, Need, tree_cost};
+use st_model::{Instance, Link, Need, tree_cost};
 use std::alloc::{AllocError, Global};
 use std::test::Fail;
 use test_instances::{Draws, cost_of_set, link, odd_wheel, pair, triangle_with_centre};
@@ -164,10 +165,12 @@ fn row(alloc: Global, twelfth: Need, next: Need, last: Need) -> Result<Instance,
     Instance::build(alloc, 14, &links, &needs)
 }
 
-// Vertices without a link, of which the first twelve have to be reached.
-fn scattered(alloc: Global, vertices: u32) -> Result<Instance, AllocError>
+// So many vertices with these links, of which the first twelve have to be reached.
+fn twelve_of(alloc: Global, vertices: u32, links: &[Link]) -> Result<Instance, AllocError>
     requires low { 12 ≤ vertices }
     requires high { vertices ≤ 1000000 }
+    requires ends { All (λ l. IsVertex 12 l.a × IsVertex 12 l.b) links.now }
+    requires cheap { total (λ l. l.cost) links.now < 100 }
 {
     let needs = [
         (1, Need::Required),
@@ -183,7 +186,7 @@ fn scattered(alloc: Global, vertices: u32) -> Result<Instance, AllocError>
         (11, Need::Required),
         (12, Need::Required),
     ];
-    Instance::build(alloc, vertices, &[], &needs)
+    Instance::build(alloc, vertices, links, &needs)
 }
 
 // Whether the row costs 33 where its first twelve have to be reached.
@@ -207,9 +210,35 @@ fn a_prize_is_a_fault(alloc: Global) -> Result<bool, AllocError> {
 
 // Whether twelve terminals are too many cells at 16,385 vertices, and can't be reached without a link.
 fn cells_are_counted(alloc: Global) -> Result<bool, AllocError> {
-    let large = scattered(alloc, 16_385)?;
-    let small = scattered(alloc, 12)?;
+    let large = twelve_of(alloc, 16_385, &[])?;
+    let small = twelve_of(alloc, 12, &[])?;
     Ok(fails(alloc, &large, FewFault::TooLarge) && costs(alloc, &small, u64::MAX))
+}
+
+// Whether a tree is found where the table of twelve terminals is as large as it may be.
+fn the_largest_is_filled(alloc: Global) -> Result<bool, AllocError> {
+    let links = [
+        link(1, 2, 3),
+        link(2, 3, 3),
+        link(3, 4, 3),
+        link(4, 5, 3),
+        link(5, 6, 3),
+        link(6, 7, 3),
+        link(7, 8, 3),
+        link(8, 9, 3),
+        link(9, 10, 3),
+        link(10, 11, 3),
+        link(11, 12, 3),
+    ];
+    let large = twelve_of(alloc, 16_384, &links)?;
+    Ok(costs(alloc, &large, 33))
+}
+
+#[test]
+fn fills_the_largest_table_of_twelve(rt: HostRuntime) -> Result<(), Fail> {
+    let filled = the_largest_is_filled(rt.alloc())?;
+    assert!(rt; filled);
+    Ok(())
 }
 
 #[test]

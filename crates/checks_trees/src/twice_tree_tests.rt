@@ -1,14 +1,16 @@
 ghost use Rattle.std.specs.Prelude.{◌≡◌, ℕ, IfOk, IsTrue};
 ghost use Rattle.std.specs.Bool.{OnTrue};
+ghost use Rattle.st_model.specs.Branch.{all_trees};
 ghost use Rattle.st_model.specs.Network.{IsVertex, is_required, pays};
 ghost use Rattle.st_model.specs.Terminals.{IsTerminal, NobodyPays};
 ghost use Rattle.graph_store.specs.Graph.{is_in};
 
 use graph_store::Store;
-use st_model::{Instance, Need, Tree, is_tree, tree_cost};
+use st_model::{Branch, Instance, Need, Sides, Tree, is_tree, tree_cost};
 use std::alloc::{AllocError, Global};
 use std::test::Fail;
 use test_instances::{link, odd_wheel, triangle_with_centre};
+use tree_heuristic::prune;
 use twice_tree::near_tree;
 
 mod brute_force;
@@ -65,7 +67,34 @@ pub fn near_cost(
     found_cost(alloc, instance, &found)
 }
 
-// The same of an instance.
+// The branch of all trees.
+pub fn all(alloc: Global) -> Result<Sides, AllocError>
+    ensures { IfOk result (λ sides. sides ≡ all_trees) }
+{
+    Sides::of(alloc, Branch::all(alloc))
+}
+
+// What the tree of a store costs once its leaves are pruned, if there is one and it may be asked for.
+pub fn pruned_near_cost(
+    alloc: Global,
+    instance: &Instance,
+    store: &Store,
+) -> Result<Option<u64>, AllocError>
+    requires { instance.now ≡ store.now.network }
+{
+    if !are_plain(store) {
+        return Ok(None);
+    }
+    match near_tree(alloc, store)? {
+        Some(tree) => {
+            let pruned = prune(alloc, instance, &all(alloc)?, tree)?;
+            Ok(Some(tree_cost(instance, &pruned)))
+        }
+        None => Ok(None),
+    }
+}
+
+// What the tree of an instance costs.
 fn cost_in(alloc: Global, instance: &Instance) -> Result<Option<u64>, AllocError> {
     near_cost(alloc, instance, &Store::of(alloc, instance)?)
 }

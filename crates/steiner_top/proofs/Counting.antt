@@ -8,7 +8,6 @@ use Rattle.st_model.specs.Network.{Network}
 use Rattle.st_model.specs.Arborescence.{IsTree}
 use Rattle.stp_reader.specs.Reads.{Reads}
 use Rattle.stp_reader.specs.Laws.{RefusedExactly}
-use Rattle.few_terminals.specs.declared.fault.FewFault.TheVariants as few_fault
 use Rattle.command_line.specs.Words.{FewWords, few}
 use Rattle.steiner_top.specs.declared.outcome.Outcome.{Outcome}
 use Rattle.steiner_top.specs.declared.status.Status.{Status}

@@ -19,7 +19,7 @@ use Rattle.steiner_top.specs.declared.status.Status.TheVariants.{Optimal, Usage,
 use Rattle.steiner_top.specs.Answer.{IsRefusal}
 use Rattle.steiner_top.specs.Causes.{Texts, EndsWith}
 use Rattle.steiner_top.specs.Output.{tree_line, not_tree_line, refused_solution}
-use Rattle.steiner_top.specs.Verified.{HasVerifyFault, IsTreeLine, IsNotTreeLine, IsNoSolutionLine, VerifyAnswer, AreShort, VerifiesSolution}
+use Rattle.steiner_top.specs.Verified.{HasVerifyFault, IsTreeLine, IsNotTreeLine, IsNoSolutionLine, IsSolutionLine, VerifyAnswer, AreShort, VerifiesSolution}
 use Rattle.steiner_top.proofs.Loaded.{known_loaded}
 
 -- an answer has one cost, or one fault
@@ -66,6 +66,14 @@ fault_answered I scale claim f result sent is known wrong ok only text = record 
   ];
   text = text;
 }
+
+-- what is answered beside the instance of a file is answered to the file
+pub verified_file : (stp solution : List ℕ) (I : Network) (scale : Scale) (status : Status) (sent : List ℕ) → Reads stp I scale → IsSolutionLine I scale solution status sent → VerifyAnswer stp solution status sent
+verified_file stp solution I scale RefusedFile sent reads line = absurd line.line
+verified_file stp solution I scale RefusedSolution sent reads line = record { instance = I; scale = scale; reads = reads; line = line }
+verified_file stp solution I scale Optimal sent reads line = record { instance = I; scale = scale; reads = reads; line = line }
+verified_file stp solution I scale NotTree sent reads line = record { instance = I; scale = scale; reads = reads; line = line }
+verified_file stp solution I scale status sent reads line = absurd line.line
 
 module _ (stp solution : List ℕ) (taken now : Option (List ℕ)) (law : RefusedExactly stp) (claims : SolutionsRefusedExactly solution) (short : AreShort stp solution) where
   -- no text is too long

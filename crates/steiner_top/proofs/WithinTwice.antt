@@ -22,7 +22,7 @@ use Rattle.log_format.specs.Accepts.{left_over}
 use Rattle.search_core.specs.declared.gathered.Segment.{Segment}
 use Rattle.search_core.specs.Complete.{least_found, less_found}
 use Rattle.twice_tree.specs.Twice.{IsWithinTwice}
-use Rattle.twice_tree.proofs.Ended.{belongs_to_all}
+use Rattle.log_format.proofs.AllTrees.{belongs_to_all}
 use Rattle.twice_tree.proofs.Reached.{no_terminal, reached_linked}
 use Rattle.steiner_top.specs.Left.{LeavesOutLone}
 use Rattle.steiner_top.proofs.KeepingTerminals.{steps_keep_terminals, shared}

@@ -1,18 +1,20 @@
 -- What joining one by one ends with: all are joined, or there is no tree.
-use Rattle.std.proofs.Common.{◌≡◌, ℕ, ◌^◌, ◌≤◌, List, [], ◌∷◌, Option, Some, None, refl, sym, ap, subst, ◌∙◌, arith}
-use Rattle.std.specs.Prelude.{All, IfSome, IsTrue, IsFalse}
+use Rattle.std.proofs.Common.{◌≡◌, ℕ, ◌-◌, ◌^◌, ◌<◌, ◌≤◌, Bool, true, cond, ◌⊎◌, inl, inr, List, [], ◌∷◌, length, Option, Some, None, refl, sym, ap, subst, ◌∙◌, arith}
+use Rattle.std.specs.Prelude.{◌==◌, All, IfSome, IsTrue, IsFalse}
 use Rattle.std.specs.declared.cmp.Reverse.{Reverse}
-use Rattle.std.proofs.lemmas.Bool.{false≢true}
+use Rattle.std.proofs.lemmas.Bool.{eqb-true, false≢true, or_cases}
 use Rattle.std.proofs.lemmas.List.Elements.{All-nil}
 use Rattle.st_model.specs.declared.tree.Tree.{Tree}
-use Rattle.st_model.specs.Arborescence.{IsArborescence, IsTree, arc_cost, cost, reached}
-use Rattle.st_model.specs.Branch.{AreThose, Belongs, IsBranch, all_trees}
+use Rattle.st_model.specs.Arborescence.{IsArborescence, IsTree, arc_cost, reached}
+use Rattle.st_model.specs.Branch.{AreThose, all_trees}
 use Rattle.st_model.specs.Lists.{has, total}
 use Rattle.st_model.specs.Network.{Network, IsInstance, IsVertex, is_required}
 use Rattle.st_model.specs.Terminals.{IsTerminal, NobodyPays, terminal_count}
-use Rattle.st_model.proofs.Branches.{IsVertexSet-nil, IsVertexSet-member}
+use Rattle.st_model.proofs.Branches.{IsVertexSet-member}
 use Rattle.st_model.proofs.Distinct.{has-cons_head, has-cons_tail}
+use Rattle.st_model.proofs.Marked.{AllApart-from_increasing}
 use Rattle.st_model.proofs.Members.{has-one}
+use Rattle.st_model.proofs.Sums.{sum_to_same}
 use Rattle.st_model.proofs.ThinGrowth.{has-reached_from}
 use Rattle.graph_store.specs.Graph.{Graph, IsGraph, is_in}
 use Rattle.graph_store.proofs.PutLinks.{in_range}
@@ -24,8 +26,9 @@ use Rattle.twice_tree.specs.declared.offers.Offer.{Offer}
 use Rattle.twice_tree.specs.Cells.{AreCells}
 use Rattle.twice_tree.specs.Joining.{IsJoining}
 use Rattle.twice_tree.specs.Twice.{AreJoined, alone, next, IsWithinTwice}
-use Rattle.twice_tree.proofs.Joined.{none_is_nearer}
+use Rattle.twice_tree.proofs.Joined.{joined_once, joined_terminal, none_is_nearer}
 use Rattle.twice_tree.proofs.Reached.{no_tree, free_cost, within_twice, tree_present, no_terminal}
+use Rattle.twice_tree.proofs.Within.{each_once, few}
 
 joined_first : (I : Network) (first : ℕ) (order : List ℕ) (paid : ℕ) → AreJoined I first order paid → IsTrue (has order first)
 joined_first I first order paid alone = has-cons_head [] first first refl
@@ -37,7 +40,20 @@ those_terminal I terminals v those there =
     let vertex = IsVertexSet-member I.n terminals v those.set there in
     record { vertex = vertex; required = sym (those.same v vertex) ∙ there }
 
-module _ (I : Network) (c : Cells) (j : Joining) (terminals : List ℕ) (is : IsJoining I c j) (those : AreThose (is_required I) I.n terminals) where
+-- where one that is listed isn't joined, fewer are joined than listed
+fewer_joined : (I : Network) (first : ℕ) (order terminals : List ℕ) (paid q : ℕ) → IsTerminal I first → AreJoined I first order paid → AreThose (is_required I) I.n terminals → IsTrue (has terminals q) → IsFalse (has order q) → length order < length terminals
+fewer_joined I first order terminals paid q terminal joined those listed out =
+    let apart = AllApart-from_increasing terminals those.set.ascending in
+    let all = each_once I.n terminals apart (λ v there. (those_terminal I terminals v those there).vertex) in
+    let count = sum_to_same (λ v. cond (has terminals v) 1 0) (λ v. cond (is_required I v) 1 0) I.n (λ v low high. ap (λ (b : Bool). cond b 1 0) (those.same v (low, high))) in
+    let most = few I (q ∷ order) (out, joined_once I first order paid joined) (λ v there. member v (or_cases (q == v) (has order v) there)) in
+    omega (arith, all, count, most)
+  where
+    member : (v : ℕ) → ((q == v) ≡ true) ⊎ (has order v ≡ true) → IsTerminal I v
+    member v (inl same) = subst (IsTerminal I) (eqb-true q v same) (those_terminal I terminals q those listed)
+    member v (inr there) = joined_terminal I first order paid terminal joined v there
+
+module _ (I : Network) (c : Cells) (j : Joining) (terminals : List ℕ) (is : IsJoining I c j j.opening.offers) (those : AreThose (is_required I) I.n terminals) where
   ordered : ((v : ℕ) → IsTrue (has terminals v) → IsTrue (has j.joined.members v)) → (v : ℕ) → IsTerminal I v → IsTrue (has is.order v)
   ordered all v t = sym (is.same v) ∙ all v (those.same v t.vertex ∙ t.required)
 
@@ -48,17 +64,21 @@ module _ (I : Network) (c : Cells) (j : Joining) (terminals : List ℕ) (is : Is
     required = λ v vertex required. same v ∙ is.reached v (ordered all v (record { vertex = vertex; required = required }));
   }
 
-  pub laid_twice : ((v : ℕ) → IsTrue (has terminals v) → IsTrue (has j.joined.members v)) → IsInstance I → NobodyPays I → (t new : Tree) → total (arc_cost I) t.arcs ≡ spent I j.laid → cost I new ≤ cost I t → IsWithinTwice I new
-  laid_twice all instance free t new sum less =
+  pub laid_twice : ((v : ℕ) → IsTrue (has terminals v) → IsTrue (has j.joined.members v)) → IsInstance I → NobodyPays I → (t : Tree) → total (arc_cost I) t.arcs ≡ spent I j.laid → IsWithinTwice I t
+  laid_twice all instance free t sum =
       let whole = free_cost I t free in
       let cheap = is.cheap in
-      within_twice I new is.first is.order is.paid instance is.terminal is.are_joined (ordered all) (omega (arith, whole, cheap, sum, less))
+      within_twice I t is.first is.order is.paid instance is.terminal is.are_joined (ordered all) (omega (arith, whole, cheap, sum))
 
   -- or one isn't, and no link leads on
-  pub left_alone : AreCells I c → j.offers ≡ [] → (q : ℕ) → IsTrue (has terminals q) → IsFalse (has j.joined.members q) → (t : Tree) → IsTree I t → ⊥
-  left_alone cells none q listed out t tree =
-      let low = subst (All (λ (o : Reverse Offer). 2 ^ 64 ≤ o.0.cost)) (sym none) (All-nil (λ (o : Reverse Offer). 2 ^ 64 ≤ o.0.cost)) in
-      let near = none_is_nearer I c is.first is.order is.paid j.offers (2 ^ 64) cells.instance cells is.terminal is.are_joined is.offered (omega arith) low in
+  pub left_alone : AreCells I c → (length terminals ≤ length j.joined.members) ⊎ (j.opening.offers ≡ []) → (q : ℕ) → IsTrue (has terminals q) → IsFalse (has j.joined.members q) → (t : Tree) → IsTree I t → ⊥
+  left_alone cells (inl all) q listed out t tree =
+      let fewer = fewer_joined I is.first is.order terminals is.paid q is.terminal is.are_joined those listed (sym (is.same q) ∙ out) in
+      let many = is.many in
+      absurd (omega (arith, fewer, many, all))
+  left_alone cells (inr none) q listed out t tree =
+      let low = subst (All (λ (o : Reverse Offer). 2 ^ 64 - 1 ≤ o.0.cost)) (sym none) (All-nil (λ (o : Reverse Offer). 2 ^ 64 - 1 ≤ o.0.cost)) in
+      let near = none_is_nearer I c is.first is.order is.paid j.opening.least.items j.opening.offers (2 ^ 64 - 1) cells.instance cells is.terminal is.are_joined is.low is.told (omega arith) low in
       no_tree I t is.order is.first q cells.instance is.terminal (joined_first I is.first is.order is.paid is.are_joined) (those_terminal I terminals q those listed) (sym (is.same q) ∙ out) near tree
 
 -- ---- what is found
@@ -107,14 +127,6 @@ pub none_present : (g : Graph) → ((v : ℕ) → IsVertex g.network.n v → IsF
 none_present g none t tree belongs present =
     let here = present t.start (has-reached_from (t.start ∷ []) t.arcs t.start (has-cons_head [] t.start t.start refl)) in
     false≢true (sym (none t.start tree.arborescence.start) ∙ here)
-
--- ---- the branch of all trees
-
-pub everything : (I : Network) → IsBranch I all_trees
-everything I = record { inside = IsVertexSet-nil I.n; outside = IsVertexSet-nil I.n; apart = λ v there. absurd (false≢true there) }
-
-pub belongs_to_all : (t : Tree) → Belongs all_trees t
-belongs_to_all t = record { inside = λ v there. absurd (false≢true there); outside = λ v there. absurd (false≢true there) }
 
 -- where all that are listed are in an empty set, there is none
 pub none_listed : (I : Network) (terminals set : List ℕ) → AreThose (is_required I) I.n terminals → set ≡ [] → ((v : ℕ) → IsTrue (has terminals v) → IsTrue (has set v)) → (v : ℕ) → IsTerminal I v → ⊥

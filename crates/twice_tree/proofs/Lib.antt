@@ -6,7 +6,7 @@ pub mod Crossing
 pub mod Nearest
 pub mod Ways
 pub mod Cheapest
-pub mod Listed
+pub mod Chained
 pub mod Opened
 pub mod Joined
 pub mod Reached

@@ -52,37 +52,34 @@ far_near I c p y cost cells instance terminal walk = at (route_of c.distances y)
     listed : Contains cells.terminals p
     listed = terminal_listed I cells.terminals cells.those p terminal
 
-    at : (o : Option Route) → route_of c.distances y ≡ o → unwrap_or (option_map (λ (r : Route). r.cost) o) (2 ^ 64) ≤ cost
+    at : (o : Option Route) → route_of c.distances y ≡ o → unwrap_or (option_map (λ (r : Route). r.cost) o) (2 ^ 64 - 1) ≤ cost
     at None is = let past = cells.routes.beyond y vertex is p cost listed walk in omega (arith, past)
     at (Some r) is = (cells.routes.reached y r vertex is).distance.least p cost listed walk
 
 -- a terminal is in a cell of its own
-pub terminal_own : (I : Network) (sources : List ℕ) (v : ℕ) → IsTerminal I v → terminal_of I sources v ≡ v
-terminal_own I sources v terminal = rw (terminal.required) refl
+pub terminal_own : (I : Network) (routes : List (Option Route)) (v : ℕ) → IsTerminal I v → terminal_of I routes v ≡ v
+terminal_own I routes v terminal = rw (terminal.required) refl
 
 -- the terminal of a cell is one, wherever a route leads there
-pub cell_terminal : (I : Network) (c : Cells) (v : ℕ) → AreCells I c → IsVertex I.n v → far_in c.distances v < 2 ^ 64 → IsTerminal I (terminal_of I c.sources.items v)
+pub cell_terminal : (I : Network) (c : Cells) (v : ℕ) → AreCells I c → IsVertex I.n v → far_in c.distances v < 2 ^ 64 - 1 → IsTerminal I (terminal_of I c.distances v)
 cell_terminal I c v cells vertex near = at (is_required I v) refl
   where
-    told : get_or c.sources.items v 0 ≡ source_of (route_of c.distances v)
-    told = source_told c.sources.items c.distances I.n v cells.sources cells.routes.count vertex
-
-    by_route : (o : Option Route) → route_of c.distances v ≡ o → unwrap_or (option_map (λ (r : Route). r.cost) o) (2 ^ 64) < 2 ^ 64 → IsTerminal I (source_of o)
+    by_route : (o : Option Route) → route_of c.distances v ≡ o → unwrap_or (option_map (λ (r : Route). r.cost) o) (2 ^ 64 - 1) < 2 ^ 64 - 1 → IsTerminal I (source_of o)
     by_route None is low = absurd (omega (arith, low))
     by_route (Some r) is low = source_terminal I cells.terminals (2 ^ 64 - 1) v r cells.those (cells.routes.reached v r vertex is)
 
-    at : (b : Bool) → is_required I v ≡ b → IsTerminal I (cond b v (get_or c.sources.items v 0))
+    at : (b : Bool) → is_required I v ≡ b → IsTerminal I (cond b v (source_of (route_of c.distances v)))
     at true is = record { vertex = vertex; required = is }
-    at false is = subst (IsTerminal I) (sym told) (by_route (route_of c.distances v) refl near)
+    at false is = by_route (route_of c.distances v) refl near
 
 -- it is at most the last vertex in any case
-pub cell_range : (I : Network) (terminals sources : List ℕ) (routes : List (Option Route)) (limit v : ℕ) → AreThose (is_required I) I.n terminals → AreRoutes I.links I.n terminals limit routes → sources ≡ 0 ∷ map source_of routes → IsVertex I.n v → terminal_of I sources v ≤ I.n
-cell_range I terminals sources routes limit v those are is vertex = at (is_required I v) refl
+pub cell_range : (I : Network) (terminals : List ℕ) (routes : List (Option Route)) (limit v : ℕ) → AreThose (is_required I) I.n terminals → AreRoutes I.links I.n terminals limit routes → IsVertex I.n v → terminal_of I routes v ≤ I.n
+cell_range I terminals routes limit v those are vertex = at (is_required I v) refl
   where
     by_route : (o : Option Route) → route_of routes v ≡ o → source_of o ≤ I.n
     by_route None none = omega arith
     by_route (Some r) some = (source_terminal I terminals limit v r those (are.reached v r vertex some)).vertex.1
 
-    at : (b : Bool) → is_required I v ≡ b → cond b v (get_or sources v 0) ≤ I.n
+    at : (b : Bool) → is_required I v ≡ b → cond b v (source_of (route_of routes v)) ≤ I.n
     at true required = vertex.1
-    at false required = subst (λ (k : ℕ). k ≤ I.n) (sym (source_told sources routes I.n v is are.count vertex)) (by_route (route_of routes v) refl)
+    at false required = by_route (route_of routes v) refl

@@ -1,5 +1,5 @@
 -- Walks inside of a tree, and what they say of trees that reach a terminal.
-use Rattle.std.proofs.Common.{◌≡◌, ℕ, ◌+◌, ◌*◌, ◌^◌, ◌≤◌, Bool, true, false, cond, List, [], ◌∷◌, length, Option, Some, None, refl, sym, ap, subst, ◌∙◌, inl, inr, is_some, arith}
+use Rattle.std.proofs.Common.{◌≡◌, ℕ, ◌+◌, ◌-◌, ◌*◌, ◌^◌, ◌≤◌, Bool, true, false, cond, List, [], ◌∷◌, length, Option, Some, None, refl, sym, ap, subst, ◌∙◌, inl, inr, is_some, arith}
 use Rattle.std.specs.Prelude.{◌==◌, IsTrue, IsFalse, IsSome, unwrap_or}
 use Rattle.std.proofs.lemmas.Bool.{eqb-true, false≢true, or_cases}
 use Rattle.std.proofs.lemmas.List.{take_all}
@@ -92,8 +92,8 @@ tree_present g t v graph tree terminal here w there =
 
 -- ---- no tree
 
--- where a terminal isn't joined, and no walk to such a one costs less than 2^64
-pub no_tree : (I : Network) (t : Tree) (order : List ℕ) (first q : ℕ) → IsInstance I → IsTerminal I first → IsTrue (has order first) → IsTerminal I q → IsFalse (has order q) → NoneIsNearer I order (2 ^ 64) → IsTree I t → ⊥
+-- where a terminal isn't joined, and no walk to such a one costs less than the greatest number of 64 bits
+pub no_tree : (I : Network) (t : Tree) (order : List ℕ) (first q : ℕ) → IsInstance I → IsTerminal I first → IsTrue (has order first) → IsTerminal I q → IsFalse (has order q) → NoneIsNearer I order (2 ^ 64 - 1) → IsTree I t → ⊥
 no_tree I t order first q instance terminal there other out near tree =
     let way = between I t first q tree.arborescence (tree.required first terminal.vertex terminal.required) (tree.required q other.vertex other.required) in
     let far = near first q way.0 there other out way.1 in

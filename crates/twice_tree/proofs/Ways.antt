@@ -1,5 +1,5 @@
 -- Paths from terminals to the vertices of their cells, and trees that are laid out along them.
-use Rattle.std.proofs.Common.{◌≡◌, ℕ, ◌+◌, ◌-◌, ◌^◌, ◌<◌, ◌≤◌, Bool, true, false, cond, ◌||◌, List, [], get_or, reverse, Option, Some, None, option_map, refl, sym, ap, subst, ◌∙◌, arith}
+use Rattle.std.proofs.Common.{◌≡◌, ℕ, ◌+◌, ◌-◌, ◌^◌, ◌<◌, ◌≤◌, Bool, true, false, cond, ◌||◌, List, [], reverse, Option, Some, None, option_map, refl, sym, ap, subst, ◌∙◌, arith}
 use Rattle.std.specs.Prelude.{◌==◌, IsTrue, unwrap_or}
 use Rattle.st_model.specs.declared.link.Link.{Link}
 use Rattle.st_model.specs.Lists.{has}
@@ -15,7 +15,6 @@ use Rattle.short_paths.proofs.Turned.{path_cost-reverse, first_of-reverse, has-r
 use Rattle.twice_tree.specs.declared.cells.Cells.{Cells}
 use Rattle.twice_tree.specs.Cells.{AreCells, far_in, terminal_of}
 use Rattle.twice_tree.specs.Laying.{GoesTo}
-use Rattle.twice_tree.proofs.Nearest.{source_told}
 
 -- a path from the terminal of a cell to a vertex, and back
 pub record IsWay (links : List Link) (k v far : ℕ) (path : List ℕ) : Type 0 where
@@ -46,28 +45,25 @@ route_way links terminals limit v k route is first =
     own false false h = h
 
 -- the path to a vertex that isn't its cell's terminal
-pub way_to : (I : Network) (c : Cells) (v : ℕ) (path : List ℕ) → AreCells I c → IsVertex I.n v → (terminal_of I c.sources.items v ≡ v → ⊥) → Some path ≡ option_map (λ (r : Route). r.path) (route_of c.distances v)
-    → IsWay I.links (terminal_of I c.sources.items v) v (far_in c.distances v) path
+pub way_to : (I : Network) (c : Cells) (v : ℕ) (path : List ℕ) → AreCells I c → IsVertex I.n v → (terminal_of I c.distances v ≡ v → ⊥) → Some path ≡ option_map (λ (r : Route). r.path) (route_of c.distances v)
+    → IsWay I.links (terminal_of I c.distances v) v (far_in c.distances v) path
 way_to I c v path cells vertex apart told = at (is_required I v) refl apart
   where
-    source : get_or c.sources.items v 0 ≡ source_of (route_of c.distances v)
-    source = source_told c.sources.items c.distances I.n v cells.sources cells.routes.count vertex
-
-    by_route : (o : Option Route) → route_of c.distances v ≡ o → Some path ≡ option_map (λ (r : Route). r.path) o → IsWay I.links (source_of o) v (unwrap_or (option_map (λ (r : Route). r.cost) o) (2 ^ 64)) path
+    by_route : (o : Option Route) → route_of c.distances v ≡ o → Some path ≡ option_map (λ (r : Route). r.path) o → IsWay I.links (source_of o) v (unwrap_or (option_map (λ (r : Route). r.cost) o) (2 ^ 64 - 1)) path
     by_route None is same = absurd (let clash : ⊥ = cc in clash)
     by_route (Some r) is same =
         let path_is : path ≡ r.path = cc in
         subst (λ (p : List ℕ). IsWay I.links (first_of r.path) v r.cost p) (sym path_is) (route_way I.links cells.terminals (2 ^ 64 - 1) v (first_of r.path) r (cells.routes.reached v r vertex is) refl)
 
-    at : (b : Bool) → is_required I v ≡ b → (cond b v (get_or c.sources.items v 0) ≡ v → ⊥) → IsWay I.links (cond b v (get_or c.sources.items v 0)) v (far_in c.distances v) path
+    at : (b : Bool) → is_required I v ≡ b → (cond b v (source_of (route_of c.distances v)) ≡ v → ⊥) → IsWay I.links (cond b v (source_of (route_of c.distances v))) v (far_in c.distances v) path
     at true is differs = absurd (differs refl)
-    at false is differs = subst (λ (k : ℕ). IsWay I.links k v (far_in c.distances v) path) (sym source) (by_route (route_of c.distances v) refl told)
+    at false is differs = by_route (route_of c.distances v) refl told
 
 -- where there is no path, the vertex is further than any number of 64 bits
-pub none_is_far : (routes : List (Option Route)) (v : ℕ) → ◌≡◌ {A = Option (List ℕ)} None (option_map (λ (r : Route). r.path) (route_of routes v)) → far_in routes v < 2 ^ 64 → ⊥
+pub none_is_far : (routes : List (Option Route)) (v : ℕ) → ◌≡◌ {A = Option (List ℕ)} None (option_map (λ (r : Route). r.path) (route_of routes v)) → far_in routes v < 2 ^ 64 - 1 → ⊥
 none_is_far routes v told near = at (route_of routes v) told near
   where
-    at : (o : Option Route) → ◌≡◌ {A = Option (List ℕ)} None (option_map (λ (r : Route). r.path) o) → unwrap_or (option_map (λ (r : Route). r.cost) o) (2 ^ 64) < 2 ^ 64 → ⊥
+    at : (o : Option Route) → ◌≡◌ {A = Option (List ℕ)} None (option_map (λ (r : Route). r.path) o) → unwrap_or (option_map (λ (r : Route). r.cost) o) (2 ^ 64 - 1) < 2 ^ 64 - 1 → ⊥
     at None same low = omega (arith, low)
     at (Some r) same low = let clash : ⊥ = cc in clash
 

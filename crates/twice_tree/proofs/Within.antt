@@ -49,7 +49,8 @@ at_most_all test (suc n) = at (test (suc n)) (at_most_all test n)
     at true rest = omega (arith, rest)
     at false rest = omega (arith, rest)
 
-few : (I : Network) (xs : List ℕ) → AllApart xs → ((v : ℕ) → IsTrue (has xs v) → IsTerminal I v) → length xs ≤ terminal_count I
+-- terminals of a list, each once, are at most as many as there are
+pub few : (I : Network) (xs : List ℕ) → AllApart xs → ((v : ℕ) → IsTrue (has xs v) → IsTerminal I v) → length xs ≤ terminal_count I
 few I xs once are =
     let counted = each_once I.n xs once (λ v there. (are v there).vertex) in
     let more = sum_to_le (λ v. cond (has xs v) 1 0) (λ v. cond (is_required I v) 1 0) I.n (λ v low high. at v (has xs v) (is_required I v) refl refl) in

@@ -1,54 +1,71 @@
 -- Links that are offered. Helpers' clauses cite this, and no public one.
-use Rattle.std.specs.Prelude.{◌≡◌, ℕ, ◌+◌, ◌^◌, ◌<◌, ◌≤◌, ◌⊎◌, List, ◌∷◌, All, Contains, Some, IsFalse, IsPermutation}
+use Rattle.std.specs.Prelude.{◌≡◌, ℕ, ◌+◌, ◌-◌, ◌^◌, ◌<◌, ◌≤◌, ◌⊎◌, List, ◌∷◌, length, All, Contains, Some, IsPermutation, slice_index_or, slice_set}
 use Rattle.std.specs.declared.cmp.Reverse.{Reverse}
-use Rattle.st_model.specs.Lists.{has}
-use Rattle.st_model.specs.Network.{Network, link}
+use Rattle.st_model.specs.Network.{Network, IsVertex, link}
 use Rattle.graph_store.specs.declared.half.Half.{Half}
 use Rattle.twice_tree.specs.declared.cells.Cells.{Cells}
 use Rattle.twice_tree.specs.declared.offers.Offer.{Offer}
+use Rattle.twice_tree.specs.declared.opening.Opening.{Opening}
 use Rattle.twice_tree.specs.Cells.{far_in, terminal_of}
 
 -- what it costs to go from one terminal to another by a link of this cost
 abbrev pub sum_by : Cells → ℕ → ℕ → ℕ → ℕ
 sum_by c u cost w = far_in c.distances u + cost + far_in c.distances w
 
-abbrev pub offer_of : ℕ → ℕ → ℕ → Reverse Offer
-offer_of cost u w = record { 0 = record { cost = cost; from = u; to = w } }
+-- the least at which the cell of k was offered
+abbrev pub least_at : List ℕ → ℕ → ℕ
+least_at least k = slice_index_or least k (2 ^ 64 - 1)
 
--- the link waits at what it costs by there, or that isn't below 2^64
-abbrev pub IsOffered : Cells → List (Reverse Offer) → ℕ → ℕ → ℕ → Type 0
-IsOffered c offers u cost w = (2 ^ 64 ≤ sum_by c u cost w) ⊎ Contains offers (offer_of (sum_by c u cost w) u w)
+-- an offer to the cell of k waits at no more than this
+pub record IsOffered (I : Network) (c : Cells) (offers : List (Reverse Offer)) (k most : ℕ) : Type 0 where
+  pub offer : Reverse Offer
+  pub waits : Contains offers offer
+  pub cell : terminal_of I c.distances offer.0.to ≡ k
+  pub cheap : offer.0.cost ≤ most
+
+-- no link from u costs less by there than the least at which the cell that it leads to was offered
+abbrev pub NoneIsLess : Network → Cells → List ℕ → ℕ → Type 0
+NoneIsLess I c least u = (w cost : ℕ) → link I.links u w ≡ Some cost → least_at least (terminal_of I c.distances w) ≤ sum_by c u cost w
 
 -- the offer is of a link from the cell of k
 pub record IsMade (I : Network) (c : Cells) (k : ℕ) (o : Reverse Offer) : Type 0 where
-  pub cell : terminal_of I c.sources.items o.0.from ≡ k
+  pub cell : terminal_of I c.distances o.0.from ≡ k
   pub link_cost : ℕ
   pub linked : link I.links o.0.from o.0.to ≡ Some link_cost
   pub cost : o.0.cost ≡ sum_by c o.0.from link_cost o.0.to
-  pub fits : o.0.cost < 2 ^ 64
+  pub fits : o.0.cost < 2 ^ 64 - 1
 
--- a link is offered, unless what it costs isn't below 2^64
-abbrev pub OffersLink : Cells → ℕ → ℕ → ℕ → List (Reverse Offer) → List (Reverse Offer) → Type 0
-OffersLink c u cost w old new = ((2 ^ 64 ≤ sum_by c u cost w) × (new ≡ old)) ⊎ ((sum_by c u cost w < 2 ^ 64) × IsPermutation (offer_of (sum_by c u cost w) u w ∷ old) new)
+-- the cell of k is offered, unless it was offered at no more before
+abbrev pub OffersCell : ℕ → Offer → Opening → Opening → Type 0
+OffersCell k offer old new = ((least_at old.least.items k ≤ offer.cost) × (new ≡ old))
+    ⊎ ((offer.cost < least_at old.least.items k) × (offer.cost < 2 ^ 64 - 1) × (new.least.items ≡ slice_set old.least.items k offer.cost) × IsPermutation (record { 0 = offer } ∷ old.offers) new.offers)
 
--- of some halves from u those that lead to cells which aren't joined are offered, and no others
-pub record OffersHalves (I : Network) (c : Cells) (joined : List ℕ) (u : ℕ) (halves : List Half) (old new : List (Reverse Offer)) : Type 0 where
-  pub kept : (o : Reverse Offer) → Contains old o → Contains new o
-  pub only : (o : Reverse Offer) → Contains new o → Contains old o ⊎ IsMade I c (terminal_of I c.sources.items u) o
-  pub offered : All (λ h. IsFalse (has joined (terminal_of I c.sources.items h.to)) → IsOffered c new u h.cost h.to) halves
+-- links from the cell of k are offered, and no others
+pub record Opens (I : Network) (c : Cells) (k : ℕ) (old new : Opening) : Type 0 where
+  pub kept : (o : Reverse Offer) → Contains old.offers o → Contains new.offers o
+  pub only : (o : Reverse Offer) → Contains new.offers o → Contains old.offers o ⊎ IsMade I c k o
+  pub many : length new.least.items ≡ length old.least.items
+  pub less : (j : ℕ) → least_at new.least.items j ≤ least_at old.least.items j
+  pub told : (j : ℕ) → (j ≡ k → ⊥) → (least_at new.least.items j ≡ least_at old.least.items j) ⊎ IsOffered I c new.offers j (least_at new.least.items j)
 
--- each link from u to a cell that isn't joined is offered
-abbrev pub AreOffered : Network → Cells → List ℕ → List (Reverse Offer) → ℕ → Type 0
-AreOffered I c joined offers u = (w cost : ℕ) → link I.links u w ≡ Some cost → IsFalse (has joined (terminal_of I c.sources.items w)) → IsOffered c offers u cost w
+-- of some halves from u those are offered that are the cheapest ones to a cell so far
+pub record OffersHalves (I : Network) (c : Cells) (u : ℕ) (halves : List Half) (old new : Opening) : Type 0 where
+  pub opens : Opens I c (terminal_of I c.distances u) old new
+  pub low : All (λ h. least_at new.least.items (terminal_of I c.distances h.to) ≤ sum_by c u h.cost h.to) halves
 
--- all links from u to cells that aren't joined are offered, and no others
-pub record OffersVertex (I : Network) (c : Cells) (joined : List ℕ) (u : ℕ) (old new : List (Reverse Offer)) : Type 0 where
-  pub kept : (o : Reverse Offer) → Contains old o → Contains new o
-  pub only : (o : Reverse Offer) → Contains new o → Contains old o ⊎ IsMade I c (terminal_of I c.sources.items u) o
-  pub offered : AreOffered I c joined new u
+-- of all links from u those are offered
+pub record OffersVertex (I : Network) (c : Cells) (u : ℕ) (old new : Opening) : Type 0 where
+  pub opens : Opens I c (terminal_of I c.distances u) old new
+  pub low : NoneIsLess I c new.least.items u
 
--- of some vertices of a cell all such links are offered, and no others
-pub record OffersLinks (I : Network) (c : Cells) (joined : List ℕ) (k : ℕ) (vertices : List ℕ) (old new : List (Reverse Offer)) : Type 0 where
-  pub kept : (o : Reverse Offer) → Contains old o → Contains new o
-  pub only : (o : Reverse Offer) → Contains new o → Contains old o ⊎ IsMade I c k o
-  pub offered : All (AreOffered I c joined new) vertices
+-- of all links from the vertices of a cell before one those are offered
+pub record OffersBefore (I : Network) (c : Cells) (k v : ℕ) (old new : Opening) : Type 0 where
+  pub positive : 1 ≤ v
+  pub within : v ≤ I.n → terminal_of I c.distances v ≡ k
+  pub opens : Opens I c k old new
+  pub low : (u : ℕ) → IsVertex I.n u → terminal_of I c.distances u ≡ k → (v ≤ u) ⊎ NoneIsLess I c new.least.items u
+
+-- of all links from a cell those are offered
+pub record OpensCell (I : Network) (c : Cells) (k : ℕ) (old new : Opening) : Type 0 where
+  pub opens : Opens I c k old new
+  pub low : (u : ℕ) → IsVertex I.n u → terminal_of I c.distances u ≡ k → NoneIsLess I c new.least.items u

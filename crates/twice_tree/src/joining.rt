@@ -1,14 +1,14 @@
-ghost use Rattle.std.specs.Prelude.{◌≡◌, ◌+◌, ◌^◌, ◌<◌, ◌≤◌, ◌∷◌, ◌++◌, [], IfOk, IsFalse, OnOk, length, slice_index_or};
+ghost use Rattle.std.specs.Prelude.{◌≡◌, ◌+◌, ◌^◌, ◌<◌, ◌≤◌, ◌⊎◌, ◌∷◌, ◌++◌, [], IfOk, IsFalse, OnOk, length};
 ghost use Rattle.st_model.specs.Lists.{has};
 ghost use Rattle.st_model.specs.Terminals.{IsTerminal};
 ghost use Rattle.twice_tree.specs.Cells.{AreCells};
 ghost use Rattle.twice_tree.specs.Joining.{IsJoining, IsTaking, waiting};
-ghost use Rattle.twice_tree.specs.Opening.{OffersLinks};
+ghost use Rattle.twice_tree.specs.Opening.{OpensCell};
 
 use crate::cells::Cells;
 use crate::laying::lay;
-use crate::offers::{Offer, Offers};
-use crate::opening::offer_cell;
+use crate::offers::Offer;
+use crate::opening::Opening;
 use graph_store::Store;
 use short_paths::Laid;
 use st_model::VertexSet;
@@ -21,24 +21,30 @@ pub struct Joining {
     pub laid: Laid,
     pub joined: VertexSet,
     // Links that lead from joined cells to others, and some that did.
-    pub offers: Offers,
+    pub opening: Opening,
 }
 
 impl Joining {
-    // From a first terminal on, as many as links lead to.
+    // From a first terminal on, until so many are joined or no link leads on.
     pub fn over(
         alloc: Global,
         store: &Store,
         cells: &Cells,
         first: u32,
+        count: usize,
     ) -> Result<Joining, AllocError>
         requires cells { AreCells store.now.network cells.now }
         requires first { IsTerminal store.now.network first }
-        ensures joining { IfOk result (IsJoining store.now.network cells.now) }
-        ensures none { IfOk result (λ joining. joining.offers ≡ []) }
+        ensures joining { IfOk result (λ joining. IsJoining store.now.network cells.now joining
+            joining.opening.offers) }
+        ensures ended { IfOk result (λ joining. (count ≤ length joining.joined.members)
+            ⊎ (joining.opening.offers ≡ [])) }
     {
         let mut joining = Joining::at(alloc, store, cells, first)?;
-        while let Some(offer) = joining.offers.next() {
+        while joining.joined.members().len() < count {
+            let Some(offer) = joining.opening.offers.next() else {
+                return Ok(joining);
+            };
             joining.take(alloc, store, cells, offer)?;
         }
         Ok(joining)
@@ -48,15 +54,15 @@ impl Joining {
     fn at(alloc: Global, store: &Store, cells: &Cells, first: u32) -> Result<Joining, AllocError>
         requires cells { AreCells store.now.network cells.now }
         requires first { IsTerminal store.now.network first }
-        ensures { IfOk result (IsJoining store.now.network cells.now) }
+        ensures { IfOk result (λ joining. IsJoining store.now.network cells.now joining joining.opening.offers) }
     {
         let laid = Laid::at(alloc, store, first)?;
         let joined = VertexSet::new(alloc, store.vertices() as usize + 1)?;
-        let offers = Offers::new(alloc);
+        let opening = Opening::new(alloc, store.vertices())?;
         let mut joining = Joining {
             laid,
             joined,
-            offers,
+            opening,
         };
         joining.open(store, cells, first)?;
         Ok(joining)
@@ -73,10 +79,10 @@ impl Joining {
     ) -> Result<(), AllocError>
         requires cells { AreCells store.now.network cells.now }
         requires taking { IsTaking store.now.network cells.now self.old offer }
-        ensures joining { OnOk result (IsJoining store.now.network cells.now self.new) }
+        ensures joining { OnOk result (IsJoining store.now.network cells.now self.new self.new.opening.offers) }
         ensures fewer { OnOk result (waiting store.now.network self.new ≤ waiting store.now.network self.old) }
     {
-        let terminal = cells.terminal(store, offer.to);
+        let terminal = cells.place(offer.to).terminal;
         if self.joined.contains(terminal) {
             return Ok(());
         }
@@ -90,17 +96,17 @@ impl Joining {
         requires cells { AreCells store.now.network cells.now }
         requires terminal { terminal ≤ store.now.network.n }
         requires count { self.old.joined.count ≡ store.now.network.n + 1 }
+        requires least { length self.old.opening.least.items ≡ store.now.network.n + 1 }
         requires fresh { IsFalse (has self.old.joined.members terminal) }
         ensures laid { self.new.laid ≡ self.old.laid }
         ensures joined { OnOk result (self.new.joined.members ≡ self.old.joined.members ++ terminal ∷ []) }
         ensures count { self.new.joined.count ≡ self.old.joined.count }
-        ensures offers { OnOk result (OffersLinks store.now.network cells.now self.new.joined.members terminal
-            (slice_index_or cells.now.vertices terminal []) self.old.offers self.new.offers) }
-        ensures few { OnOk result (length self.new.offers < 2 ^ 64) }
+        ensures opens { OnOk result (OpensCell store.now.network cells.now terminal self.old.opening self.new.opening) }
+        ensures few { OnOk result (length self.new.opening.offers < 2 ^ 64) }
     {
         self.joined.insert(terminal)?;
-        offer_cell(&mut self.offers, store, cells, &self.joined, terminal)?;
-        prove!(self.offers.len() <= usize::MAX);
+        self.opening.open(store, cells, terminal)?;
+        prove!(self.opening.offers.len() <= usize::MAX);
         Ok(())
     }
 }

@@ -1,4 +1,4 @@
-ghost use Rattle.std.specs.Prelude.{◌^◌, ◌<◌, IsTrue, OnOk};
+ghost use Rattle.std.specs.Prelude.{◌-◌, ◌^◌, ◌<◌, IsTrue, OnOk};
 ghost use Rattle.st_model.specs.Lists.{has};
 ghost use Rattle.st_model.specs.Network.{IsVertex};
 ghost use Rattle.short_paths.specs.Laid.{IsLaid};
@@ -22,12 +22,12 @@ pub fn lay(
 ) -> Result<(), AllocError>
     requires cells { AreCells store.now.network cells.now }
     requires made { IsMade store.now.network cells.now
-        (terminal_of store.now.network cells.now.sources.items offer.from) (record { 0 = offer }) }
+        (terminal_of store.now.network cells.now.distances offer.from) (record { 0 = offer }) }
     requires laid { IsLaid store.now.network laid.old }
     requires from { IsTrue (has laid.old.reached.members
-        (terminal_of store.now.network cells.now.sources.items offer.from)) }
+        (terminal_of store.now.network cells.now.distances offer.from)) }
     ensures { OnOk result (GoesTo store.now.network laid.old laid.new
-        (terminal_of store.now.network cells.now.sources.items offer.to) offer.cost) }
+        (terminal_of store.now.network cells.now.distances offer.to) offer.cost) }
 {
     go_out(alloc, store, cells, laid, offer.from)?;
     laid.follow(store, offer.from, offer.to)?;
@@ -45,14 +45,14 @@ fn go_out(
 ) -> Result<(), AllocError>
     requires cells { AreCells store.now.network cells.now }
     requires vertex { IsVertex store.now.network.n vertex }
-    requires near { far_in cells.now.distances vertex < 2 ^ 64 }
+    requires near { far_in cells.now.distances vertex < 2 ^ 64 - 1 }
     requires laid { IsLaid store.now.network laid.old }
     requires from { IsTrue (has laid.old.reached.members
-        (terminal_of store.now.network cells.now.sources.items vertex)) }
+        (terminal_of store.now.network cells.now.distances vertex)) }
     ensures { OnOk result (GoesTo store.now.network laid.old laid.new vertex
         (far_in cells.now.distances vertex)) }
 {
-    if cells.terminal(store, vertex) == vertex {
+    if laid.reached.contains(vertex) {
         return Ok(());
     }
     let Some(path) = cells.distances.path_to(alloc, vertex)? else {
@@ -72,13 +72,13 @@ fn go_home(
 ) -> Result<(), AllocError>
     requires cells { AreCells store.now.network cells.now }
     requires vertex { IsVertex store.now.network.n vertex }
-    requires near { far_in cells.now.distances vertex < 2 ^ 64 }
+    requires near { far_in cells.now.distances vertex < 2 ^ 64 - 1 }
     requires laid { IsLaid store.now.network laid.old }
     requires from { IsTrue (has laid.old.reached.members vertex) }
     ensures { OnOk result (GoesTo store.now.network laid.old laid.new
-        (terminal_of store.now.network cells.now.sources.items vertex) (far_in cells.now.distances vertex)) }
+        (terminal_of store.now.network cells.now.distances vertex) (far_in cells.now.distances vertex)) }
 {
-    if cells.terminal(store, vertex) == vertex {
+    if cells.place(vertex).terminal == vertex {
         return Ok(());
     }
     let Some(mut path) = cells.distances.path_to(alloc, vertex)? else {

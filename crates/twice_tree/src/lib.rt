@@ -7,6 +7,7 @@
 #![tactic(auto)]
 
 mod cells;
+mod chains;
 mod joining;
 mod law;
 mod laying;

@@ -1,5 +1,5 @@
-ghost use Rattle.std.specs.Prelude.{◌≡◌, ℕ, ◌≤◌, [], IfNone, IfOk, IfSome, IsFalse, IsTrue};
-ghost use Rattle.st_model.specs.Arborescence.{IsTree, cost};
+ghost use Rattle.std.specs.Prelude.{◌≡◌, ℕ, [], IfNone, IfOk, IfSome, IsFalse, IsTrue};
+ghost use Rattle.st_model.specs.Arborescence.{IsTree};
 ghost use Rattle.st_model.specs.Branch.{AreThose, all_trees};
 ghost use Rattle.st_model.specs.Lists.{has};
 ghost use Rattle.st_model.specs.Network.{IsVertex, is_required as required};
@@ -11,15 +11,15 @@ ghost use Rattle.twice_tree.specs.Twice.{IsWithinTwice};
 use crate::cells::Cells;
 use crate::joining::Joining;
 use graph_store::Store;
-use st_model::{Branch, Listed, Need, Sides, Tree, VertexSet};
+use st_model::{Listed, Need, Tree, VertexSet};
 use std::alloc::{AllocError, Global};
-use tree_heuristic::prune;
 
 /// A tree of a graph in which nobody pays that costs at most twice the least, less a share of one
 /// in as many as are required. From a first required vertex on, the nearest one is joined again and
 /// again (Takahashi and Matsuyama 1980), over the cells of all (Mehlhorn 1988), so it takes about
-/// the time of a search for distances; then leaves are pruned. Where none is required it is one
-/// vertex. None comes exactly where no tree reaches all that are required and nobody who is gone.
+/// twice the time of the search for distances that it begins with. Each path that it takes ends at
+/// a required vertex, so no leaf is pruned. Where none is required it is one vertex. None comes
+/// exactly where no tree reaches all that are required and nobody who is gone.
 pub fn near_tree(alloc: Global, store: &Store) -> Result<Option<Tree>, AllocError>
     requires here { (v : ℕ) → IsTerminal store.now.network v → IsTrue (is_in store.now v) }
     requires free { NobodyPays store.now.network }
@@ -82,13 +82,10 @@ fn joined_tree(
     ensures none { IfOk result (λ found. IfNone found (HasNoTree store.now all_trees)) }
 {
     let cells = Cells::of(alloc, store, terminals)?;
-    let joining = Joining::over(alloc, store, &cells, first)?;
+    let joining = Joining::over(alloc, store, &cells, first, terminals.len())?;
     match missing(terminals, &joining.joined) {
         Some(_) => Ok(None),
-        None => {
-            let tree = pruned(alloc, store, joining.laid.into_tree())?;
-            Ok(Some(tree))
-        }
+        None => Ok(Some(joining.laid.into_tree())),
     }
 }
 
@@ -103,18 +100,6 @@ fn missing(vertices: &[u32], set: &VertexSet) -> Option<u32>
         }
     }
     None
-}
-
-// The tree without the leaves that nobody requires.
-fn pruned(alloc: Global, store: &Store, tree: Tree) -> Result<Tree, AllocError>
-    requires { IsTree store.now.network tree }
-    ensures tree { IfOk result (IsTree store.now.network) }
-    ensures cost { IfOk result (λ new. cost store.now.network new ≤ cost store.now.network tree) }
-{
-    let instance = store.instance(alloc)?;
-    let branch = Sides::of(alloc, Branch::all(alloc))?;
-    let new = prune(alloc, &instance, &branch, tree)?;
-    Ok(new)
 }
 
 // One vertex that is present.

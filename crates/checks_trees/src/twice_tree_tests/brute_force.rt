@@ -1,6 +1,6 @@
 ghost use Rattle.std.specs.Prelude.{◌≡◌, IfOk};
 
-use crate::twice_tree_tests::near_cost;
+use crate::twice_tree_tests::{near_cost, pruned_near_cost};
 use graph_store::Store;
 use st_model::{Instance, Need};
 use std::alloc::{AllocError, Global};
@@ -163,6 +163,21 @@ fn agrees(alloc: Global, seed: u64) -> Result<bool, AllocError> {
 fn is_within_twice_the_least(rt: HostRuntime) -> Result<(), Fail> {
     for seed in 0..200u64 {
         assert!(rt; agrees(rt.alloc(), seed)?, "seed {seed}");
+    }
+    Ok(())
+}
+
+// Whether the tree of a drawn graph, if there is one, costs as much once its leaves are pruned.
+fn is_pruned(alloc: Global, seed: u64) -> Result<bool, AllocError> {
+    let store = drawn(alloc, seed)?;
+    let instance = store.instance(alloc)?;
+    Ok(near_cost(alloc, &instance, &store)? == pruned_near_cost(alloc, &instance, &store)?)
+}
+
+#[test]
+fn has_no_leaf_to_spare(rt: HostRuntime) -> Result<(), Fail> {
+    for seed in 0..200u64 {
+        assert!(rt; is_pruned(rt.alloc(), seed)?, "seed {seed}");
     }
     Ok(())
 }

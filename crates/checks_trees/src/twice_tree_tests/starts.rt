@@ -1,22 +1,14 @@
-ghost use Rattle.std.specs.Prelude.{◌≡◌, IfOk, IfSome};
+ghost use Rattle.std.specs.Prelude.{IfOk, IfSome};
 ghost use Rattle.st_model.specs.Arborescence.{IsTree};
-ghost use Rattle.st_model.specs.Branch.{all_trees};
 
-use crate::twice_tree_tests::near_cost;
+use crate::twice_tree_tests::{all, near_cost};
 use graph_store::Whole;
 use local_search::improve;
-use st_model::{Branch, Instance, Need, Sides, Tree, tree_cost};
+use st_model::{Instance, Need, Tree, tree_cost};
 use std::alloc::{AllocError, Global};
 use std::test::Fail;
 use test_instances::link;
 use tree_heuristic::{first_tree, prune};
-
-// The branch of all trees.
-fn all(alloc: Global) -> Result<Sides, AllocError>
-    ensures { IfOk result (λ sides. sides ≡ all_trees) }
-{
-    Sides::of(alloc, Branch::all(alloc))
-}
 
 // The first tree, without the leaves that nobody requires.
 fn pruned(alloc: Global, whole: &Whole) -> Result<Option<Tree>, AllocError>

@@ -35,5 +35,5 @@ returns c =
     let far = far_in c.args.cells.now.distances in
     let step = goes_by I c.go_out.new.laid c.follow.new.self c.args.offer.from c.args.offer.to c.requires.made.link_cost c.in_ok-follow.ensures.laid c.in_ok-follow.ensures.reached c.in_ok-follow.ensures.cost c.requires.made.linked in
     let there = goes_on I c.args.laid.now c.go_out.new.laid c.follow.new.self c.args.offer.from c.args.offer.to (far c.args.offer.from) c.requires.made.link_cost c.in_ok-go_out.ensures step in
-    let k = terminal_of I c.args.cells.now.sources.items c.args.offer.to in
+    let k = terminal_of I c.args.cells.now.distances c.args.offer.to in
     rw c.requires.made.cost (goes_on I c.args.laid.now c.follow.new.self c.go_home.new.laid c.args.offer.to k (far c.args.offer.from + c.requires.made.link_cost) (far c.args.offer.to) there c.in_ok-go_home.ensures)
