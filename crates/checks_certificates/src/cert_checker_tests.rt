@@ -1,9 +1,11 @@
-use cert_checker::{CheckFault, Verdict, check};
+use amounts::Scale;
+use cert_checker::{CheckFault, Checked, Verdict, check};
 use log_format::{Kind, LogFault};
 use std::alloc::Global;
 use std::test::Fail;
 use stp_reader::{Reason, StpFault};
 
+mod decimals;
 mod drawn;
 mod hostile;
 mod pieces;
@@ -42,9 +44,16 @@ fn changed(rt: &impl AllocGlobal, log: &str, right: &str, wrong: &str) -> Result
     Ok(format!(in rt.alloc(); "{before}{wrong}{after}")?)
 }
 
-/// Whether a file and a log are answered so.
+/// What is answered where no amount of the file has decimals.
+fn in_wholes(wanted: Result<Verdict, CheckFault>) -> Result<Checked, CheckFault> {
+    let verdict = wanted?;
+    let scale = Scale::Whole;
+    Ok(Checked { verdict, scale })
+}
+
+/// Whether a file without decimals and a log are answered so.
 fn is_answered(alloc: Global, stp: &str, log: &str, wanted: Result<Verdict, CheckFault>) -> bool {
-    check(alloc, stp.as_bytes(), log.as_bytes()) == wanted
+    check(alloc, stp.as_bytes(), log.as_bytes()) == in_wholes(wanted)
 }
 
 /// The same of a log in which one part is changed.

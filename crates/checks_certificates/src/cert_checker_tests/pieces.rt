@@ -2,7 +2,7 @@
 ghost use Rattle.std.specs.Prelude.{◌≡◌, ◌+◌, ◌≤◌, ◌<◌, ◌^◌, length, IfOk};
 
 use super::{CHANGES, CONCLUDED, PRIZES, STAR, TRIANGLE, changed, steps};
-use cert_checker::{CheckFault, Checker, Verdict, check};
+use cert_checker::{CheckFault, Checked, Checker, check};
 use log_format::{Kind, LogFault};
 use std::alloc::AllocError;
 use std::test::Fail;
@@ -46,7 +46,7 @@ fn is_answered_by(
     stp: &str,
     log: &[u8],
     size: usize,
-    wanted: Result<Verdict, CheckFault>,
+    wanted: Result<Checked, CheckFault>,
 ) -> Result<bool, Fail>
     requires { 1 ≤ size }
 {
@@ -61,7 +61,7 @@ fn is_answered_in_two(
     stp: &str,
     log: &[u8],
     place: usize,
-    wanted: Result<Verdict, CheckFault>,
+    wanted: Result<Checked, CheckFault>,
 ) -> Result<bool, Fail>
     requires { place ≤ length log.now }
 {
@@ -75,7 +75,7 @@ fn answers_by(
     rt: &impl AllocGlobal,
     stp: &str,
     log: &[u8],
-    wanted: Result<Verdict, CheckFault>,
+    wanted: Result<Checked, CheckFault>,
 ) -> Result<bool, Fail> {
     for less in [0, 1, 2, 6, 63] {
         if !is_answered_by(rt, stp, log, less + 1, wanted)? {
@@ -90,7 +90,7 @@ fn answers_in_two(
     rt: &impl AllocGlobal,
     stp: &str,
     log: &[u8],
-    wanted: Result<Verdict, CheckFault>,
+    wanted: Result<Checked, CheckFault>,
 ) -> Result<bool, Fail> {
     for place in 0..log.len() {
         if !is_answered_in_two(rt, stp, log, place, wanted)? {
@@ -100,10 +100,20 @@ fn answers_in_two(
     Ok(true)
 }
 
+/// Whether a log is answered so however it is cut into pieces.
+pub fn answers_in_pieces(
+    rt: &impl AllocGlobal,
+    stp: &str,
+    log: &[u8],
+    wanted: Result<Checked, CheckFault>,
+) -> Result<bool, Fail> {
+    Ok(answers_by(rt, stp, log, wanted)? && answers_in_two(rt, stp, log, wanted)?)
+}
+
 /// Whether a log in pieces is answered as whole.
 fn is_answered_alike(rt: &impl AllocGlobal, stp: &str, log: &[u8]) -> Result<bool, Fail> {
     let wanted = check(rt.alloc(), stp.as_bytes(), log);
-    Ok(answers_by(rt, stp, log, wanted)? && answers_in_two(rt, stp, log, wanted)?)
+    answers_in_pieces(rt, stp, log, wanted)
 }
 
 /// The same of a log in which one part is changed.
