@@ -737,4 +737,5 @@ def main():
     print(f"{runs} runs without a difference")
 
 
-main()
+if __name__ == "__main__":
+    main()
