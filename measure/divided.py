@@ -73,4 +73,5 @@ def main():
     print(f"{files} files, {solved} of them with a tree, without a difference")
 
 
-main()
+if __name__ == "__main__":
+    main()
