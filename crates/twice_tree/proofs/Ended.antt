@@ -6,7 +6,7 @@ use Rattle.std.proofs.lemmas.Bool.{eqb-true, false≢true, or_cases}
 use Rattle.std.proofs.lemmas.List.Elements.{All-nil}
 use Rattle.st_model.specs.declared.tree.Tree.{Tree}
 use Rattle.st_model.specs.Arborescence.{IsArborescence, IsTree, arc_cost, reached}
-use Rattle.st_model.specs.Branch.{AreThose, all_trees}
+use Rattle.st_model.specs.Branch.{AreThose, Belongs, all_trees}
 use Rattle.st_model.specs.Lists.{has, total}
 use Rattle.st_model.specs.Network.{Network, IsInstance, IsVertex, is_required}
 use Rattle.st_model.specs.Terminals.{IsTerminal, NobodyPays, terminal_count}
@@ -115,6 +115,10 @@ pub none_present : (g : Graph) → ((v : ℕ) → IsVertex g.network.n v → IsF
 none_present g none t tree belongs present =
     let here = present t.start (has-reached_from (t.start ∷ []) t.arcs t.start (has-cons_head [] t.start t.start refl)) in
     false≢true (sym (none t.start tree.arborescence.start) ∙ here)
+
+-- each tree is one of the branch of all trees
+pub belongs_to_all : (t : Tree) → Belongs all_trees t
+belongs_to_all t = record { inside = λ v there. absurd (false≢true there); outside = λ v there. absurd (false≢true there) }
 
 -- where all that are listed are in an empty set, there is none
 pub none_listed : (I : Network) (terminals set : List ℕ) → AreThose (is_required I) I.n terminals → set ≡ [] → ((v : ℕ) → IsTrue (has terminals v) → IsTrue (has set v)) → (v : ℕ) → IsTerminal I v → ⊥
