@@ -6,6 +6,7 @@ use std::thread::Threads;
 use steiner_top::{Gate, OpenGate, Outcome, Status, run, solve_bytes};
 
 mod checks;
+mod decimals;
 mod drawn;
 mod draws;
 mod faults;
@@ -38,6 +39,14 @@ const APART: &str =
 /// Two vertices that pay 3 and 4, linked at cost 5.
 const PRIZES: &str =
     "H / SECTION Graph / Nodes 2 / Edges 1 / E 1 2 5 / END / SECTION Terminals / Terminals 2 / TP 1 3 / TP 2 4 / END / EOF";
+
+/// Two required vertices, linked at cost 5.5.
+const LINK: &str =
+    "H / SECTION Graph / Nodes 2 / Edges 1 / E 1 2 5.5 / END / SECTION Terminals / Terminals 2 / T 1 / T 2 / END / EOF";
+
+/// Two vertices that pay 0.1 and 0.2, linked at cost 0.25.
+const SMALL_PRIZES: &str =
+    "H / SECTION Graph / Nodes 2 / Edges 1 / E 1 2 0.25 / END / SECTION Terminals / Terminals 2 / TP 1 0.1 / TP 2 0.2 / END / EOF";
 
 /// The words of a line, which stand apart by single spaces.
 fn words_of(alloc: Global, line: &str) -> Result<Vec<String>, AllocError> {

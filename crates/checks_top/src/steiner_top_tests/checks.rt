@@ -1,5 +1,6 @@
 use super::{
-    APART, PRIZES, TRIANGLE, WHEEL, ending_of, ends, saves_as, shelf_of, sink_of, text_of,
+    APART, LINK, PRIZES, SMALL_PRIZES, TRIANGLE, WHEEL, ending_of, ends, saves_as, shelf_of,
+    sink_of, text_of,
 };
 use st_edge::{MemoryShelf, Shelf};
 use std::alloc::{AllocError, Global};
@@ -55,14 +56,15 @@ fn saves(alloc: Global, shelf: &mut MemoryShelf, log: &str) -> Result<bool, Allo
     Ok(saves_as(shelf, "b", &text))
 }
 
-/// Whether a log is answered so with the triangle, and both are asked for, once.
+/// Whether a log is answered so with a file, and both are asked for, once.
 fn answers_log<R: Threads + Wait + Sync>(
     rt: &R,
     alloc: Global,
+    lines: &str,
     log: &str,
     want: (Status, u8, &str),
 ) -> Result<bool, AllocError> {
-    let mut shelf = shelf_of(alloc, TRIANGLE, &[])?;
+    let mut shelf = shelf_of(alloc, lines, &[])?;
     let answered = saves(alloc, &mut shelf, log)?
         && ends(rt, alloc, "check a.stp b", &mut shelf, want)?;
     Ok(answered && have_names(shelf.asked(), &["a.stp", "b"]))
@@ -72,7 +74,60 @@ fn answers_log<R: Threads + Wait + Sync>(
 fn answers_logs(rt: HostRuntime) -> Result<(), Fail> {
     for (log, status, code, line) in ANSWERS {
         let want = (*status, *code, *line);
-        assert!(rt; answers_log(&rt, rt.alloc(), log, want)?, "for {log}");
+        assert!(rt;
+            answers_log(&rt, rt.alloc(), TRIANGLE, log, want)?,
+            "for {log}"
+        );
+    }
+    Ok(())
+}
+
+/// Logs of the link of cost 5.5, and how they are answered with its file.
+const LINK_ANSWERS: &[(&str, Status, u8, &str)] = &[
+    (
+        "STEINERLOG 1 / CLAIM TREE 5500000 5500000 / TREE 1 1 / A 1 2 / STEPS 0 / PROOF / C 1 1 / U 2 5500000 1 2 / END",
+        Status::Optimal,
+        0,
+        "optimal 5.5\n",
+    ),
+    (
+        "STEINERLOG 1 / CLAIM TREE 5500000 5400000 / TREE 1 1 / A 1 2 / STEPS 0 / PROOF / C 1 1 / U 2 5400000 1 2 / END",
+        Status::Budget,
+        3,
+        "bound 5.4 5.5\n",
+    ),
+    (
+        "STEINERLOG 1 / CLAIM TREE 5500000 1 / TREE 1 1 / A 1 2 / STEPS 0 / PROOF / C 1 1 / U 2 1 1 2 / END",
+        Status::Budget,
+        3,
+        "bound 0.000001 5.5\n",
+    ),
+    (
+        "STEINERLOG 1 / CLAIM TREE 5500000 0 / TREE 1 1 / A 1 2 / STEPS 0 / PROOF / C 0 0 / END",
+        Status::Budget,
+        3,
+        "bound 0 5.5\n",
+    ),
+    // Numbers in wholes, which a log of this file doesn't have.
+    (
+        "STEINERLOG 1 / CLAIM TREE 5 5 / TREE 1 1 / A 1 2 / STEPS 0 / PROOF / C 1 1 / U 2 5 1 2 / END",
+        Status::RefusedLog,
+        6,
+        "refused log 2 4 WrongCost\n",
+    ),
+    (
+        "STEINERLOG 1 / CLAIM TREE 5.5 5.5 / TREE 1 1 / A 1 2 / STEPS 0 / PROOF / C 1 1 / U 2 5.5 1 2 / END",
+        Status::RefusedLog,
+        6,
+        "refused log 2 1 BadLine\n",
+    ),
+];
+
+#[test]
+fn answers_logs_of_decimals(rt: HostRuntime) -> Result<(), Fail> {
+    for (log, status, code, line) in LINK_ANSWERS {
+        let want = (*status, *code, *line);
+        assert!(rt; answers_log(&rt, rt.alloc(), LINK, log, want)?, "for {log}");
     }
     Ok(())
 }
@@ -82,6 +137,8 @@ const SAVED: &[(&str, Status, u8, &str)] = &[
     (TRIANGLE, Status::Optimal, 0, "optimal 6\n"),
     (WHEEL, Status::Optimal, 0, "optimal 10\n"),
     (PRIZES, Status::Optimal, 0, "optimal 3\n"),
+    (LINK, Status::Optimal, 0, "optimal 5.5\n"),
+    (SMALL_PRIZES, Status::Optimal, 0, "optimal 0.1\n"),
     (APART, Status::Infeasible, 4, "no tree\n"),
 ];
 

@@ -1,3 +1,4 @@
+use super::decimals::{Parts, amount_in};
 use super::{Solution, ending_of, ends, sink_of};
 use st_edge::MemoryShelf;
 use std::alloc::{AllocError, Global};
@@ -12,25 +13,51 @@ pub fn draw(state: &mut u64, below: u64) -> u64 {
     1 + *state % below.max(1)
 }
 
+/// A file that is drawn: from which seed, how large an amount may be, and what the amounts count.
+#[derive(Clone, Copy)]
+pub struct Drawn {
+    pub seed: u64,
+    pub most: u64,
+    pub parts: Parts,
+}
+
+/// The next amount of a file.
+fn drawn_amount(alloc: Global, state: &mut u64, file: Drawn) -> Result<String, AllocError> {
+    let number = draw(state, file.most);
+    amount_in(alloc, number, file.parts)
+}
+
+/// Writes a link of a file.
+fn put_link(
+    alloc: Global,
+    text: &mut String,
+    state: &mut u64,
+    file: Drawn,
+    ends: (u64, u64),
+) -> Result<(), AllocError> {
+    let (a, b) = ends;
+    let cost = drawn_amount(alloc, state, file)?;
+    writeln!(text, "E {a} {b} {cost}")
+}
+
 /// A file of six vertices, each linked with one before it, and four more links; the first two
 /// are required, and two others pay.
-fn file_of(alloc: Global, seed: u64) -> Result<String, AllocError> {
-    let mut state = seed;
+pub fn file_of(alloc: Global, file: Drawn) -> Result<String, AllocError> {
+    let mut state = file.seed;
     let mut text = String::from_str(
         alloc,
         "33D32945 STP File, STP Format Version 1.0\nSECTION Graph\nNodes 6\nEdges 9\n",
     )?;
     for vertex in 2..7 {
         let other = draw(&mut state, vertex - 1);
-        let cost = draw(&mut state, 9);
-        writeln!(&mut text, "E {other} {vertex} {cost}")?;
+        put_link(alloc, &mut text, &mut state, file, (other, vertex))?;
     }
     for _ in 0..4 {
         let (a, b) = (draw(&mut state, 6), draw(&mut state, 6));
-        let cost = draw(&mut state, 9);
-        writeln!(&mut text, "E {a} {b} {cost}")?;
+        put_link(alloc, &mut text, &mut state, file, (a, b))?;
     }
-    let (p, q) = (draw(&mut state, 9), draw(&mut state, 9));
+    let p = drawn_amount(alloc, &mut state, file)?;
+    let q = drawn_amount(alloc, &mut state, file)?;
     writeln!(
         &mut text,
         "END\nSECTION Terminals\nTerminals 4\nT 1\nT 2\nTP 3 {p}\nTP 4 {q}\nEND"
@@ -57,11 +84,11 @@ pub fn found_by<R: Threads + Wait + Sync>(
 }
 
 /// Whether the log that was saved shows that this cost is the least.
-fn shows_cost<R: Threads + Wait + Sync>(
+pub fn shows_cost<R: Threads + Wait + Sync>(
     rt: &R,
     alloc: Global,
     shelf: &mut MemoryShelf,
-    cost: u64,
+    cost: &str,
 ) -> Result<bool, Fail> {
     let line = format!(in alloc; "optimal {cost}\n")?;
     let want = (Status::Optimal, 0, line.as_str());
@@ -75,10 +102,16 @@ fn is_accepted<R: Threads + Wait + Sync>(
     seed: u64,
     line: &str,
 ) -> Result<bool, Fail> {
-    let mut shelf = shelf_with(alloc, file_of(alloc, seed)?)?;
+    let file = Drawn {
+        seed,
+        most: 9,
+        parts: Parts::Wholes,
+    };
+    let mut shelf = shelf_with(alloc, file_of(alloc, file)?)?;
     match found_by(rt, alloc, line, &mut shelf)? {
         Some(found) if found.primal == found.dual => {
-            shows_cost(rt, alloc, &mut shelf, found.primal)
+            let cost = format!(in alloc; "{}", found.primal)?;
+            shows_cost(rt, alloc, &mut shelf, &cost)
         }
         _ => Ok(false),
     }

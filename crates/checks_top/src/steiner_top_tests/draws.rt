@@ -32,7 +32,7 @@ fn sends_what_is_drawn_with_prizes(rt: HostRuntime) -> Result<(), Fail> {
 
 /// Whether the vertex 1 alone is the best tree of what is drawn with prizes.
 fn stays_at_one<R: Threads + Wait + Sync>(rt: &R, alloc: Global) -> Result<bool, AllocError> {
-    let text = solution_text(alloc, "optimal", 32, 32, (&[1], &[]))?;
+    let text = solution_text(alloc, "optimal", "32", "32", (&[1], &[]))?;
     let want = (Status::Optimal, 0, text.as_str());
     file_ends(rt, alloc, "solve a.stp", WITH_PRIZES, &[], want)
 }

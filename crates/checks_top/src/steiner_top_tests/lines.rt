@@ -81,7 +81,7 @@ const REFUSED: &[(&str, &str)] = &[
         "refused stp 5 8 OutOfRange\n",
     ),
     (
-        "H / SECTION Graph / Nodes 2 / Edges 1 / E 1 2 5.5",
+        "H / SECTION Graph / Nodes 2 / Edges 1 / E 1 2 0.0000005",
         "refused stp 5 7 Fraction\n",
     ),
     (
@@ -107,12 +107,75 @@ const REFUSED: &[(&str, &str)] = &[
     ),
 ];
 
+/// Files with amounts that are above a million beside decimals, and the lines by which they are refused.
+const TOO_WIDE: &[(&str, &str)] = &[
+    (
+        "H / SECTION Graph / Nodes 2 / Edges 2 / E 1 2 1000001 / E 1 2 0.5 / END / SECTION Terminals / Terminals 2 / T 1 / T 2 / END / EOF",
+        "refused stp 6 18 ScaleRange\n",
+    ),
+    (
+        "H / SECTION Graph / Nodes 2 / Edges 2 / E 1 2 0.5 / E 1 2 1000001",
+        "refused stp 6 18 ScaleRange\n",
+    ),
+    (
+        "H / SECTION Graph / Nodes 2 / Edges 1 / E 1 2 1000000.000001",
+        "refused stp 5 18 ScaleRange\n",
+    ),
+    (
+        "H / SECTION Graph / Nodes 2 / Edges 1 / E 1 2 1000000000000.5",
+        "refused stp 5 18 ScaleRange\n",
+    ),
+    (
+        "H / SECTION Graph / Nodes 2 / Edges 1 / E 1 2 1000000000001.5",
+        "refused stp 5 8 OutOfRange\n",
+    ),
+    (
+        "H / SECTION Graph / Nodes 2 / Edges 1 / E 1 2 1000001 / END / SECTION Terminals / Terminals 2 / TP 1 3 / TP 2 0.5",
+        "refused stp 10 18 ScaleRange\n",
+    ),
+    // Also where the vertex doesn't pay, since it is required.
+    (
+        "H / SECTION Graph / Nodes 2 / Edges 1 / E 1 2 0.5 / END / SECTION Terminals / Terminals 2 / T 1 / TP 1 1000001",
+        "refused stp 10 18 ScaleRange\n",
+    ),
+];
+
+/// Files with a pinned root, and the lines by which they are refused.
+const PINNED: &[(&str, &str)] = &[
+    (
+        "H / SECTION Graph / Nodes 2 / Edges 1 / E 1 2 5 / END / SECTION Terminals / Terminals 3 / RootP 1 / T 2 / END / EOF",
+        "refused stp 11 10 CountMismatch\n",
+    ),
+    (
+        "H / SECTION Graph / Nodes 2 / Edges 1 / E 1 2 5 / END / SECTION Terminals / Terminals 0 / RootP 1 / T 2 / END / EOF",
+        "refused stp 11 10 CountMismatch\n",
+    ),
+    (
+        "H / SECTION Graph / Nodes 2 / Edges 1 / E 1 2 5 / END / SECTION Terminals / Terminals 1 / RootP 1 / RootP 1",
+        "refused stp 10 2 BadLine\n",
+    ),
+    (
+        "H / SECTION Graph / Nodes 2 / Edges 1 / E 1 2 5 / END / SECTION Terminals / Terminals 1 / RootP 3",
+        "refused stp 9 9 VertexRange\n",
+    ),
+    (
+        "H / SECTION Graph / Nodes 2 / Edges 1 / E 1 2 5 / END / SECTION Terminals / Terminals 1 / RootP 1.0",
+        "refused stp 9 6 BadNumber\n",
+    ),
+    (
+        "H / SECTION Graph / Nodes 2 / Edges 1 / E 1 2 5 / END / SECTION Terminals / Terminals 1 / RootP 1 / Root 2 / T 1 / END / EOF",
+        "refused stp 12 12 RootNotTerminal\n",
+    ),
+];
+
 #[test]
 fn tells_why_a_file_is_refused(rt: HostRuntime) -> Result<(), Fail> {
-    for (lines, line) in REFUSED {
-        let want = (Status::RefusedFile, 5, *line);
-        let ended = file_ends(&rt, rt.alloc(), "solve a.stp", lines, &[], want)?;
-        assert!(rt; ended, "for {lines}");
+    for table in [REFUSED, TOO_WIDE, PINNED] {
+        for (lines, line) in table {
+            let want = (Status::RefusedFile, 5, *line);
+            let ended = file_ends(&rt, rt.alloc(), "solve a.stp", lines, &[], want)?;
+            assert!(rt; ended, "for {lines}");
+        }
     }
     Ok(())
 }

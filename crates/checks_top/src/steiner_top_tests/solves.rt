@@ -1,5 +1,6 @@
 use super::{
-    APART, PRIZES, Solution, TRIANGLE, WHEEL, ending_of, ends, file_ends, shelf_of, sink_of, solved,
+    APART, LINK, PRIZES, SMALL_PRIZES, Solution, TRIANGLE, WHEEL, ending_of, ends, file_ends,
+    shelf_of, sink_of, solved,
 };
 use log_format::{Claim, read_log};
 use std::alloc::{AllocError, Global};
@@ -39,11 +40,13 @@ pub fn comes_to<R: Threads + Wait + Sync>(
     }
 }
 
-/// Files and the cost of their best trees.
+/// Files and the cost of their best trees, in millionths where an amount has decimals.
 const BEST: &[(&str, u64)] = &[
     (TRIANGLE, 6),
     (WHEEL, 10),
     (PRIZES, 3),
+    (LINK, 5_500_000),
+    (SMALL_PRIZES, 100_000),
     // The sides of the triangle cost 3: two of them are as good as the spokes.
     (
         "H / SECTION Graph / Nodes 4 / Edges 6 / E 1 4 2 / E 2 4 2 / E 3 4 2 / E 1 2 3 / E 2 3 3 / E 1 3 3 / END / SECTION Terminals / Terminals 3 / T 1 / T 2 / T 3 / END / EOF",

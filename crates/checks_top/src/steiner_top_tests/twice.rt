@@ -19,7 +19,7 @@ fn sizes_of(seed: u64) -> (u64, u64, u64) {
 }
 
 /// What the best tree of a shelf's file costs, where the search proves that it is best.
-fn least_of<R: Threads + Wait + Sync>(
+pub fn least_of<R: Threads + Wait + Sync>(
     rt: &R,
     alloc: Global,
     shelf: &mut MemoryShelf,

@@ -1,14 +1,23 @@
 use super::solves::STAR;
-use super::{APART, TRIANGLE, ends, saves_as, shelf_of};
+use super::{APART, LINK, SMALL_PRIZES, TRIANGLE, ends, saves_as, shelf_of};
 use std::alloc::{AllocError, Global};
 use std::sync::Wait;
 use std::test::Fail;
 use std::thread::Threads;
 use steiner_top::Status;
 
+/// The solution of the link of cost 5.5.
+const LINKED: &str =
+    "33D32945 STP File, STP Format Version 1.0\nSECTION Comment\nName \"a.stp\"\nProgram \"steiner\"\nRemark \"optimal\"\nEND\nSECTION Solutions\nSolution 0 5.5\nEND\nSECTION Run\nThreads 1\nTime 0\nDual 5.5\nPrimal 5.5\nEND\nSECTION Finalsolution\nVertices 2\nV 1\nV 2\nEdges 1\nE 1 2\nEND\nEOF\n";
+
 /// The text of a solution in which one part is changed.
-fn changed(alloc: Global, right: &str, wrong: &str) -> Result<Option<String>, AllocError> {
-    match STAR.split_once(right) {
+fn changed(
+    alloc: Global,
+    solution: &str,
+    right: &str,
+    wrong: &str,
+) -> Result<Option<String>, AllocError> {
+    match solution.split_once(right) {
         Some((before, after)) => Ok(Some(format!(in alloc; "{before}{wrong}{after}")?)),
         None => Ok(None),
     }
@@ -27,16 +36,18 @@ fn answers_solution<R: Threads + Wait + Sync>(
     Ok(is_saved && ends(rt, alloc, "verify a.stp b", &mut shelf, want)?)
 }
 
-/// Whether the triangle's solution is answered so, where one part is changed.
+/// Whether a solution beside a file is answered so, where one part is changed.
 fn answers_change<R: Threads + Wait + Sync>(
     rt: &R,
     alloc: Global,
-    right: &str,
-    wrong: &str,
+    file: &str,
+    solution: &str,
+    change: (&str, &str),
     want: (Status, u8, &str),
 ) -> Result<bool, AllocError> {
-    match changed(alloc, right, wrong)? {
-        Some(solution) => answers_solution(rt, alloc, TRIANGLE, &solution, want),
+    let (right, wrong) = change;
+    match changed(alloc, solution, right, wrong)? {
+        Some(solution) => answers_solution(rt, alloc, file, &solution, want),
         None => Ok(false),
     }
 }
@@ -142,14 +153,74 @@ fn answers_solutions(rt: HostRuntime) -> Result<(), Fail> {
     for (right, wrong, status, code, line) in ANSWERS {
         let want = (*status, *code, *line);
         assert!(rt;
-            answers_change(&rt, rt.alloc(), right, wrong, want)?,
+            answers_change(&rt, rt.alloc(), TRIANGLE, STAR, (right, wrong), want)?,
             "at {wrong}"
         );
     }
     Ok(())
 }
 
-/// A file that isn't that of the solution, and one that is refused before the solution is looked at.
+/// A part of the link's solution, what stands there instead, and the answer.
+const LINK_ANSWERS: &[(&str, &str, Status, u8, &str)] = &[
+    ("EOF\n", "EOF\n", Status::Optimal, 0, "tree 5.5\n"),
+    (
+        "Primal 5.5",
+        "Primal 5.5000000",
+        Status::Optimal,
+        0,
+        "tree 5.5\n",
+    ),
+    (
+        "Primal 5.5",
+        "Primal 5.5000001",
+        Status::Optimal,
+        0,
+        "tree 5.5\n",
+    ),
+    (
+        "Primal 5.5",
+        "Primal 5",
+        Status::NotTree,
+        12,
+        "not a tree 8 CostDiffers\n",
+    ),
+    (
+        "Primal 5.5",
+        "Primal 5.500001",
+        Status::NotTree,
+        12,
+        "not a tree 8 CostDiffers\n",
+    ),
+    (
+        "Primal 5.5",
+        "Primal 5500000",
+        Status::NotTree,
+        12,
+        "not a tree 8 CostDiffers\n",
+    ),
+    (
+        "Edges 1\nE 1 2\n",
+        "",
+        Status::NotTree,
+        12,
+        "not a tree 5 NotConnected\n",
+    ),
+];
+
+#[test]
+fn answers_solutions_with_decimals(rt: HostRuntime) -> Result<(), Fail> {
+    for (right, wrong, status, code, line) in LINK_ANSWERS {
+        let want = (*status, *code, *line);
+        assert!(rt;
+            answers_change(&rt, rt.alloc(), LINK, LINKED, (right, wrong), want)?,
+            "at {wrong}"
+        );
+    }
+    Ok(())
+}
+
+/// A file that isn't that of the solution, one that is refused before the solution is looked at, and one with decimals
+/// beside solutions that state no primal.
 const FILES: &[(&str, &str, Status, u8, &str)] = &[
     (
         APART,
@@ -164,6 +235,20 @@ const FILES: &[(&str, &str, Status, u8, &str)] = &[
         Status::RefusedFile,
         5,
         "refused stp 2 15 NoGraph\n",
+    ),
+    (
+        SMALL_PRIZES,
+        "SECTION Finalsolution\nV 1\nEND\n",
+        Status::Optimal,
+        0,
+        "tree 0.2\n",
+    ),
+    (
+        SMALL_PRIZES,
+        "SECTION Finalsolution\nV 1\nV 2\nE 1 2\nEND\n",
+        Status::Optimal,
+        0,
+        "tree 0.25\n",
     ),
 ];
 

@@ -1,4 +1,4 @@
-use super::{PRIZES, TRIANGLE, ending_of, shelf_of, sink_of};
+use super::{LINK, PRIZES, SMALL_PRIZES, TRIANGLE, ending_of, shelf_of, sink_of};
 use std::alloc::{AllocError, Global};
 use std::sync::Wait;
 use std::test::Fail;
@@ -8,13 +8,16 @@ use steiner_top::Status;
 /// The vertices and the edges of a tree.
 pub type Shape = (&'static [u32], &'static [(u32, u32)]);
 
-/// Files, the cost of their best trees, and each of these.
-const BEST: &[(&str, u64, &[Shape])] = &[
-    (TRIANGLE, 6, &[(&[1, 2, 3, 4], &[(1, 4), (2, 4), (3, 4)])]),
+/// A file, the cost of its best trees as it is sent, and each of these.
+type Example = (&'static str, &'static str, &'static [Shape]);
+
+/// Examples in which nobody pays.
+const BEST: &[Example] = &[
+    (TRIANGLE, "6", &[(&[1, 2, 3, 4], &[(1, 4), (2, 4), (3, 4)])]),
     // Two sides of cost 3 are as good as the spokes.
     (
         "H / SECTION Graph / Nodes 4 / Edges 6 / E 1 4 2 / E 2 4 2 / E 3 4 2 / E 1 2 3 / E 2 3 3 / E 1 3 3 / END / SECTION Terminals / Terminals 3 / T 1 / T 2 / T 3 / END / EOF",
-        6,
+        "6",
         &[
             (&[1, 2, 3, 4], &[(1, 4), (2, 4), (3, 4)]),
             (&[1, 2, 3], &[(1, 2), (1, 3)]),
@@ -24,24 +27,24 @@ const BEST: &[(&str, u64, &[Shape])] = &[
     ),
     (
         "H / SECTION Graph / Nodes 1 / Edges 0 / END / SECTION Terminals / Terminals 1 / T 1 / END / EOF",
-        0,
+        "0",
         &[(&[1], &[])],
     ),
     // The cheaper of parallel links, without a loop and with one.
     (
         "H / SECTION Graph / Nodes 2 / Edges 2 / E 1 2 5 / E 2 1 3 / END / SECTION Terminals / Terminals 2 / T 1 / T 2 / END / EOF",
-        3,
+        "3",
         &[(&[1, 2], &[(1, 2)])],
     ),
     (
         "H / SECTION Graph / Nodes 2 / Edges 3 / E 1 2 5 / E 2 1 3 / E 1 1 4 / END / SECTION Terminals / Terminals 2 / T 1 / T 2 / END / EOF",
-        3,
+        "3",
         &[(&[1, 2], &[(1, 2)])],
     ),
     // Links of cost 0.
     (
         "H / SECTION Graph / Nodes 3 / Edges 3 / E 1 2 0 / E 2 3 0 / E 1 3 0 / END / SECTION Terminals / Terminals 3 / T 1 / T 2 / T 3 / END / EOF",
-        0,
+        "0",
         &[
             (&[1, 2, 3], &[(1, 2), (1, 3)]),
             (&[1, 2, 3], &[(1, 2), (2, 3)]),
@@ -51,48 +54,135 @@ const BEST: &[(&str, u64, &[Shape])] = &[
     // Nobody pays.
     (
         "H / SECTION Graph / Nodes 3 / Edges 2 / E 1 2 1 / E 2 3 1 / END / SECTION Terminals / Terminals 1 / TP 2 0 / END / EOF",
-        0,
+        "0",
         &[(&[1], &[]), (&[2], &[]), (&[3], &[])],
     ),
 ];
 
-/// The same of files in which vertices pay.
-const BEST_WITH_PRIZES: &[(&str, u64, &[Shape])] = &[
+/// Examples in which vertices pay.
+const BEST_WITH_PRIZES: &[Example] = &[
     // A link to the lesser prize: too dear, worth it, and neither.
-    (PRIZES, 3, &[(&[2], &[])]),
+    (PRIZES, "3", &[(&[2], &[])]),
     (
         "H / SECTION Graph / Nodes 2 / Edges 1 / E 1 2 2 / END / SECTION Terminals / Terminals 2 / TP 1 3 / TP 2 4 / END / EOF",
-        2,
+        "2",
         &[(&[1, 2], &[(1, 2)])],
     ),
     (
         "H / SECTION Graph / Nodes 2 / Edges 1 / E 1 2 3 / END / SECTION Terminals / Terminals 2 / TP 1 3 / TP 2 4 / END / EOF",
-        3,
+        "3",
         &[(&[2], &[]), (&[1, 2], &[(1, 2)])],
     ),
     // A vertex that is required, and one that pays.
     (
         "H / SECTION Graph / Nodes 3 / Edges 2 / E 1 3 4 / E 3 2 5 / END / SECTION Terminals / Terminals 2 / T 1 / TP 2 10 / END / EOF",
-        9,
+        "9",
         &[(&[1, 2, 3], &[(1, 3), (2, 3)])],
+    ),
+    // Amounts with decimals.
+    (SMALL_PRIZES, "0.1", &[(&[2], &[])]),
+    // A pinned root doesn't pay, counted or not.
+    (
+        "H / SECTION Graph / Nodes 2 / Edges 1 / E 1 2 5 / END / SECTION Terminals / Terminals 2 / TP 1 3 / TP 2 4 / RootP 1 / END / EOF",
+        "4",
+        &[(&[1], &[])],
+    ),
+    (
+        "H / SECTION Graph / Nodes 2 / Edges 1 / E 1 2 3.5 / END / SECTION Terminals / Terminals 3 / RootP 1 / TP 1 3 / TP 2 4 / END / EOF",
+        "3.5",
+        &[(&[1, 2], &[(1, 2)])],
     ),
 ];
 
-/// The text of a solution of `a.stp` by one worker.
-pub fn solution_text(
+/// Examples of costs with decimals.
+const WITH_DECIMALS: &[Example] = &[
+    (LINK, "5.5", &[(&[1, 2], &[(1, 2)])]),
+    (
+        "H / SECTION Graph / Nodes 2 / Edges 1 / E 1 2 0.5000000 / END / SECTION Terminals / Terminals 2 / T 1 / T 2 / END / EOF",
+        "0.5",
+        &[(&[1, 2], &[(1, 2)])],
+    ),
+    // The greatest amount beside decimals.
+    (
+        "H / SECTION Graph / Nodes 2 / Edges 2 / E 1 2 1000000 / E 1 2 0.5 / END / SECTION Terminals / Terminals 2 / T 1 / T 2 / END / EOF",
+        "0.5",
+        &[(&[1, 2], &[(1, 2)])],
+    ),
+    (
+        "H / SECTION Graph / Nodes 3 / Edges 2 / E 1 2 1000000 / E 2 3 0.000001 / END / SECTION Terminals / Terminals 2 / T 1 / T 3 / END / EOF",
+        "1000000.000001",
+        &[(&[1, 2, 3], &[(1, 2), (2, 3)])],
+    ),
+    // The spokes cost 2.1 together, two sides 2.6.
+    (
+        "H / SECTION Graph / Nodes 4 / Edges 6 / E 1 4 0.7 / E 2 4 00.7 / E 3 4 0.70 / E 1 2 1.3 / E 2 3 1.3 / E 1 3 1.3 / END / SECTION Terminals / Terminals 3 / T 1 / T 2 / T 3 / END / EOF",
+        "2.1",
+        &[(&[1, 2, 3, 4], &[(1, 4), (2, 4), (3, 4)])],
+    ),
+    // The spokes cost a whole number together.
+    (
+        "H / SECTION Graph / Nodes 4 / Edges 6 / E 1 4 0.75 / E 2 4 1.125 / E 3 4 1.125 / E 1 2 4 / E 2 3 4 / E 1 3 4 / END / SECTION Terminals / Terminals 3 / T 1 / T 2 / T 3 / END / EOF",
+        "3",
+        &[(&[1, 2, 3, 4], &[(1, 4), (2, 4), (3, 4)])],
+    ),
+];
+
+/// Examples in which a vertex is pinned: one of the triangle's, which is counted or not, stands before or after the
+/// count or is required by a line of its own too; and one alone.
+const PINNED: &[Example] = &[
+    (
+        "H / SECTION Graph / Nodes 4 / Edges 6 / E 1 4 2 / E 2 4 2 / E 3 4 2 / E 1 2 4 / E 2 3 4 / E 1 3 4 / END / SECTION Terminals / Terminals 3 / RootP 1 / T 2 / T 3 / END / EOF",
+        "6",
+        &[(&[1, 2, 3, 4], &[(1, 4), (2, 4), (3, 4)])],
+    ),
+    (
+        "H / SECTION Graph / Nodes 4 / Edges 6 / E 1 4 2 / E 2 4 2 / E 3 4 2 / E 1 2 4 / E 2 3 4 / E 1 3 4 / END / SECTION Terminals / Terminals 2 / T 2 / T 3 / RootP 1 / END / EOF",
+        "6",
+        &[(&[1, 2, 3, 4], &[(1, 4), (2, 4), (3, 4)])],
+    ),
+    (
+        "H / SECTION Graph / Nodes 4 / Edges 6 / E 1 4 2 / E 2 4 2 / E 3 4 2 / E 1 2 4 / E 2 3 4 / E 1 3 4 / END / SECTION Terminals / rootp 1 / Root 1 / Terminals 2 / T 2 / T 3 / END / EOF",
+        "6",
+        &[(&[1, 2, 3, 4], &[(1, 4), (2, 4), (3, 4)])],
+    ),
+    (
+        "H / SECTION Graph / Nodes 4 / Edges 6 / E 1 4 2 / E 2 4 2 / E 3 4 2 / E 1 2 4 / E 2 3 4 / E 1 3 4 / END / SECTION Terminals / Terminals 3 / T 1 / T 2 / T 3 / RootP 1 / END / EOF",
+        "6",
+        &[(&[1, 2, 3, 4], &[(1, 4), (2, 4), (3, 4)])],
+    ),
+    (
+        "H / SECTION Graph / Nodes 3 / Edges 2 / E 1 2 1 / E 2 3 1 / END / SECTION Terminals / Terminals 0 / RootP 2 / END / EOF",
+        "0",
+        &[(&[2], &[])],
+    ),
+];
+
+/// What stands before the tree of a solution of `a.stp` by one worker.
+pub fn solution_head(
     alloc: Global,
     remark: &str,
-    dual: u64,
-    primal: u64,
-    tree: Shape,
+    dual: &str,
+    primal: &str,
 ) -> Result<String, AllocError> {
-    let (vertices, edges) = tree;
     let mut text = String::from_str(alloc, "33D32945 STP File, STP Format Version 1.0\n")?;
     text.push_str("SECTION Comment\nName \"a.stp\"\nProgram \"steiner\"\n")?;
     writeln!(&mut text, "Remark \"{remark}\"\nEND")?;
     writeln!(&mut text, "SECTION Solutions\nSolution 0 {primal}\nEND")?;
     text.push_str("SECTION Run\nThreads 1\nTime 0\n")?;
     writeln!(&mut text, "Dual {dual}\nPrimal {primal}\nEND")?;
+    Ok(text)
+}
+
+/// The text of a solution of `a.stp` by one worker.
+pub fn solution_text(
+    alloc: Global,
+    remark: &str,
+    dual: &str,
+    primal: &str,
+    tree: Shape,
+) -> Result<String, AllocError> {
+    let (vertices, edges) = tree;
+    let mut text = solution_head(alloc, remark, dual, primal)?;
     let count = vertices.len();
     writeln!(&mut text, "SECTION Finalsolution\nVertices {count}")?;
     for vertex in vertices {
@@ -112,8 +202,8 @@ fn is_one_of(
     alloc: Global,
     sent: &[u8],
     remark: &str,
-    dual: u64,
-    primal: u64,
+    dual: &str,
+    primal: &str,
     trees: &[Shape],
 ) -> Result<bool, AllocError> {
     for tree in trees {
@@ -131,7 +221,7 @@ fn sends_one_of<R: Threads + Wait + Sync>(
     alloc: Global,
     line: &str,
     lines: &str,
-    cost: u64,
+    cost: &str,
     trees: &[Shape],
 ) -> Result<bool, AllocError> {
     let mut shelf = shelf_of(alloc, lines, &[])?;
@@ -147,7 +237,7 @@ fn sends_a_best_tree(rt: HostRuntime) -> Result<(), Fail> {
     for table in [BEST, BEST_WITH_PRIZES] {
         for (lines, cost, trees) in table {
             for line in ["solve a.stp", "solve a.stp --plain"] {
-                let is_best = sends_one_of(&rt, alloc, line, lines, *cost, trees)?;
+                let is_best = sends_one_of(&rt, alloc, line, lines, cost, trees)?;
                 assert!(rt; is_best, "for {lines}");
             }
         }
@@ -158,8 +248,22 @@ fn sends_a_best_tree(rt: HostRuntime) -> Result<(), Fail> {
 #[test]
 fn sends_a_best_tree_of_few_terminals(rt: HostRuntime) -> Result<(), Fail> {
     for (lines, cost, trees) in BEST {
-        let is_best = sends_one_of(&rt, rt.alloc(), "few a.stp", lines, *cost, trees)?;
+        let is_best = sends_one_of(&rt, rt.alloc(), "few a.stp", lines, cost, trees)?;
         assert!(rt; is_best, "for {lines}");
+    }
+    Ok(())
+}
+
+/// Examples that each command solves.
+#[test]
+fn sends_decimals_and_pinned_roots(rt: HostRuntime) -> Result<(), Fail> {
+    for table in [WITH_DECIMALS, PINNED] {
+        for (lines, cost, trees) in table {
+            for line in ["solve a.stp", "solve a.stp --plain", "few a.stp"] {
+                let is_best = sends_one_of(&rt, rt.alloc(), line, lines, cost, trees)?;
+                assert!(rt; is_best, "for {lines}");
+            }
+        }
     }
     Ok(())
 }
@@ -182,8 +286,8 @@ fn without_budget<R: Threads + Wait + Sync>(
     let mut out = sink_of(alloc)?;
     let line = "solve a.stp --nodes 0 --plain";
     let status = ending_of(rt, alloc, line, &mut shelf, &mut out)?.status;
-    let is_best = is_one_of(alloc, out.bytes(), "budget", 0, 6, SPOKES)?;
-    let is_other = is_one_of(alloc, out.bytes(), "budget", 0, 8, SIDES)?;
+    let is_best = is_one_of(alloc, out.bytes(), "budget", "0", "6", SPOKES)?;
+    let is_other = is_one_of(alloc, out.bytes(), "budget", "0", "8", SIDES)?;
     Ok((status, is_best || is_other))
 }
 
