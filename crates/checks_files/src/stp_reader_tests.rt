@@ -1,7 +1,12 @@
+use amounts::Scale;
 use st_model::{Instance, Need};
 use std::alloc::{AllocError, Global};
 use std::test::Fail;
-use stp_reader::{ReadError, Reason, read_stp, refused_exactly};
+use stp_reader::{ReadError, Reading, Reason, read_stp, refused_exactly};
+
+mod decimals;
+mod drawn;
+mod pinned;
 
 const HEADER: &str = "33D32945 STP File, STP Format Version 1.0";
 
@@ -10,40 +15,33 @@ const STAR: &str = "33D32945 STP File, STP Format Version 1.0\nSECTION Graph\nNo
     E 1 4 2\nE 2 4 2\nE 3 4 2\nE 1 2 4\nE 2 3 4\nE 1 3 4\nEND\n\
     SECTION Terminals\nTerminals 3\nT 1\nT 2\nT 3\nEND\nEOF\n";
 
-/// What stands after the first words of a file, and the instance that is meant by it.
+/// What stands after the first words of a file, and the instance that is meant by it, with what its amounts count.
 #[derive(Clone, Copy)]
 struct Case {
     text: &'static str,
     links: &'static [(u32, u32, u64)],
     needs: &'static [Need],
+    scale: Scale,
 }
 
-/// Whether an instance has the links of a case.
-fn has_links(alloc: Global, instance: &Instance, case: &Case) -> Result<bool, AllocError> {
-    let links: Vec<(u32, u32, u64)> = instance
+/// Whether an instance has these links and needs, and no others.
+fn is_instance(
+    alloc: Global,
+    instance: &Instance,
+    links: &[(u32, u32, u64)],
+    needs: &[Need],
+) -> Result<bool, AllocError> {
+    let found: Vec<(u32, u32, u64)> = instance
         .links()
         .iter()
         .map(|l| (l.a, l.b, l.cost))
         .collect(alloc)?;
-    Ok(links.as_slice() == case.links)
+    Ok(found.as_slice() == links && instance.needs() == needs)
 }
 
-/// Whether an instance has the vertices of a case, with their needs.
-fn has_needs(instance: &Instance, case: &Case) -> bool {
-    if instance.vertices() as usize != case.needs.len() {
-        return false;
-    }
-    for before in 0..instance.vertices() {
-        if case.needs.get(before as usize) != Some(&instance.need(before + 1)) {
-            return false;
-        }
-    }
-    true
-}
-
-/// Whether an instance is the one that is meant.
-fn is_meant(alloc: Global, instance: &Instance, case: &Case) -> Result<bool, AllocError> {
-    Ok(has_needs(instance, case) && has_links(alloc, instance, case)?)
+/// Whether what was read is what is meant.
+fn is_meant(alloc: Global, read: &Reading, case: &Case) -> Result<bool, AllocError> {
+    Ok(read.scale == case.scale && is_instance(alloc, &read.instance, case.links, case.needs)?)
 }
 
 /// Whether a file with these first words is read as it is meant.
@@ -80,41 +78,49 @@ const LINKED: &[Case] = &[
         text: "\nSECTION Graph\nNodes 1\nEdges 0\nEND\nSECTION Terminals\nTerminals 1\nT 1\nEND\nEOF\n",
         links: &[],
         needs: &[Need::Required],
+        scale: Scale::Whole,
     },
     Case {
         text: "\nSECTION Graph\nNodes 2\nEdges 2\nE 1 2 5\nE 2 1 3\nEND\nSECTION Terminals\nTerminals 2\nT 1\nT 2\nEND\nEOF\n",
         links: &[(1, 2, 3)],
         needs: BOTH,
+        scale: Scale::Whole,
     },
     Case {
         text: "\nSECTION Graph\nNodes 2\nEdges 2\nE 2 1 3\nE 1 2 5\nEND\nSECTION Terminals\nTerminals 2\nT 1\nT 2\nEND\nEOF\n",
         links: &[(1, 2, 3)],
         needs: BOTH,
+        scale: Scale::Whole,
     },
     Case {
         text: "\nSECTION Graph\nNodes 2\nEdges 3\nE 1 2 5\nE 2 1 3\nE 1 1 4\nEND\nSECTION Terminals\nTerminals 2\nT 1\nT 2\nEND\nEOF\n",
         links: &[(1, 2, 3)],
         needs: BOTH,
+        scale: Scale::Whole,
     },
     Case {
         text: "\nSECTION Graph\nNodes 3\nEdges 1\nE 1 2 7\nEND\nSECTION Terminals\nTerminals 2\nT 1\nT 3\nEND\nEOF\n",
         links: &[(1, 2, 7)],
         needs: &[Need::Required, Need::Pays(0), Need::Required],
+        scale: Scale::Whole,
     },
     Case {
         text: "\nSECTION Graph\nNodes 2\nEdges 1\nE 1 2 1000000000000\nEND\nSECTION Terminals\nTerminals 3\nT 1\nT 2\nT 1\nEND\n",
         links: &[(1, 2, 1_000_000_000_000)],
         needs: BOTH,
+        scale: Scale::Whole,
     },
     Case {
         text: "\nSECTION Graph\nNodes 02\nEdges 1\nE 1 002 5.0\nEND\nSECTION Terminals\nRoot 2\nTerminals 2\nT 1\nT 2\nEND\nEOF\nE 9",
         links: &[(1, 2, 5)],
         needs: BOTH,
+        scale: Scale::Whole,
     },
     Case {
         text: "\n\tSECTION  Graph \nNodes 2\n\n# E\nEdges 1\n #E 9\nE\t1 2 5.\nEND\nSECTION Tree\nSECTION Graph\nEOF\nEND x\nEND\nSECTION Terminals\nTerminals 2\nT 1\nT 2\nEND",
         links: &[(1, 2, 5)],
         needs: BOTH,
+        scale: Scale::Whole,
     },
 ];
 
@@ -150,31 +156,37 @@ const PRIZED: &[Case] = &[
         text: "\nSECTION Graph\nNodes 2\nEdges 1\nE 1 2 5\nEND\nSECTION Terminals\nTerminals 2\nTP 1 3\nTP 2 4\nEND\nEOF\n",
         links: &[(1, 2, 5)],
         needs: &[Need::Pays(3), Need::Pays(4)],
+        scale: Scale::Whole,
     },
     Case {
         text: "\nSECTION Graph\nNodes 2\nEdges 1\nE 1 2 2\nEND\nSECTION Terminals\nTerminals 2\nTP 1 3\nTP 2 4\nEND\nEOF\n",
         links: &[(1, 2, 2)],
         needs: &[Need::Pays(3), Need::Pays(4)],
+        scale: Scale::Whole,
     },
     Case {
         text: "\nSECTION Graph\nNodes 2\nEdges 1\nE 1 2 3\nEND\nSECTION Terminals\nTerminals 2\nTP 1 3\nTP 2 4\nEND\nEOF\n",
         links: &[(1, 2, 3)],
         needs: &[Need::Pays(3), Need::Pays(4)],
+        scale: Scale::Whole,
     },
     Case {
         text: "\nSECTION Graph\nNodes 3\nEdges 2\nE 1 2 1\nE 2 3 1\nEND\nSECTION Terminals\nTerminals 1\nTP 2 0\nEND\nEOF\n",
         links: &[(1, 2, 1), (2, 3, 1)],
         needs: &[Need::Pays(0), Need::Pays(0), Need::Pays(0)],
+        scale: Scale::Whole,
     },
     Case {
         text: "\nSECTION Graph\nNodes 3\nEdges 2\nE 1 3 4\nE 3 2 5\nEND\nSECTION Terminals\nTerminals 2\nT 1\nTP 2 10\nEND\nEOF\n",
         links: &[(1, 3, 4), (2, 3, 5)],
         needs: &[Need::Required, Need::Pays(10), Need::Pays(0)],
+        scale: Scale::Whole,
     },
     Case {
         text: "\nSECTION Graph\nNodes 2\nEdges 0\nEND\nSECTION Terminals\nTerminals 4\nT 1\nTP 1 10\nTP 2 7.00\nT 2\nRoot 1\nEND\n",
         links: &[],
         needs: BOTH,
+        scale: Scale::Whole,
     },
 ];
 
@@ -193,6 +205,7 @@ const SMALL: Case = Case {
         section terminals\r\nterminals 3\r\nt 1\r\nt 2\r\nt 3\r\nend\r",
     links: SIDES,
     needs: STAR_NEEDS,
+    scale: Scale::Whole,
 };
 
 #[test]
@@ -204,8 +217,8 @@ fn reads_small_letters_and_carriage_returns(rt: HostRuntime) -> Result<(), Fail>
 
 /// Whether a text is read as an instance of so many vertices and links.
 fn has_sizes(alloc: Global, text: &[u8], vertices: u32, links: usize) -> Result<bool, Fail> {
-    let instance = read_stp(alloc, text)?;
-    Ok(instance.vertices() == vertices && instance.links().len() == links)
+    let read = read_stp(alloc, text)?;
+    Ok(read.instance.vertices() == vertices && read.instance.links().len() == links)
 }
 
 #[test]
@@ -267,7 +280,10 @@ fn refuses_texts(rt: HostRuntime) {
 }
 
 /// What stands in the star's file, what is written in its place, and the fault.
-const CHANGES: &[(&str, &[u8], u64, Reason)] = &[
+type Change = (&'static str, &'static [u8], u64, Reason);
+
+/// Changes of one place.
+const CHANGES: &[Change] = &[
     ("T 3\nEND\nEOF\n", b"T 3\n", 17, Reason::Unclosed),
     ("T 3\nEND\nEOF\n", b"T 3\nEN", 17, Reason::BadLine),
     ("T 3\nEND\nEOF\n", b"T 3\nEND\nEO", 18, Reason::BadLine),
@@ -343,10 +359,9 @@ const CHANGES: &[(&str, &[u8], u64, Reason)] = &[
         5,
         Reason::OutOfRange,
     ),
-    ("E 1 4 2", b"E 1 4 5.5", 5, Reason::Fraction),
-    ("E 1 4 2", b"E 9 4 5.5", 5, Reason::Fraction),
+    ("E 1 4 2", b"E 9 4 5.5", 5, Reason::VertexRange),
     ("E 1 4 2", b"E 9 4 1000000000001", 5, Reason::OutOfRange),
-    ("E 1 4 2", b"E 9 4 1000000000001.01", 5, Reason::Fraction),
+    ("E 1 4 2", b"E 9 4 1000000000001.01", 5, Reason::OutOfRange),
     ("E 1 4 2", b"E 1 4 -1", 5, Reason::BadNumber),
     ("E 1 4 2", b"E 1 4 .5", 5, Reason::BadNumber),
     ("E 1 4 2", b"E 1 4 5.0.0", 5, Reason::BadNumber),
@@ -365,7 +380,7 @@ const CHANGES: &[(&str, &[u8], u64, Reason)] = &[
     ("E 1 4 2", b"EOF EOF", 5, Reason::BadLine),
     ("E 1 4 2", b"Edges 6", 5, Reason::BadLine),
     ("E 1 4 2", b"T 1", 5, Reason::BadLine),
-    ("E 1 4 2\nE 2 4 2", b"E 1 4 5.5\nE 1 4", 5, Reason::Fraction),
+    ("E 1 4 2\nE 2 4 2", b"E 1 4 5.5\nE 1 4", 6, Reason::BadLine),
     ("END\nSECTION T", b"END x\nSECTION T", 11, Reason::BadLine),
     (
         "SECTION Terminals",
@@ -423,7 +438,7 @@ const CHANGES: &[(&str, &[u8], u64, Reason)] = &[
     ("T 1\n", b"EOF\n", 14, Reason::Unclosed),
     ("T 1\n", b"Terminals 3\n", 14, Reason::BadLine),
     ("T 1\n", b"TP 1\n", 14, Reason::BadLine),
-    ("T 1\n", b"TP 5 0.5\n", 14, Reason::Fraction),
+    ("T 1\n", b"TP 5 0.5\n", 14, Reason::VertexRange),
     ("T 1\nT 2\n", b"TP 1 3\nTP 1 4\n", 15, Reason::RepeatedPrize),
     (
         "T 1\nT 2\n",
@@ -456,15 +471,17 @@ fn changed(alloc: Global, from: &str, to: &[u8]) -> Result<Vec<u8>, Fail> {
     Ok(text)
 }
 
+/// Whether the star's file is refused so with this change.
+fn is_change_refused(alloc: Global, change: &Change) -> Result<bool, Fail> {
+    let (from, to, line, reason) = *change;
+    Ok(is_refused(alloc, &changed(alloc, from, to)?, line, reason))
+}
+
 #[test]
 fn refuses_one_change(rt: HostRuntime) -> Result<(), Fail> {
-    for row in CHANGES {
-        let (from, to, line, reason) = *row;
-        let text = changed(rt.alloc(), from, to)?;
-        assert!(rt;
-            is_refused(rt.alloc(), &text, line, reason),
-            "{to:?} for {from}"
-        );
+    for change in CHANGES {
+        let (from, to, ..) = *change;
+        assert!(rt; is_change_refused(rt.alloc(), change)?, "{to:?} for {from}");
     }
     Ok(())
 }
@@ -488,7 +505,13 @@ fn reads_a_file_cut_after_its_end(rt: HostRuntime) -> Result<(), Fail> {
 #[test]
 fn tells_reasons(rt: HostRuntime) {
     refused_exactly();
-    let reasons = [Reason::NoHeader, Reason::BadNumber, Reason::NoVertices];
-    assert_eq!(rt; reasons.map(|reason| reason.code()), [1, 6, 17]);
+    let reasons = [
+        Reason::NoHeader,
+        Reason::BadNumber,
+        Reason::NoVertices,
+        Reason::ScaleRange,
+    ];
+    assert_eq!(rt; reasons.map(|reason| reason.code()), [1, 6, 17, 18]);
     assert_eq!(rt; Reason::CountMismatch.name(), "CountMismatch");
+    assert_eq!(rt; Reason::ScaleRange.name(), "ScaleRange");
 }
