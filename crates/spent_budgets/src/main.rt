@@ -2,7 +2,7 @@
 //! of 2 and so on, until the answer is optimal: by one worker and by three, each with reduction steps
 //! and without. Each log has to be accepted, with a bound below the cost where the answer isn't
 //! optimal, and there the whole budget has to be spent. It writes the file's name and its cost, or the
-//! first budget at which that fails.
+//! first budget at which that fails. The files have no amounts with decimals.
 #![tactic(auto)]
 
 use st_edge::{DiskShelf, MemorySink, Shelf, Sink, StdSink, send_all};
