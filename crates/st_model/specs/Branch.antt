@@ -2,6 +2,8 @@
 use Rattle.std.specs.Prelude.{◌≡◌, ℕ, IsTrue, IsFalse, Bool, not, ◌&&◌, ◌||◌, if◌then◌else◌, nat_lt, List, [], ◌∷◌, All}
 use Rattle.std.specs.List.Sorted.{IsStrictlyIncreasing}
 use Rattle.st_model.specs.declared.branch.Branch.{Branch}
+use Rattle.st_model.specs.declared.split_at.SplitAt.{SplitAt}
+use Rattle.st_model.specs.declared.split_at.SplitAt.TheVariants.{Vertex, Link}
 use Rattle.st_model.specs.declared.tree.Tree.{Tree}
 use Rattle.st_model.specs.Lists.{has}
 use Rattle.st_model.specs.Network.{Network, IsVertex, is_required}
@@ -77,3 +79,13 @@ with_inside B v = record B { inside = with_vertex B.inside v }
 
 abbrev pub with_outside : Branch → ℕ → Branch
 with_outside B v = record B { outside = with_vertex B.outside v }
+
+-- the half that says yes to a split: its trees reach the vertex. No branch is split at a link so far, and both halves are all of it.
+abbrev pub yes_half : Branch → SplitAt → Branch
+yes_half B (Vertex v) = with_inside B v
+yes_half B (Link a b) = B
+
+-- the half that says no: its trees avoid the vertex
+abbrev pub no_half : Branch → SplitAt → Branch
+no_half B (Vertex v) = with_outside B v
+no_half B (Link a b) = B

@@ -1,9 +1,9 @@
 ghost use Rattle.std.specs.Prelude.{◌≡◌, IfOk};
 ghost use Rattle.std.specs.List.Sorted.{IsNonDecreasing};
-ghost use Rattle.st_model.specs.Branch.{all_trees, avoiding, deciding, is_undecided, with_vertex, with_inside, with_outside};
+ghost use Rattle.st_model.specs.Branch.{all_trees, avoiding, deciding, is_undecided, with_vertex, with_inside, with_outside, yes_half, no_half};
 ghost use Rattle.st_model.specs.Lists.{has};
 
-use crate::Listed;
+use crate::{Listed, SplitAt};
 use std::alloc::{AllocError, Global};
 
 /// A part of the search: the trees that reach every vertex inside and none outside. Both are
@@ -70,6 +70,26 @@ impl Branch {
         let inside = Vec::from_slice(alloc, self.inside.as_slice())?;
         let outside = with(alloc, self.outside.as_slice(), vertex)?;
         Ok(Branch::of(Listed::of(inside), Listed::of(outside)))
+    }
+
+    /// The half that says yes to a split: the branch with the vertex inside as well.
+    pub fn yes_half(&self, alloc: Global, at: SplitAt) -> Result<Branch, AllocError>
+        ensures { IfOk result (λ half. half ≡ yes_half self.now at) }
+    {
+        match at {
+            SplitAt::Vertex(vertex) => self.with_inside(alloc, vertex),
+            SplitAt::Link(_, _) => self.copied(alloc),
+        }
+    }
+
+    /// The half that says no to a split: the branch with the vertex outside as well.
+    pub fn no_half(&self, alloc: Global, at: SplitAt) -> Result<Branch, AllocError>
+        ensures { IfOk result (λ half. half ≡ no_half self.now at) }
+    {
+        match at {
+            SplitAt::Vertex(vertex) => self.with_outside(alloc, vertex),
+            SplitAt::Link(_, _) => self.copied(alloc),
+        }
     }
 }
 
