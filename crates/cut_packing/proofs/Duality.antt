@@ -105,9 +105,9 @@ weak_duality_lem I B P t fits tree belongs =
 -- what a proof tree proves of a branch is at most what each tree of the branch costs
 pub proof_tree_bounds_lem : ProofTreesBound
 proof_tree_bounds_lem I B x (close P) t closes tree belongs = omega (arith, closes.weighs, weak_duality_lem I B P t closes.fits tree belongs)
-proof_tree_bounds_lem I B x (split (Vertex v) yes no) t proves tree belongs =
+proof_tree_bounds_lem I B x (split (Vertex v) inside outside) t proves tree belongs =
     elim (cases_Bool (has (reached t) v)) [
-      | inl r ↦ proof_tree_bounds_lem I (with_inside B v) x yes t proves.1 tree ((belongs_inside B t v).1 (belongs, r))
-      | inr r ↦ proof_tree_bounds_lem I (with_outside B v) x no t proves.2 tree ((belongs_outside B t v).1 (belongs, r))
+      | inl r ↦ proof_tree_bounds_lem I (with_inside B v) x inside t proves.1 tree ((belongs_inside B t v).1 (belongs, r))
+      | inr r ↦ proof_tree_bounds_lem I (with_outside B v) x outside t proves.2 tree ((belongs_outside B t v).1 (belongs, r))
     ]
-proof_tree_bounds_lem I B x (split (Link a b) yes no) t proves tree belongs = absurd proves.0
+proof_tree_bounds_lem I B x (split (Link a b) said_yes said_no) t proves tree belongs = absurd proves.0

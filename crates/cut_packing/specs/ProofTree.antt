@@ -33,7 +33,7 @@ IsSplitAtIn G B (Link a b) = ⊥
 -- each branch at the ends of the splits is closed by a packing that weighs x at least
 abbrev pub ProvesIn : Ground → Branch → ℕ → ProofTree → Type 0
 ProvesIn G B x (close P) = ClosesIn G B x P
-ProvesIn G B x (split at yes no) = IsSplitAtIn G B at × ProvesIn G (yes_half B at) x yes × ProvesIn G (no_half B at) x no
+ProvesIn G B x (split at said_yes said_no) = IsSplitAtIn G B at × ProvesIn G (yes_half B at) x said_yes × ProvesIn G (no_half B at) x said_no
 
 -- the same in a network
 abbrev pub Closes : Network → Branch → ℕ → Packing → Type 0
