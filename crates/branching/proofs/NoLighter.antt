@@ -2,6 +2,7 @@
 use Rattle.std.proofs.Common.{ℕ}
 use Rattle.std.specs.Prelude.{IsFalse}
 use Rattle.st_model.specs.declared.branch.Branch.{Branch}
+use Rattle.st_model.specs.declared.split_at.SplitAt.TheVariants.{Vertex, Link}
 use Rattle.st_model.specs.Network.{Network, is_required}
 use Rattle.st_model.specs.Branch.{LeavesRequired, with_outside}
 use Rattle.cut_packing.specs.ProofTree.{IsSplit}
@@ -30,7 +31,8 @@ outside_node I N v id node is_split = record {
 }
 
 pub halves_are_no_lighter_lem : HalvesAreNoLighter
-halves_are_no_lighter_lem I N v id id' node is_split = (
+halves_are_no_lighter_lem I N (Vertex v) id id' node is_split = (
   record { node = inside_node I N v id node is_split; no_lighter = inside_weighs I N.branch N.packing v },
   record { node = outside_node I N v id' node is_split; no_lighter = outside_weighs I N.branch N.packing v node.fits is_split },
 )
+halves_are_no_lighter_lem I N (Link a b) id id' node is_split = absurd is_split

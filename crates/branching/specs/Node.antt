@@ -1,7 +1,9 @@
 -- Nodes of the search, and their halves.
 use Rattle.std.specs.Prelude.{ℕ, ◌≤◌, ◌==◌, not, filter}
+use Rattle.st_model.specs.declared.split_at.SplitAt.{SplitAt}
+use Rattle.st_model.specs.declared.split_at.SplitAt.TheVariants.{Vertex, Link}
 use Rattle.st_model.specs.Network.{Network}
-use Rattle.st_model.specs.Branch.{IsBranch, LeavesRequired, with_inside, with_outside}
+use Rattle.st_model.specs.Branch.{IsBranch, LeavesRequired, with_inside, with_outside, yes_half, no_half}
 use Rattle.cut_packing.specs.declared.packing.Packing.{Packing}
 use Rattle.cut_packing.specs.Packing.{Fits, weight}
 use Rattle.branching.specs.declared.node.Node.{Node}
@@ -20,6 +22,19 @@ pub record IsNoLighter (I : Network) (N M : Node) : Type 0 where
 -- the packing without the cuts that name v
 abbrev pub without : Packing → ℕ → Packing
 without P v = record { root = P.root; cuts = filter (λ c. not (c.q == v)) P.cuts }
+
+-- the packing of the half that says no to a split: at a vertex without the cuts that name it
+abbrev pub no_packing : Packing → SplitAt → Packing
+no_packing P (Vertex v) = without P v
+no_packing P (Link a b) = P
+
+-- the half that says yes to a split, under this number: it keeps the packing
+abbrev pub yes_node : Node → SplitAt → ℕ → Node
+yes_node N at id = record { id = id; branch = yes_half N.branch at; packing = N.packing }
+
+-- the half that says no, under this number: it keeps the packing but for the cuts that name the vertex
+abbrev pub no_node : Node → SplitAt → ℕ → Node
+no_node N at id = record { id = id; branch = no_half N.branch at; packing = no_packing N.packing at }
 
 -- the half with v inside, under this number: it keeps the packing
 abbrev pub inside_half : Node → ℕ → ℕ → Node

@@ -1,10 +1,10 @@
 ghost use Rattle.std.specs.Prelude.{◌≡◌, ◌==◌, not, IfOk, IfErr, filter};
-ghost use Rattle.st_model.specs.Branch.{with_inside, with_outside};
-ghost use Rattle.branching.specs.Node.{inside_half, outside_half, without};
+ghost use Rattle.st_model.specs.Branch.{yes_half, no_half};
+ghost use Rattle.branching.specs.Node.{inside_half, outside_half, no_node, no_packing, without, yes_node};
 
 use crate::Node;
 use cut_packing::{Cut, Packing};
-use st_model::{Branch, Listed};
+use st_model::{Branch, Listed, SplitAt};
 use std::alloc::{AllocError, Global};
 
 /// The halves of a node at a vertex, each under its number: the one with the vertex inside, which
@@ -21,35 +21,62 @@ pub fn halves(
     ensures outside { IfOk result (λ halves. halves.1 ≡ outside_half node vertex outside_id) }
     ensures err { IfErr result (λ refused. refused.0 ≡ node) }
 {
-    match parts(alloc, &node, vertex) {
-        Ok((inside, outside, kept)) => {
+    halves_at(alloc, node, SplitAt::Vertex(vertex), inside_id, outside_id)
+}
+
+/// The halves of a node, each under its number: the one that says yes to a split, which keeps the
+/// packing, and the one that says no, which keeps the cuts that don't name the vertex. Where memory
+/// is refused the node is handed back.
+pub fn halves_at(
+    alloc: Global,
+    node: Node,
+    at: SplitAt,
+    yes_id: u64,
+    no_id: u64,
+) -> Result<(Node, Node), (Node, AllocError)>
+    ensures says_yes { IfOk result (λ halves. halves.0 ≡ yes_node node at yes_id) }
+    ensures says_no { IfOk result (λ halves. halves.1 ≡ no_node node at no_id) }
+    ensures err { IfErr result (λ refused. refused.0 ≡ node) }
+{
+    match parts(alloc, &node, at) {
+        Ok((yes, no, kept)) => {
             let Node { packing, .. } = node;
-            let inside_half = Node {
-                id: inside_id,
-                branch: inside,
+            let yes_node = Node {
+                id: yes_id,
+                branch: yes,
                 packing,
             };
-            let outside_half = Node {
-                id: outside_id,
-                branch: outside,
+            let no_node = Node {
+                id: no_id,
+                branch: no,
                 packing: kept,
             };
-            Ok((inside_half, outside_half))
+            Ok((yes_node, no_node))
         }
         Err(error) => Err((node, error)),
     }
 }
 
-// The branches of the halves, and the packing of the one with the vertex outside.
-fn parts(alloc: Global, node: &Node, vertex: u32) -> Result<(Branch, Branch, Packing), AllocError>
-    ensures inside { IfOk result (λ parts. parts.0 ≡ with_inside node.now.branch vertex) }
-    ensures outside { IfOk result (λ parts. parts.1 ≡ with_outside node.now.branch vertex) }
-    ensures kept { IfOk result (λ parts. parts.2 ≡ without node.now.packing vertex) }
+// The branches of the halves, and the packing of the one that says no.
+fn parts(alloc: Global, node: &Node, at: SplitAt) -> Result<(Branch, Branch, Packing), AllocError>
+    ensures says_yes { IfOk result (λ parts. parts.0 ≡ yes_half node.now.branch at) }
+    ensures says_no { IfOk result (λ parts. parts.1 ≡ no_half node.now.branch at) }
+    ensures kept { IfOk result (λ parts. parts.2 ≡ no_packing node.now.packing at) }
 {
-    let inside = node.branch.with_inside(alloc, vertex)?;
-    let outside = node.branch.with_outside(alloc, vertex)?;
-    let kept = without(alloc, &node.packing, vertex)?;
-    Ok((inside, outside, kept))
+    let yes = node.branch.yes_half(alloc, at)?;
+    let no = node.branch.no_half(alloc, at)?;
+    let kept = no_packing(alloc, &node.packing, at)?;
+    Ok((yes, no, kept))
+}
+
+// The packing of the half that says no.
+fn no_packing(alloc: Global, packing: &Packing, at: SplitAt) -> Result<Packing, AllocError>
+    ensures { IfOk result (λ kept. kept ≡ no_packing packing.now at) }
+{
+    match at {
+        SplitAt::Vertex(vertex) => without(alloc, packing, vertex),
+        SplitAt::Link(_, _) => packing.shared(alloc),
+    }
 }
 
 // A packing without the cuts that name a vertex.

@@ -11,6 +11,6 @@ mod law;
 mod node;
 
 pub use choosing::{choose, may_split};
-pub use halving::halves;
+pub use halving::{halves, halves_at};
 pub use law::halves_are_no_lighter;
 pub use node::Node;

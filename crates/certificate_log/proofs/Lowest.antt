@@ -4,13 +4,15 @@ use Rattle.std.specs.Prelude.{All, Contains}
 use Rattle.std.specs.List.{AllByRecursion, flat_map}
 use Rattle.std.proofs.lemmas.List.Elements.{All-contains, All-contains_itself, All-head, All-tail, All-weaker, Contains-append_cases, Contains-append_left, Contains-append_right, recursion_from_All}
 use Rattle.std.proofs.lemmas.List.{flat_map_more}
+use Rattle.st_model.specs.declared.split_at.SplitAt.{SplitAt}
+use Rattle.st_model.specs.declared.split_at.SplitAt.TheVariants.{Vertex, Link}
 use Rattle.st_model.specs.declared.branch.Branch.{Branch}
-use Rattle.st_model.specs.Branch.{IsBranch, with_inside, with_outside}
+use Rattle.st_model.specs.Branch.{IsBranch, yes_half, no_half}
 use Rattle.st_model.specs.Network.{Network}
 use Rattle.st_model.proofs.Branches.{IsBranch-with_inside, IsBranch-with_outside}
 use Rattle.cut_packing.specs.declared.packing.Packing.{Packing}
 use Rattle.cut_packing.specs.Packing.{weight}
-use Rattle.cut_packing.specs.ProofTree.{IsSplit, ProofTree}
+use Rattle.cut_packing.specs.ProofTree.{IsSplitAt, ProofTree}
 use Rattle.branching.specs.declared.node.Node.{Node}
 use Rattle.search_core.specs.declared.done.Done.{Done}
 use Rattle.search_core.specs.declared.done.Done.TheVariants.{Split, Close}
@@ -75,23 +77,30 @@ right_record I R start least done (s ∷ ss) d all there =
       | inr h ↦ right_record I R start least done ss d (All-tail (IsRightSegment I R start least done) s ss all) h
     ]
 
+-- both halves of a branch are branches
+yes_branch : (I : Network) (B : Branch) (at : SplitAt) → IsSplitAt I B at → IsBranch I B → IsBranch I (yes_half B at)
+yes_branch I B (Vertex w) may branch = IsBranch-with_inside I B w may.vertex may.undecided branch
+yes_branch I B (Link a b) may branch = branch
+
+no_branch : (I : Network) (B : Branch) (at : SplitAt) → IsSplitAt I B at → IsBranch I B → IsBranch I (no_half B at)
+no_branch I B (Vertex w) may branch = IsBranch-with_outside I B w may.vertex may.undecided branch
+no_branch I B (Link a b) may branch = branch
+
 module _ (G : Gathered) (I : Network) (R : Branch) (start budget : ℕ) (complete : IsComplete G I R start budget) where
   pub once : StandsOnce G
   once id = subst (λ (n : ℕ). n ≤ 1) (sym (complete.once id)) (complete.apart id)
 
   -- the branch of a node that was split can be split there
-  splits : (id v i o : ℕ) (P : Packing) (B : Branch) → Contains (records G) (Split id v i o P) → IsMade R (records G) id B → IsSplit I B v
-  splits id v i o P B there made =
-      let (seen, low, (C, right)) = right_record I R start G.least (records G) G.segments (Split id v i o P) complete.segments there in
-      subst (λ (D : Branch). IsSplit I D v) (one_branch R (records G) complete.apart id id C B right.made made refl) right.vertex
+  splits : (id : ℕ) (at : SplitAt) (i o : ℕ) (P : Packing) (B : Branch) → Contains (records G) (Split id at i o P) → IsMade R (records G) id B → IsSplitAt I B at
+  splits id at i o P B there made =
+      let (seen, low, (C, right)) = right_record I R start G.least (records G) G.segments (Split id at i o P) complete.segments there in
+      subst (λ (D : Branch). IsSplitAt I D at) (one_branch R (records G) complete.apart id id C B right.made made refl) right.vertex
 
   -- what was made is a branch
   made_branch : IsBranch I R → (id : ℕ) (B : Branch) → IsMade R (records G) id B → IsBranch I B
   made_branch branch id B root = branch
-  made_branch branch id B (inside_of {id = a} {v} {i} {o} {P} {B = C} there made) =
-      let may = splits a v i o P C there made in IsBranch-with_inside I C v may.vertex may.undecided (made_branch branch a C made)
-  made_branch branch id B (outside_of {id = a} {v} {i} {o} {P} {B = C} there made) =
-      let may = splits a v i o P C there made in IsBranch-with_outside I C v may.vertex may.undecided (made_branch branch a C made)
+  made_branch branch id B (inside_of {id = a} {at} {i} {o} {P} {B = C} there made) = yes_branch I C at (splits a at i o P C there made) (made_branch branch a C made)
+  made_branch branch id B (outside_of {id = a} {at} {i} {o} {P} {B = C} there made) = no_branch I C at (splits a at i o P C there made) (made_branch branch a C made)
 
   -- and so is that of each node that waits
   pub waiting_branches : IsBranch I R → All (λ (N : Node). IsBranch I N.branch) (waiting G)
@@ -106,15 +115,15 @@ module _ (G : Gathered) (I : Network) (R : Branch) (start budget : ℕ) (complet
 
     part : (id : ℕ) (B : Branch) → IsMade R (records G) id B → Part id B
     part id B root = record { tree = p; reads = read; heavy = omega arith }
-    part id B (inside_of {id = a} {v} {i} {o} {P} {B = C} there made) =
+    part id B (inside_of {id = a} {at} {i} {o} {P} {B = C} there made) =
         let above = part a C made in
-        let r = reads_split G once a v i o P a above.tree there refl above.reads in
-        let e : least_weight I C above.tree ≡ min (least_weight I (with_inside C v) r.inside) (least_weight I (with_outside C v) r.outside) = ap (least_weight I C) r.is in
+        let r = reads_split G once a at i o P a above.tree there refl above.reads in
+        let e : least_weight I C above.tree ≡ min (least_weight I (yes_half C at) r.inside) (least_weight I (no_half C at) r.outside) = ap (least_weight I C) r.is in
         record { tree = r.inside; reads = r.reads_inside; heavy = omega (arith, e, above.heavy) }
-    part id B (outside_of {id = a} {v} {i} {o} {P} {B = C} there made) =
+    part id B (outside_of {id = a} {at} {i} {o} {P} {B = C} there made) =
         let above = part a C made in
-        let r = reads_split G once a v i o P a above.tree there refl above.reads in
-        let e : least_weight I C above.tree ≡ min (least_weight I (with_inside C v) r.inside) (least_weight I (with_outside C v) r.outside) = ap (least_weight I C) r.is in
+        let r = reads_split G once a at i o P a above.tree there refl above.reads in
+        let e : least_weight I C above.tree ≡ min (least_weight I (yes_half C at) r.inside) (least_weight I (no_half C at) r.outside) = ap (least_weight I C) r.is in
         record { tree = r.outside; reads = r.reads_outside; heavy = omega (arith, e, above.heavy) }
 
     -- so a node that waits weighs no less than the least close
@@ -135,9 +144,9 @@ module _ (G : Gathered) (I : Network) (R : Branch) (start budget : ℕ) (complet
         let right = All-contains (IsRightNode I R (records G)) (waiting G) N complete.waiting there in
         let same : N.branch ≡ B = one_branch R (records G) complete.apart N.id N.id N.branch B right.made made refl in
         subst (λ (D : Branch). lowest_weight I G.least (waiting G) ≤ weight I D N.packing) same (lowest-each I G.least (waiting G) N (among (waiting G) N there))
-    closes_heavy id B q made (was_split {id = a} {v} {i} {o} {P} {inside} {outside} there first second) =
-        let inner = closes_heavy i (with_inside B v) inside (inside_of there made) first in
-        let outer = closes_heavy o (with_outside B v) outside (outside_of there made) second in
+    closes_heavy id B q made (was_split {id = a} {at} {i} {o} {P} {inside} {outside} there first second) =
+        let inner = closes_heavy i (yes_half B at) inside (inside_of there made) first in
+        let outer = closes_heavy o (no_half B at) outside (outside_of there made) second in
         omega (arith, inner, outer)
 
     abbrev least : ℕ

@@ -2,6 +2,7 @@
 use Rattle.std.proofs.Common.{◌≡◌, ℕ, ◌+◌, ◌≤◌, Bool, true, cond, List, [], ◌∷◌, refl, sym, ap, ◌∙◌, subst, arith, inl, inr}
 use Rattle.std.specs.Prelude.{◌==◌, Contains, ◌⊎◌, map}
 use Rattle.std.proofs.lemmas.Bool.Decides.{nat_tests}
+use Rattle.st_model.specs.declared.split_at.SplitAt.{SplitAt}
 use Rattle.cut_packing.specs.declared.packing.Packing.{Packing}
 use Rattle.cut_packing.specs.ProofTree.{ProofTree, close, split}
 use Rattle.branching.specs.declared.node.Node.{Node}
@@ -90,46 +91,46 @@ module _ (G : Gathered) (once : StandsOnce G) where
   -- ---- the tree that is read off an id
 
   -- a split, and the trees of its halves
-  pub record ReadsSplit (v i o : ℕ) (q : ProofTree) : Type 0 where
+  pub record ReadsSplit (at : SplitAt) (i o : ℕ) (q : ProofTree) : Type 0 where
     pub inside : ProofTree
     pub outside : ProofTree
-    pub is : q ≡ split v inside outside
+    pub is : q ≡ split at inside outside
     pub reads_inside : IsReadOff G i inside
     pub reads_outside : IsReadOff G o outside
 
-  pub reads_split : (id v i o : ℕ) (P : Packing) (at : ℕ) (q : ProofTree) → Contains (records G) (Split id v i o P) → at ≡ id → IsReadOff G at q → ReadsSplit v i o q
-  reads_split id v i o P at q there is (closed {id = a} {P = Q} c) =
-      let same : Close a Q ≡ Split id v i o P = one_record (Close a Q) (Split id v i o P) c there is in absurd cc
-  reads_split id v i o P at q there is (waits {N} c) = absurd (not_both (Split id v i o P) N there c (sym is))
-  reads_split id v i o P at q there is (was_split {id = a} {v = w} {i = j} {o = r} {P = Q} {inside = x} {outside = y} c first second) =
-      let same : Split a w j r Q ≡ Split id v i o P = one_record (Split a w j r Q) (Split id v i o P) c there is in
-      let vertex : w ≡ v = cc in
-      let insides : j ≡ i = cc in
+  pub reads_split : (id : ℕ) (at : SplitAt) (i o : ℕ) (P : Packing) (j : ℕ) (q : ProofTree) → Contains (records G) (Split id at i o P) → j ≡ id → IsReadOff G j q → ReadsSplit at i o q
+  reads_split id at i o P j q there is (closed {id = a} {P = Q} c) =
+      let same : Close a Q ≡ Split id at i o P = one_record (Close a Q) (Split id at i o P) c there is in absurd cc
+  reads_split id at i o P j q there is (waits {N} c) = absurd (not_both (Split id at i o P) N there c (sym is))
+  reads_split id at i o P j q there is (was_split {id = a} {at = w} {i = k} {o = r} {P = Q} {inside = x} {outside = y} c first second) =
+      let same : Split a w k r Q ≡ Split id at i o P = one_record (Split a w k r Q) (Split id at i o P) c there is in
+      let same_place : w ≡ at = cc in
+      let insides : k ≡ i = cc in
       let outsides : r ≡ o = cc in
       record {
         inside = x;
         outside = y;
-        is = ap (λ (u : ℕ). split u x y) vertex;
+        is = ap (λ (u : SplitAt). split u x y) same_place;
         reads_inside = subst (λ (n : ℕ). IsReadOff G n x) insides first;
         reads_outside = subst (λ (n : ℕ). IsReadOff G n y) outsides second;
       }
 
-  pub reads_close : (id : ℕ) (P : Packing) (at : ℕ) (q : ProofTree) → Contains (records G) (Close id P) → at ≡ id → IsReadOff G at q → q ≡ close P
-  reads_close id P at q there is (closed {id = a} {P = Q} c) =
+  pub reads_close : (id : ℕ) (P : Packing) (j : ℕ) (q : ProofTree) → Contains (records G) (Close id P) → j ≡ id → IsReadOff G j q → q ≡ close P
+  reads_close id P j q there is (closed {id = a} {P = Q} c) =
       let same : Close a Q ≡ Close id P = one_record (Close a Q) (Close id P) c there is in
       let packing : Q ≡ P = cc in
       ap close packing
-  reads_close id P at q there is (waits {N} c) = absurd (not_both (Close id P) N there c (sym is))
-  reads_close id P at q there is (was_split {id = a} {v = w} {i = j} {o = r} {P = Q} c first second) =
-      let same : Split a w j r Q ≡ Close id P = one_record (Split a w j r Q) (Close id P) c there is in absurd cc
+  reads_close id P j q there is (waits {N} c) = absurd (not_both (Close id P) N there c (sym is))
+  reads_close id P j q there is (was_split {id = a} {at = w} {i = k} {o = r} {P = Q} c first second) =
+      let same : Split a w k r Q ≡ Close id P = one_record (Split a w k r Q) (Close id P) c there is in absurd cc
 
-  pub reads_waiting : (N : Node) (at : ℕ) (q : ProofTree) → Contains (waiting G) N → at ≡ N.id → IsReadOff G at q → q ≡ close N.packing
-  reads_waiting N at q there is (closed {id = a} {P = Q} c) = absurd (not_both (Close a Q) N c there is)
-  reads_waiting N at q there is (waits {N = M} c) = ap (λ (K : Node). close K.packing) (one_waiting M N c there is)
-  reads_waiting N at q there is (was_split {id = a} {v = w} {i = j} {o = r} {P = Q} c first second) = absurd (not_both (Split a w j r Q) N c there is)
+  pub reads_waiting : (N : Node) (j : ℕ) (q : ProofTree) → Contains (waiting G) N → j ≡ N.id → IsReadOff G j q → q ≡ close N.packing
+  reads_waiting N j q there is (closed {id = a} {P = Q} c) = absurd (not_both (Close a Q) N c there is)
+  reads_waiting N j q there is (waits {N = M} c) = ap (λ (K : Node). close K.packing) (one_waiting M N c there is)
+  reads_waiting N j q there is (was_split {id = a} {at = w} {i = k} {o = r} {P = Q} c first second) = absurd (not_both (Split a w k r Q) N c there is)
 
 -- something stands under an id off which a tree is read
 pub something_stands : (G : Gathered) (id : ℕ) (q : ProofTree) → IsReadOff G id q → ((d : Done) × Contains (records G) d × (done_id d ≡ id)) ⊎ ((N : Node) × Contains (waiting G) N × (N.id ≡ id))
 something_stands G id q (closed {id = a} {P = Q} c) = inl (Close a Q, c, refl)
 something_stands G id q (waits {N} c) = inr (N, c, refl)
-something_stands G id q (was_split {id = a} {v} {i} {o} {P} c first second) = inl (Split a v i o P, c, refl)
+something_stands G id q (was_split {id = a} {at} {i} {o} {P} c first second) = inl (Split a at i o P, c, refl)

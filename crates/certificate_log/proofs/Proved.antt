@@ -3,10 +3,12 @@ use Rattle.std.proofs.Common.{◌≡◌, ℕ, ◌≤◌, List, [], ◌++◌, sym
 use Rattle.std.specs.Prelude.{All}
 use Rattle.std.proofs.lemmas.List.{append-nil}
 use Rattle.std.proofs.lemmas.List.Elements.{All-append, All-cons, All-contains, All-nil}
+use Rattle.st_model.specs.declared.split_at.SplitAt.{SplitAt}
+use Rattle.st_model.specs.declared.split_at.SplitAt.TheVariants.{Vertex, Link}
 use Rattle.st_model.specs.declared.branch.Branch.{Branch}
 use Rattle.st_model.specs.Network.{Network, IsInstance}
-use Rattle.st_model.specs.Branch.{with_inside, with_outside}
-use Rattle.cut_packing.specs.ProofTree.{ProofTree, Proves, close, split}
+use Rattle.st_model.specs.Branch.{yes_half, no_half}
+use Rattle.cut_packing.specs.ProofTree.{ProofTree, Proves, close, split, IsSplitAt}
 use Rattle.branching.specs.declared.node.Node.{Node}
 use Rattle.log_format.specs.declared.proof_line.ProofLine.{ProofLine}
 use Rattle.log_format.specs.declared.proof_line.ProofLine.TheVariants as line
@@ -23,9 +25,9 @@ use Rattle.certificate_log.proofs.Writing.{any_vertex}
 one_in_front : (p q : ProofTree) (r s : List ProofLine) → preorder p ++ r ≡ preorder q ++ s → (p ≡ q) × (r ≡ s)
 one_in_front (close P) (close Q) r s e = let same : P ≡ Q = cc in let rest : r ≡ s = cc in (ap close same, rest)
 one_in_front (close P) (split w q1 q2) r s e = absurd cc
-one_in_front (split v p1 p2) (close Q) r s e = absurd cc
-one_in_front (split v p1 p2) (split w q1 q2) r s e =
-    let same : v ≡ w = cc in
+one_in_front (split at p1 p2) (close Q) r s e = absurd cc
+one_in_front (split at p1 p2) (split w q1 q2) r s e =
+    let same : at ≡ w = cc in
     let tails : (preorder p1 ++ preorder p2) ++ r ≡ (preorder q1 ++ preorder q2) ++ s = cc in
     let first = one_in_front p1 q1 (preorder p2 ++ r) (preorder q2 ++ s) (sym (append_assoc (preorder p1) (preorder p2) r) ∙ (tails ∙ append_assoc (preorder q1) (preorder q2) s)) in
     let second = one_in_front p2 q2 r s first.1 in
@@ -37,15 +39,20 @@ one_proof p q e = (one_in_front p q [] [] (append-nil (preorder p) ∙ (e ∙ sy
 -- what is proved is at most the least weight
 pub proved_below : (I : Network) (B : Branch) (x : ℕ) (p : ProofTree) → Proves I B x p → x ≤ least_weight I B p
 proved_below I B x (close P) proves = proves.weighs
-proved_below I B x (split v inside outside) proves =
-    let inner = proved_below I (with_inside B v) x inside proves.1 in
-    let outer = proved_below I (with_outside B v) x outside proves.2 in
+proved_below I B x (split at inside outside) proves =
+    let inner = proved_below I (yes_half B at) x inside proves.1 in
+    let outer = proved_below I (no_half B at) x outside proves.2 in
     omega (arith, inner, outer)
 
 -- what proves a value proves a lower one
 pub proves_lower : (I : Network) (B : Branch) (x y : ℕ) (p : ProofTree) → x ≤ y → Proves I B y p → Proves I B x p
 proves_lower I B x y (close P) low proves = record { fits = proves.fits; weighs = omega (arith, low, proves.weighs) }
-proves_lower I B x y (split v inside outside) low proves = (proves.0, proves_lower I (with_inside B v) x y inside low proves.1, proves_lower I (with_outside B v) x y outside low proves.2)
+proves_lower I B x y (split at inside outside) low proves = (proves.0, proves_lower I (yes_half B at) x y inside low proves.1, proves_lower I (no_half B at) x y outside low proves.2)
+
+-- a split of a branch can be written
+split_fits : (I : Network) (B : Branch) (at : SplitAt) → IsInstance I → IsSplitAt I B at → IsWritableLine (line.Split at)
+split_fits I B (Vertex v) instance may = any_vertex I v instance may.vertex
+split_fits I B (Link a b) instance may = absurd may
 
 -- the lines of a tree that is read off what can be written can be written
 pub lines_fit : (G : Gathered) (I : Network) (id : ℕ) (B : Branch) (x : ℕ) (p : ProofTree) → AllPackings IsWritablePacking G → IsInstance I → IsReadOff G id p → Proves I B x p → All IsWritableLine (preorder p)
@@ -55,7 +62,7 @@ lines_fit G I id B x p writable instance (closed {id = a} {P} there) proves =
 lines_fit G I id B x p writable instance (waits {N} there) proves =
     let packing : IsWritablePacking N.packing = All-contains (λ (M : Node). IsWritablePacking M.packing) (waiting G) N writable.1 there in
     All-cons IsWritableLine (line.Close N.packing) [] packing (All-nil IsWritableLine)
-lines_fit G I id B x p writable instance (was_split {id = a} {v} {i} {o} {P} {inside} {outside} there first second) proves =
-    let inner = lines_fit G I i (with_inside B v) x inside writable instance first proves.1 in
-    let outer = lines_fit G I o (with_outside B v) x outside writable instance second proves.2 in
-    All-cons IsWritableLine (line.Split v) (preorder inside ++ preorder outside) (any_vertex I v instance proves.0.vertex) (All-append IsWritableLine (preorder inside) (preorder outside) inner outer)
+lines_fit G I id B x p writable instance (was_split {id = a} {at} {i} {o} {P} {inside} {outside} there first second) proves =
+    let inner = lines_fit G I i (yes_half B at) x inside writable instance first proves.1 in
+    let outer = lines_fit G I o (no_half B at) x outside writable instance second proves.2 in
+    All-cons IsWritableLine (line.Split at) (preorder inside ++ preorder outside) (split_fits I B at instance proves.0) (All-append IsWritableLine (preorder inside) (preorder outside) inner outer)

@@ -4,7 +4,7 @@ use Rattle.std.specs.Prelude.{nat_lt}
 use Rattle.std.proofs.lemmas.List.{length-append}
 use Rattle.st_model.specs.declared.branch.Branch.{Branch}
 use Rattle.st_model.specs.Network.{Network}
-use Rattle.st_model.specs.Branch.{with_inside, with_outside}
+use Rattle.st_model.specs.Branch.{yes_half, no_half}
 use Rattle.cut_packing.specs.Packing.{weight}
 use Rattle.cut_packing.specs.ProofTree.{ProofTree, close, split}
 use Rattle.log_format.specs.Preorder.{preorder}
@@ -13,7 +13,7 @@ use Rattle.certificate_log.specs.Spent.{light_weights}
 
 pub length-preorder : (p : ProofTree) → length (preorder p) ≡ size p
 length-preorder (close P) = refl
-length-preorder (split v a b) = omega (arith, length-append (preorder a) (preorder b), length-preorder a, length-preorder b)
+length-preorder (split at a b) = omega (arith, length-append (preorder a) (preorder b), length-preorder a, length-preorder b)
 
 pub length-light_weights : (I : Network) (B : Branch) (x : ℕ) (p : ProofTree) → length (light_weights I B x p) ≡ light_closes I B x p
 length-light_weights I B x (close P) = by_test (nat_lt (weight I B P) x)
@@ -21,7 +21,7 @@ length-light_weights I B x (close P) = by_test (nat_lt (weight I B P) x)
     by_test : (b : Bool) → length (cond b (weight I B P ∷ []) []) ≡ cond b 1 0
     by_test true = refl
     by_test false = refl
-length-light_weights I B x (split v a b) =
-    let inner = length-light_weights I (with_inside B v) x a in
-    let outer = length-light_weights I (with_outside B v) x b in
-    omega (arith, length-append (light_weights I (with_inside B v) x a) (light_weights I (with_outside B v) x b), inner, outer)
+length-light_weights I B x (split at a b) =
+    let inner = length-light_weights I (yes_half B at) x a in
+    let outer = length-light_weights I (no_half B at) x b in
+    omega (arith, length-append (light_weights I (yes_half B at) x a) (light_weights I (no_half B at) x b), inner, outer)

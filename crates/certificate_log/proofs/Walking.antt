@@ -3,6 +3,7 @@ use Rattle.std.proofs.Common.{◌≡◌, ℕ, ◌+◌, ◌<◌, ◌≤◌, List,
 use Rattle.std.specs.Prelude.{IsSome, Contains, nat_eq}
 use Rattle.std.proofs.lemmas.List.{append-nil, length-append, length_push}
 use Rattle.indexmap.specs.IndexMap.{get}
+use Rattle.st_model.specs.declared.split_at.SplitAt.{SplitAt}
 use Rattle.cut_packing.specs.ProofTree.{ProofTree, close, split}
 use Rattle.log_format.specs.declared.proof_line.ProofLine.{ProofLine}
 use Rattle.log_format.specs.declared.proof_line.ProofLine.TheVariants as line
@@ -79,19 +80,19 @@ module _ (G : Gathered) (once : StandsOnce G) (p : ProofTree) (lines : List Proo
     left = last.left;
   }
 
-  by_split : (v i o : ℕ) (a b : ProofTree) → last.tree ≡ split v a b → IsReadOff G i a → IsReadOff G o b → IsWalked G p (lines ++ line.Split v ∷ []) (ids ++ o ∷ i ∷ [])
-  by_split v i o a b is first second = record {
+  by_split : (at : SplitAt) (i o : ℕ) (a b : ProofTree) → last.tree ≡ split at a b → IsReadOff G i a → IsReadOff G o b → IsWalked G p (lines ++ line.Split at ∷ []) (ids ++ o ∷ i ∷ [])
+  by_split at i o a b is first second = record {
     rest = preorder a ++ (preorder b ++ last.others);
-    is = w.is ∙ (ap (λ (r : List ProofLine). lines ++ r) (last.is ∙ (ap (λ (q : ProofTree). preorder q ++ last.others) is ∙ ap (λ (r : List ProofLine). line.Split v ∷ r) (append_assoc (preorder a) (preorder b) last.others)))
-        ∙ sym (append_assoc lines (line.Split v ∷ []) (preorder a ++ (preorder b ++ last.others))));
+    is = w.is ∙ (ap (λ (r : List ProofLine). lines ++ r) (last.is ∙ (ap (λ (q : ProofTree). preorder q ++ last.others) is ∙ ap (λ (r : List ProofLine). line.Split at ∷ r) (append_assoc (preorder a) (preorder b) last.others)))
+        ∙ sym (append_assoc lines (line.Split at ∷ []) (preorder a ++ (preorder b ++ last.others))));
     left = subst (λ (l : List ℕ). AreLeft G l (preorder a ++ (preorder b ++ last.others))) (append_assoc ids (o ∷ []) (i ∷ []))
         (with_id G (ids ++ o ∷ []) (preorder b ++ last.others) i a first (with_id G ids last.others o b second last.left));
   }
 
   by_record : (d : Done) (ids' : List ℕ) (lines' : List ProofLine) → Contains (records G) d → done_id d ≡ id → WritesRecord d ids ids' lines lines' → IsWalked G p lines' ids'
-  by_record (Split a v i o P) ids' lines' there is writes =
-      let r = reads_split G once a v i o P id last.tree there (sym is) last.reads in
-      rw writes.0 (rw writes.1 (by_split v i o r.inside r.outside r.is r.reads_inside r.reads_outside))
+  by_record (Split a at i o P) ids' lines' there is writes =
+      let r = reads_split G once a at i o P id last.tree there (sym is) last.reads in
+      rw writes.0 (rw writes.1 (by_split at i o r.inside r.outside r.is r.reads_inside r.reads_outside))
   by_record (Close a P) ids' lines' there is writes =
       rw writes.0 (rw writes.1 (by_close P (reads_close G once a P id last.tree there (sym is) last.reads)))
 
@@ -108,7 +109,7 @@ module _ (G : Gathered) (once : StandsOnce G) (p : ProofTree) (lines : List Proo
 
   some_line : (q : ProofTree) → 1 ≤ length (preorder q)
   some_line (close P) = omega arith
-  some_line (split v a b) = omega arith
+  some_line (split at a b) = omega arith
 
   -- not all lines are written
   pub some_left : length lines < length (preorder p)
@@ -122,6 +123,6 @@ pub one_line : (x : Standing) (ids ids' : List ℕ) (lines lines' : List ProofLi
 one_line (Record d) ids ids' lines lines' writes = by_record d.now writes
   where
     by_record : (d : Done) → WritesRecord d ids ids' lines lines' → length lines' ≡ length lines + 1
-    by_record (Split a v i o P) w = ap length w.1 ∙ length_push lines (line.Split v)
+    by_record (Split a at i o P) w = ap length w.1 ∙ length_push lines (line.Split at)
     by_record (Close a P) w = ap length w.1 ∙ length_push lines (line.Close P)
 one_line (Waiting N) ids ids' lines lines' writes = ap length writes.1 ∙ length_push lines (line.Close N.now.packing)

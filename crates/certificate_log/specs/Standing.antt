@@ -34,7 +34,7 @@ pub record FindsIn (ds : List Done) (ns : List Node) (s : Standings) : Type 0 wh
 
 -- the line of a record, and before the other ids the halves of a split, the one inside last
 abbrev pub WritesRecord : Done → List ℕ → List ℕ → List ProofLine → List ProofLine → Type 0
-WritesRecord (Split id v inside outside P) ids ids' lines lines' = (ids' ≡ ids ++ outside ∷ inside ∷ []) × (lines' ≡ lines ++ line.Split v ∷ [])
+WritesRecord (Split id at inside outside P) ids ids' lines lines' = (ids' ≡ ids ++ outside ∷ inside ∷ []) × (lines' ≡ lines ++ line.Split at ∷ [])
 WritesRecord (Close id P) ids ids' lines lines' = (ids' ≡ ids) × (lines' ≡ lines ++ line.Close P ∷ [])
 
 -- the same of what stands: a node that waits is closed by its packing

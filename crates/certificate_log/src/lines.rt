@@ -9,6 +9,7 @@ use crate::standings::{Standing, Standings};
 use cut_packing::Packing;
 use log_format::ProofLine;
 use search_core::{Done, Gathered};
+use st_model::SplitAt;
 use std::alloc::{AllocError, Global};
 
 /// The lines of the proof tree that is read off what was gathered, in time linear in the records
@@ -55,29 +56,29 @@ fn write_record(
 {
     match done {
         Done::Split {
-            v,
+            at,
             inside,
             outside,
             ..
-        } => write_split(*v, *inside, *outside, ids, lines),
+        } => write_split(*at, *inside, *outside, ids, lines),
         Done::Close { packing, .. } => write_close(alloc, packing, lines),
     }
 }
 
-// Writes the line of a split, and puts its halves before the other ids: the one inside comes next.
+// Writes the line of a split, and puts its halves before the other ids: the one that says yes comes next.
 fn write_split(
-    vertex: u32,
+    at: SplitAt,
     inside: u64,
     outside: u64,
     ids: &mut Vec<u64>,
     lines: &mut Vec<ProofLine>,
 ) -> Result<(), AllocError>
     ensures ids { OnOk result (ids.new.items ≡ ids.old.items ++ outside ∷ inside ∷ []) }
-    ensures lines { OnOk result (lines.new.items ≡ lines.old.items ++ ProofLine.Split vertex ∷ []) }
+    ensures lines { OnOk result (lines.new.items ≡ lines.old.items ++ ProofLine.Split at ∷ []) }
 {
     ids.push(outside)?;
     ids.push(inside)?;
-    lines.push(ProofLine::Split(vertex))?;
+    lines.push(ProofLine::Split(at))?;
     Ok(())
 }
 

@@ -1,9 +1,9 @@
 ghost use Rattle.std.specs.Prelude.{◌≡◌, IfOk, IfSome};
 ghost use Rattle.branching.specs.Node.{IsNode};
 
-use branching::{Node, choose, halves, halves_are_no_lighter, may_split};
+use branching::{Node, choose, halves, halves_are_no_lighter, halves_at, may_split};
 use cut_packing::{Cut, Packing, SharedSet};
-use st_model::{Branch, Instance, Listed, Need};
+use st_model::{Branch, Instance, Listed, Need, SplitAt};
 use std::alloc::{AllocError, Global};
 use std::test::Fail;
 use test_instances::{Draws, link, triangle_with_centre};
@@ -108,7 +108,7 @@ fn of_prizes(alloc: Global) -> Result<Instance, AllocError> {
 }
 
 // The halves, where the node splits at this vertex.
-fn halves_at(
+fn halves_where(
     alloc: Global,
     instance: &Instance,
     node: Node,
@@ -128,13 +128,13 @@ fn decided(alloc: Global, instance: &Instance) -> Result<Option<Node>, AllocErro
     ensures { IfOk result (λ r. IfSome r (IsNode instance.now)) }
 {
     let node = root(alloc, instance);
-    let Some((inside, _)) = halves_at(alloc, instance, node, 2)? else {
+    let Some((inside, _)) = halves_where(alloc, instance, node, 2)? else {
         return Ok(None);
     };
-    let Some((_, outside)) = halves_at(alloc, instance, inside, 4)? else {
+    let Some((_, outside)) = halves_where(alloc, instance, inside, 4)? else {
         return Ok(None);
     };
-    let Some((inside, _)) = halves_at(alloc, instance, outside, 1)? else {
+    let Some((inside, _)) = halves_where(alloc, instance, outside, 1)? else {
         return Ok(None);
     };
     Ok(Some(inside))
@@ -199,6 +199,20 @@ fn the_half_outside_loses_the_cuts_of_its_vertex(rt: HostRuntime) -> Result<(), 
     assert!(rt; is_node(&outside, 30, &[7], &[4]));
     assert!(rt; names(rt.alloc(), &inside, &[4, 2, 4, 3])?);
     assert!(rt; names(rt.alloc(), &outside, &[2, 3])?);
+    Ok(())
+}
+
+// Both halves at a link are the node again, under their numbers.
+#[test]
+fn the_halves_at_a_link_are_the_node_again(rt: HostRuntime) -> Result<(), Fail> {
+    let node = with_cuts(rt.alloc())?;
+    let Ok((yes, no)) = halves_at(rt.alloc(), node, SplitAt::Link(2, 4), 20, 30) else {
+        return Err("no memory".into());
+    };
+    assert!(rt; is_node(&yes, 20, &[7], &[]));
+    assert!(rt; is_node(&no, 30, &[7], &[]));
+    assert!(rt; names(rt.alloc(), &yes, &[4, 2, 4, 3])?);
+    assert!(rt; names(rt.alloc(), &no, &[4, 2, 4, 3])?);
     Ok(())
 }
 

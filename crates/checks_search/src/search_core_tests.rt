@@ -1,6 +1,6 @@
 use cut_packing::{Cut, Packing, SharedSet};
 use search_core::{Done, Event, EventFault, Gathered, Search, StepError};
-use st_model::{Branch, Instance, Listed};
+use st_model::{Branch, Instance, Listed, SplitAt};
 use std::alloc::{AllocError, Global};
 use std::test::Fail;
 use test_instances::triangle_with_centre;
@@ -56,6 +56,7 @@ enum Act {
     Offer(u64),
     Up,
     Split(u32, u64, u64, u64),
+    SplitLink(u32, u32, u64),
     Close(u64),
     Down,
     Halt,
@@ -74,9 +75,16 @@ fn event(alloc: Global, w: u32, act: Act) -> Result<Event, AllocError> {
         Act::Up => Event::Up { w },
         Act::Split(v, inside, outside, first) => Event::Split {
             w,
-            v,
+            at: SplitAt::Vertex(v),
             inside,
             outside,
+            packing: packing(alloc, first)?,
+        },
+        Act::SplitLink(a, b, first) => Event::Split {
+            w,
+            at: SplitAt::Link(a, b),
+            inside: 1,
+            outside: 2,
             packing: packing(alloc, first)?,
         },
         Act::Close(first) => Event::Close {
@@ -211,6 +219,7 @@ const SPLIT_ONCE: Rows = &[
     (0, Act::Close(2), Some(EventFault::OutOfTurn)),
     (0, Act::Split(1, 1, 2, 2), Some(EventFault::BadVertex)),
     (0, Act::Split(5, 1, 2, 2), Some(EventFault::BadVertex)),
+    (0, Act::SplitLink(1, 4, 2), Some(EventFault::BadVertex)),
     (0, Act::Split(4, 1, 1, 2), Some(EventFault::UsedId)),
     (0, Act::Split(4, 1, 0, 2), Some(EventFault::UsedId)),
     (0, Act::Split(4, 1, 2, 1), Some(EventFault::BadPacking)),

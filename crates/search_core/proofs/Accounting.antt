@@ -158,7 +158,7 @@ claims-went S counted h =
 
 -- a sound record is of a node that was made
 record-right : (I : Network) (R : Branch) (start : ℕ) (nodes : List Node) (done : List Done) (seen : ℕ) → ((N : Node) → Contains nodes N → IsRecordedNode I R done N) → (d : Done) → IsSoundRecord I start nodes seen d → IsRightRecord I R start done seen d
-record-right I R start nodes done seen made (Split id v i o P) (N, h) = (N.branch, record { made = rw (← h.id_is) (made N h.node).made; vertex = h.vertex; packing = h.packing })
+record-right I R start nodes done seen made (Split id at i o P) (N, h) = (N.branch, record { made = rw (← h.id_is) (made N h.node).made; vertex = h.vertex; packing = h.packing })
 record-right I R start nodes done seen made (Close id P) (N, h) = (N.branch, record { made = rw (← h.id_is) (made N h.node).made; packing = h.packing })
 
 segments-right : (I : Network) (R : Branch) (start least : ℕ) (nodes : List Made) (done : List Done) → ((N : Node) → Contains (map (λ m. m.node) nodes) N → IsRecordedNode I R done N) → (w : ℕ) (xs : List Worker) → All (λ x. IsSoundWork I start least (map (λ m. m.node) nodes) x.seen x.done) xs → All (IsRightSegment I R start least done) (segments_from nodes w xs)

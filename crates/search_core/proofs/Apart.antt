@@ -3,14 +3,16 @@ use Rattle.std.proofs.Common.{◌≡◌, ℕ, ◌≤◌, Bool, true, false, not,
 use Rattle.std.specs.Prelude.{◌==◌, Contains, All, ◌⊎◌}
 use Rattle.std.proofs.lemmas.Bool.{or_left, or_right, or_cases, eqb-true, eq-eqb, false≢true}
 use Rattle.std.proofs.lemmas.List.Elements.{All-contains, All-weaker}
+use Rattle.st_model.specs.declared.split_at.SplitAt.{SplitAt}
+use Rattle.st_model.specs.declared.split_at.SplitAt.TheVariants.{Vertex, Link}
 use Rattle.st_model.specs.declared.branch.Branch.{Branch}
-use Rattle.st_model.specs.Branch.{is_undecided, with_inside, with_outside, with_vertex}
+use Rattle.st_model.specs.Branch.{is_undecided, with_inside, with_outside, with_vertex, yes_half, no_half}
 use Rattle.st_model.specs.Lists.{has}
 use Rattle.st_model.specs.Network.{Network}
 use Rattle.st_model.proofs.Halves.{has-with_vertex}
 use Rattle.cut_packing.specs.declared.packing.Packing.{Packing}
 use Rattle.cut_packing.specs.Packing.{weight}
-use Rattle.cut_packing.specs.ProofTree.{ProofTree, IsSplit}
+use Rattle.cut_packing.specs.ProofTree.{ProofTree, IsSplitAt}
 use Rattle.branching.specs.declared.node.Node.{Node}
 use Rattle.search_core.specs.declared.done.Done.{Done}
 use Rattle.search_core.specs.declared.done.Done.TheVariants.{Split, Close}
@@ -37,7 +39,7 @@ abbrev pub WasMade : Branch → Gathered → ℕ → Type 0
 WasMade R G id = (B : Branch) × IsMade R (records G) id B
 
 right_made : (I : Network) (R : Branch) (start : ℕ) (G : Gathered) (d : Done) → IsRight I R start G d → WasMade R G (done_id d)
-right_made I R start G (Split id v i o P) (seen, low, (B, right)) = (B, right.made)
+right_made I R start G (Split id at i o P) (seen, low, (B, right)) = (B, right.made)
 right_made I R start G (Close id P) (seen, low, (B, right)) = (B, right.made)
 
 -- who was split or closed or waits was made
@@ -49,10 +51,10 @@ standing_made G I R start budget complete x h =
     ]
 
 -- a node that was made was split where its branch can be
-pub split_right : (G : Gathered) (I : Network) (R : Branch) (start budget : ℕ) → IsComplete G I R start budget → (id v i o : ℕ) (P : Packing) (B : Branch) → Contains (records G) (Split id v i o P) → IsMade R (records G) id B → IsSplit I B v
-split_right G I R start budget complete id v i o P B there made =
-    let right : IsRight I R start G (Split id v i o P) = All-contains (IsRight I R start G) (records G) (Split id v i o P) (right_records G I R start budget complete) there in
-    subst (λ (C : Branch). IsSplit I C v) (one_branch R (records G) complete.apart id id right.2.0 B right.2.1.made made refl) right.2.1.vertex
+pub split_right : (G : Gathered) (I : Network) (R : Branch) (start budget : ℕ) → IsComplete G I R start budget → (id : ℕ) (at : SplitAt) (i o : ℕ) (P : Packing) (B : Branch) → Contains (records G) (Split id at i o P) → IsMade R (records G) id B → IsSplitAt I B at
+split_right G I R start budget complete id at i o P B there made =
+    let right : IsRight I R start G (Split id at i o P) = All-contains (IsRight I R start G) (records G) (Split id at i o P) (right_records G I R start budget complete) there in
+    subst (λ (C : Branch). IsSplitAt I C at) (one_branch R (records G) complete.apart id id right.2.0 B right.2.1.made made refl) right.2.1.vertex
 
 -- and closed by a packing that weighs the least value at least
 pub close_right : (G : Gathered) (I : Network) (R : Branch) (start budget : ℕ) → IsComplete G I R start budget → (id : ℕ) (P : Packing) (B : Branch) → Contains (records G) (Close id P) → IsMade R (records G) id B → G.least ≤ weight I B P
@@ -89,14 +91,16 @@ with_cases xs v w h =
 -- no vertex is inside and outside of the branch of a node that was made
 pub made_apart : (G : Gathered) (I : Network) (R : Branch) (start budget : ℕ) → SidesAreApart R → IsComplete G I R start budget → (id : ℕ) (B : Branch) → IsMade R (records G) id B → (w : ℕ) → has B.inside w ≡ true → has B.outside w ≡ true → ⊥
 made_apart G I R start budget sides complete id B root w h k = absurd (false≢true (sym (sides w h) ∙ k))
-made_apart G I R start budget sides complete id B (inside_of {id = a} {v} {i} {o} {P} {B = C} c m) w h k =
+made_apart G I R start budget sides complete id B (inside_of {id = a} {at = Link x y} {i} {o} {P} {B = C} c m) w h k = absurd (split_right G I R start budget complete a (Link x y) i o P C c m)
+made_apart G I R start budget sides complete id B (inside_of {id = a} {at = Vertex v} {i} {o} {P} {B = C} c m) w h k =
     elim (with_cases C.inside v w h) [
-      | inl is ↦ not_outside C v (split_right G I R start budget complete a v i o P C c m).undecided (subst (λ (x : ℕ). has C.outside x ≡ true) (sym is) k)
+      | inl is ↦ not_outside C v (split_right G I R start budget complete a (Vertex v) i o P C c m).undecided (subst (λ (x : ℕ). has C.outside x ≡ true) (sym is) k)
       | inr old ↦ made_apart G I R start budget sides complete a C m w old k
     ]
-made_apart G I R start budget sides complete id B (outside_of {id = a} {v} {i} {o} {P} {B = C} c m) w h k =
+made_apart G I R start budget sides complete id B (outside_of {id = a} {at = Link x y} {i} {o} {P} {B = C} c m) w h k = absurd (split_right G I R start budget complete a (Link x y) i o P C c m)
+made_apart G I R start budget sides complete id B (outside_of {id = a} {at = Vertex v} {i} {o} {P} {B = C} c m) w h k =
     elim (with_cases C.outside v w k) [
-      | inl is ↦ not_inside C v (split_right G I R start budget complete a v i o P C c m).undecided (subst (λ (x : ℕ). has C.inside x ≡ true) (sym is) h)
+      | inl is ↦ not_inside C v (split_right G I R start budget complete a (Vertex v) i o P C c m).undecided (subst (λ (x : ℕ). has C.inside x ≡ true) (sym is) h)
       | inr old ↦ made_apart G I R start budget sides complete a C m w h old
     ]
 
@@ -127,35 +131,40 @@ under_root G R id x B made is = (B, subst (λ (n : ℕ). IsMade R (records G) n 
 pub under : (G : Gathered) (R : Branch) (id : ℕ) (p : ProofTree) (read : IsReadOff G id p) (B : Branch) → IsMade R (records G) id B → (x : ℕ) → 1 ≤ times x (ids_of G id p read) → IsUnder R G B x
 under G R id p (closed {id = a} c) B made x h = under_root G R a x B made (times-single x a h)
 under G R id p (waits {N} c) B made x h = under_root G R N.id x B made (times-single x N.id h)
-under G R id p (was_split {id = a} {v} {i} {o} {P} {inside} {outside} c l r) B made x h =
+under G R id p (was_split {id = a} {at} {i} {o} {P} {inside} {outside} c l r) B made x h =
     elim (times-cases x a (ids_of G i inside l ++ ids_of G o outside r) h) [
       | inl is ↦ under_root G R a x B made is
       | inr rest ↦ elim (times-either x (ids_of G i inside l) (ids_of G o outside r) rest) [
-        | inl m ↦ in_inside B v (under G R i inside l (with_inside B v) (inside_of c made) x m)
-        | inr m ↦ in_outside B v (under G R o outside r (with_outside B v) (outside_of c made) x m)
+        | inl m ↦ in_yes B at (under G R i inside l (yes_half B at) (inside_of c made) x m)
+        | inr m ↦ in_no B at (under G R o outside r (no_half B at) (outside_of c made) x m)
       ]
     ]
   where
-    in_inside : (B : Branch) (v : ℕ) → IsUnder R G (with_inside B v) x → IsUnder R G B x
-    in_inside B v (C, m, e) = (C, m, extends_inside B C v e)
+    in_yes : (B : Branch) (at : SplitAt) → IsUnder R G (yes_half B at) x → IsUnder R G B x
+    in_yes B (Vertex v) (C, m, e) = (C, m, extends_inside B C v e)
+    in_yes B (Link a b) under = under
 
-    in_outside : (B : Branch) (v : ℕ) → IsUnder R G (with_outside B v) x → IsUnder R G B x
-    in_outside B v (C, m, e) = (C, m, extends_outside B C v e)
+    in_no : (B : Branch) (at : SplitAt) → IsUnder R G (no_half B at) x → IsUnder R G B x
+    in_no B (Vertex v) (C, m, e) = (C, m, extends_outside B C v e)
+    in_no B (Link a b) under = under
 
 -- no id is under both halves of a split
-halves_apart : (G : Gathered) (I : Network) (R : Branch) (start budget : ℕ) → SidesAreApart R → IsComplete G I R start budget → (B : Branch) (v x : ℕ) → IsUnder R G (with_inside B v) x → IsUnder R G (with_outside B v) x → ⊥
-halves_apart G I R start budget sides complete B v x (C, m, e) (D, n, f) =
+halves_apart : (G : Gathered) (I : Network) (R : Branch) (start budget : ℕ) → SidesAreApart R → IsComplete G I R start budget → (B : Branch) (at : SplitAt) (x : ℕ) → IsSplitAt I B at → IsUnder R G (yes_half B at) x → IsUnder R G (no_half B at) x → ⊥
+halves_apart G I R start budget sides complete B (Link a b) x may in_yes in_no = absurd may
+halves_apart G I R start budget sides complete B (Vertex v) x may (C, m, e) (D, n, f) =
     let same = one_branch R (records G) complete.apart x x C D m n refl in
     made_apart G I R start budget sides complete x D n v (subst (λ (E : Branch). has E.inside v ≡ true) same (e.inside v (with_itself B.inside v))) (f.outside v (with_itself B.outside v))
 
 -- and the node that was split is under neither
-root_not_inside : (G : Gathered) (I : Network) (R : Branch) (start budget : ℕ) → IsComplete G I R start budget → (B : Branch) (v a x : ℕ) → IsSplit I B v → IsMade R (records G) a B → a ≡ x → IsUnder R G (with_inside B v) x → ⊥
-root_not_inside G I R start budget complete B v a x may made is (C, m, e) =
+root_not_inside : (G : Gathered) (I : Network) (R : Branch) (start budget : ℕ) → IsComplete G I R start budget → (B : Branch) (at : SplitAt) (a x : ℕ) → IsSplitAt I B at → IsMade R (records G) a B → a ≡ x → IsUnder R G (yes_half B at) x → ⊥
+root_not_inside G I R start budget complete B (Link c d) a x may made is under = absurd may
+root_not_inside G I R start budget complete B (Vertex v) a x may made is (C, m, e) =
     let same = one_branch R (records G) complete.apart x a C B m made (sym is) in
     not_inside B v may.undecided (subst (λ (E : Branch). has E.inside v ≡ true) same (e.inside v (with_itself B.inside v)))
 
-root_not_outside : (G : Gathered) (I : Network) (R : Branch) (start budget : ℕ) → IsComplete G I R start budget → (B : Branch) (v a x : ℕ) → IsSplit I B v → IsMade R (records G) a B → a ≡ x → IsUnder R G (with_outside B v) x → ⊥
-root_not_outside G I R start budget complete B v a x may made is (C, m, e) =
+root_not_outside : (G : Gathered) (I : Network) (R : Branch) (start budget : ℕ) → IsComplete G I R start budget → (B : Branch) (at : SplitAt) (a x : ℕ) → IsSplitAt I B at → IsMade R (records G) a B → a ≡ x → IsUnder R G (no_half B at) x → ⊥
+root_not_outside G I R start budget complete B (Link c d) a x may made is under = absurd may
+root_not_outside G I R start budget complete B (Vertex v) a x may made is (C, m, e) =
     let same = one_branch R (records G) complete.apart x a C B m made (sym is) in
     not_outside B v may.undecided (subst (λ (E : Branch). has E.outside v ≡ true) same (e.outside v (with_itself B.outside v)))
 
@@ -163,11 +172,11 @@ root_not_outside G I R start budget complete B v a x may made is (C, m, e) =
 pub tree_once : (G : Gathered) (I : Network) (R : Branch) (start budget : ℕ) → SidesAreApart R → IsComplete G I R start budget → (id : ℕ) (p : ProofTree) (read : IsReadOff G id p) (B : Branch) → IsMade R (records G) id B → (x : ℕ) → times x (ids_of G id p read) ≤ 1
 tree_once G I R start budget sides complete id p (closed {id = a} c) B made x = times-single_le x a
 tree_once G I R start budget sides complete id p (waits {N} c) B made x = times-single_le x N.id
-tree_once G I R start budget sides complete id p (was_split {id = a} {v} {i} {o} {P} {inside} {outside} c l r) B made x =
-    let may = split_right G I R start budget complete a v i o P B c made in
+tree_once G I R start budget sides complete id p (was_split {id = a} {at} {i} {o} {P} {inside} {outside} c l r) B made x =
+    let may = split_right G I R start budget complete a at i o P B c made in
     times-node_le x a (ids_of G i inside l) (ids_of G o outside r)
-    (tree_once G I R start budget sides complete i inside l (with_inside B v) (inside_of c made) x)
-    (tree_once G I R start budget sides complete o outside r (with_outside B v) (outside_of c made) x)
-    (λ is h. root_not_inside G I R start budget complete B v a x may made is (under G R i inside l (with_inside B v) (inside_of c made) x h))
-    (λ is h. root_not_outside G I R start budget complete B v a x may made is (under G R o outside r (with_outside B v) (outside_of c made) x h))
-    (λ h k. halves_apart G I R start budget sides complete B v x (under G R i inside l (with_inside B v) (inside_of c made) x h) (under G R o outside r (with_outside B v) (outside_of c made) x k))
+    (tree_once G I R start budget sides complete i inside l (yes_half B at) (inside_of c made) x)
+    (tree_once G I R start budget sides complete o outside r (no_half B at) (outside_of c made) x)
+    (λ is h. root_not_inside G I R start budget complete B at a x may made is (under G R i inside l (yes_half B at) (inside_of c made) x h))
+    (λ is h. root_not_outside G I R start budget complete B at a x may made is (under G R o outside r (no_half B at) (outside_of c made) x h))
+    (λ h k. halves_apart G I R start budget sides complete B at x may (under G R i inside l (yes_half B at) (inside_of c made) x h) (under G R o outside r (no_half B at) (outside_of c made) x k))

@@ -7,6 +7,7 @@ use Rattle.std.proofs.lemmas.Bool.Decides.{nat_tests}
 use Rattle.std.proofs.lemmas.List.Elements.{All-append, All-from_recursion}
 use Rattle.std.proofs.lemmas.List.{length-append}
 use Rattle.std.proofs.lemmas.List.Folds.{find-append}
+use Rattle.st_model.specs.declared.split_at.SplitAt.{SplitAt}
 use Rattle.st_model.specs.declared.branch.Branch.{Branch}
 use Rattle.st_model.specs.Lists.{total}
 use Rattle.st_model.specs.Network.{Network}
@@ -410,11 +411,11 @@ counted_halves S w i id m Y N d there found new at claim up_is Y_id Y_at Y_free 
     counts : (a b c d b' c' d' : ℕ) → a ≡ b + c + d → b' ≡ b + 1 → c' + 1 ≡ c → d' ≡ d → a ≡ b' + c' + d'
     counts a b c d b' c' d' h k l m = omega arith
 
-pub counted_split : (S : State) (w v i o : ℕ) (P : Packing) → SplitEarly S w v i o → IsCounted S → IsCounted (after S (Split w v i o P))
-counted_split S w v i o P early h =
+pub counted_split : (S : State) (w : ℕ) (at : SplitAt) (i o : ℕ) (P : Packing) → SplitEarly S w at i o → IsCounted S → IsCounted (after S (Split w at i o P))
+counted_split S w at i o P early h =
     let m = early.made in
-    let at = held_node S w m early.held in
-    subst (λ (T : State). IsCounted T) (sym (after_split S w v i o P at.id m at.in_hand at.found)) (counted_halves S w i at.id m (inside_made m w v i P) (outside_made m w v o P) (done.Split at.id v i o P) early.worker at.found early.new_inside (held_place S w m at h) (sym (held_claim S w m early.held) ∙ h.ups w early.up) early.up refl refl refl refl refl h)
+    let here = held_node S w m early.held in
+    subst (λ (T : State). IsCounted T) (sym (after_split S w at i o P here.id m here.in_hand here.found)) (counted_halves S w i here.id m (inside_made m w at i P) (outside_made m w at o P) (done.Split here.id at i o P) early.worker here.found early.new_inside (held_place S w m here h) (sym (held_claim S w m early.held) ∙ h.ups w early.up) early.up refl refl refl refl refl h)
 
 -- a hand without an id has another one, if any
 other_id : (o : Option ℕ) (id j : ℕ) → put_down o id ≡ Some j → (o ≡ Some j) × ((j == id) ≡ false)
@@ -531,7 +532,7 @@ counted_after S (Offer w value) h allowed =
     let k = counted_idle S w (λ x. record x { seen = min S.least value; offered = min x.offered value }) (λ x. refl) (λ x. refl) (λ x. refl) h in
     record { hands = k.hands; ups = k.ups; places = k.places; claims = k.claims; opened = k.opened; bounded = k.bounded }
 counted_after S (Up w) h allowed = let early = up_early S w allowed.early in counted_up S w early.worker early.claimed early.up h
-counted_after S (Split w v i o P) h allowed = counted_split S w v i o P (split_early S w v i o P allowed.early) h
+counted_after S (Split w at i o P) h allowed = counted_split S w at i o P (split_early S w at i o P allowed.early) h
 counted_after S (Close w P) h allowed = counted_close S w P (up_early S w allowed.early) h
 counted_after S (Down w) h allowed = let early = down_early S w allowed.early in counted_down S w early.worker early.close h
 counted_after S (SeeOpen w) h allowed = by_test (S.opened == 0)

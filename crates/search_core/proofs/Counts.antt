@@ -4,7 +4,7 @@ use Rattle.std.specs.Prelude.{◌==◌, nat_lt}
 use Rattle.std.proofs.lemmas.Bool.Decides.{nat_tests}
 use Rattle.std.proofs.lemmas.List.{length-map}
 use Rattle.st_model.specs.declared.branch.Branch.{Branch}
-use Rattle.st_model.specs.Branch.{with_inside, with_outside}
+use Rattle.st_model.specs.Branch.{yes_half, no_half}
 use Rattle.st_model.specs.Network.{Network}
 use Rattle.cut_packing.specs.Packing.{weight}
 use Rattle.cut_packing.specs.ProofTree.{ProofTree}
@@ -21,7 +21,7 @@ use Rattle.search_core.proofs.Apart.{standing_made, close_right, under, tree_onc
 abbrev light_ids : Network → ℕ → (G : Gathered) (id : ℕ) (p : ProofTree) → IsReadOff G id p → Branch → List ℕ
 light_ids I x G id p (closed {id = a} {P} c) B = cond (nat_lt (weight I B P) x) (a ∷ []) []
 light_ids I x G id p (waits {N} c) B = cond (nat_lt (weight I B N.packing) x) (N.id ∷ []) []
-light_ids I x G id p (was_split {v} {i} {o} {inside} {outside} c l r) B = light_ids I x G i inside l (with_inside B v) ++ light_ids I x G o outside r (with_outside B v)
+light_ids I x G id p (was_split {at} {i} {o} {inside} {outside} c l r) B = light_ids I x G i inside l (yes_half B at) ++ light_ids I x G o outside r (no_half B at)
 
 length_one : (b : Bool) (a : ℕ) → length (cond b (a ∷ []) []) ≡ cond b 1 0
 length_one true a = refl
@@ -30,8 +30,8 @@ length_one false a = refl
 length-light_ids : (I : Network) (x : ℕ) (G : Gathered) (id : ℕ) (p : ProofTree) (read : IsReadOff G id p) (B : Branch) → length (light_ids I x G id p read B) ≡ light_closes I B x p
 length-light_ids I x G id p (closed {id = a} {P} c) B = length_one (nat_lt (weight I B P) x) a
 length-light_ids I x G id p (waits {N} c) B = length_one (nat_lt (weight I B N.packing) x) N.id
-length-light_ids I x G id p (was_split {v} {i} {o} {inside} {outside} c l r) B =
-    joined _ _ _ _ _ (length-append (light_ids I x G i inside l (with_inside B v)) (light_ids I x G o outside r (with_outside B v))) (length-light_ids I x G i inside l (with_inside B v)) (length-light_ids I x G o outside r (with_outside B v))
+length-light_ids I x G id p (was_split {at} {i} {o} {inside} {outside} c l r) B =
+    joined _ _ _ _ _ (length-append (light_ids I x G i inside l (yes_half B at)) (light_ids I x G o outside r (no_half B at))) (length-light_ids I x G i inside l (yes_half B at)) (length-light_ids I x G o outside r (no_half B at))
   where
     joined : (n a b s t : ℕ) → n ≡ a + b → a ≡ s → b ≡ t → n ≡ s + t
     joined n a b s t e f g = omega arith
@@ -44,9 +44,9 @@ of_one false a y = omega arith
 times-light_ids_le : (I : Network) (x : ℕ) (G : Gathered) (id : ℕ) (p : ProofTree) (read : IsReadOff G id p) (B : Branch) (y : ℕ) → times y (light_ids I x G id p read B) ≤ times y (ids_of G id p read)
 times-light_ids_le I x G id p (closed {id = a} {P} c) B y = of_one (nat_lt (weight I B P) x) a y
 times-light_ids_le I x G id p (waits {N} c) B y = of_one (nat_lt (weight I B N.packing) x) N.id y
-times-light_ids_le I x G id p (was_split {id = a} {v} {i} {o} {inside} {outside} c l r) B y =
-    rw (times-append y (light_ids I x G i inside l (with_inside B v)) (light_ids I x G o outside r (with_outside B v)), times-append y (ids_of G i inside l) (ids_of G o outside r))
-    (joined (cond (a == y) 1 0) _ _ _ _ (times-light_ids_le I x G i inside l (with_inside B v) y) (times-light_ids_le I x G o outside r (with_outside B v) y))
+times-light_ids_le I x G id p (was_split {id = a} {at} {i} {o} {inside} {outside} c l r) B y =
+    rw (times-append y (light_ids I x G i inside l (yes_half B at)) (light_ids I x G o outside r (no_half B at)), times-append y (ids_of G i inside l) (ids_of G o outside r))
+    (joined (cond (a == y) 1 0) _ _ _ _ (times-light_ids_le I x G i inside l (yes_half B at) y) (times-light_ids_le I x G o outside r (no_half B at) y))
   where
     joined : (e a b c d : ℕ) → a ≤ c → b ≤ d → a + b ≤ e + (c + d)
     joined e a b c d h k = omega arith
@@ -72,10 +72,10 @@ light_waits G I R start budget complete id p (waits {N} c) B made y h = by_weigh
     by_weight : (b : Bool) → 1 ≤ times y (cond b (N.id ∷ []) []) → 1 ≤ times y (map (λ (M : Node). M.id) (waiting G))
     by_weight true k = times_among (λ (M : Node). M.id) (waiting G) N y (among (waiting G) N c) (times-single y N.id k)
     by_weight false k = absurd (none k)
-light_waits G I R start budget complete id p (was_split {v} {i} {o} {inside} {outside} c l r) B made y h =
-    elim (times-either y (light_ids I G.least G i inside l (with_inside B v)) (light_ids I G.least G o outside r (with_outside B v)) h) [
-      | inl m ↦ light_waits G I R start budget complete i inside l (with_inside B v) (inside_of c made) y m
-      | inr m ↦ light_waits G I R start budget complete o outside r (with_outside B v) (outside_of c made) y m
+light_waits G I R start budget complete id p (was_split {at} {i} {o} {inside} {outside} c l r) B made y h =
+    elim (times-either y (light_ids I G.least G i inside l (yes_half B at)) (light_ids I G.least G o outside r (no_half B at)) h) [
+      | inl m ↦ light_waits G I R start budget complete i inside l (yes_half B at) (inside_of c made) y m
+      | inr m ↦ light_waits G I R start budget complete o outside r (no_half B at) (outside_of c made) y m
     ]
 
 -- no id stands twice

@@ -2,6 +2,7 @@
 use Rattle.std.proofs.Common.{◌≡◌, ℕ, ◌<◌, Bool, true, false, cond, not, ◌&&◌, ◌||◌, ◌==◌, length, Option, Some, None, refl, arith}
 use Rattle.std.specs.Prelude.{nat_le, is_none, is_some}
 use Rattle.std.proofs.lemmas.Bool.Decides.{nat_tests}
+use Rattle.st_model.specs.declared.split_at.SplitAt.{SplitAt}
 use Rattle.cut_packing.specs.declared.packing.Packing.{Packing}
 use Rattle.search_core.specs.declared.event.Event.TheVariants.{Take, Pick, Give, Claim, See, Up, Split, Down, Keep}
 use Rattle.search_core.specs.declared.event.EventFault.{EventFault}
@@ -101,18 +102,18 @@ up_early S w h =
     let m = some_there (held S w) b.0 in
     record { worker = worker_there S w a.0; made = m.0; held = m.1; claimed = unless_not (is_claimed S w) d.0; up = e.0 }
 
-pub record SplitEarly (S : State) (w v inside outside : ℕ) : Type 0 where
+pub record SplitEarly (S : State) (w : ℕ) (at : SplitAt) (inside outside : ℕ) : Type 0 where
   pub worker : w < length S.workers
   pub made : Made
   pub held : held S w ≡ Some made
   pub up : up_waits S w ≡ true
-  pub vertex : can_split S w v ≡ true
+  pub vertex : can_split S w at ≡ true
   pub apart : (inside == outside) ≡ false
   pub new_inside : made_as S inside ≡ None
   pub new_outside : made_as S outside ≡ None
 
-pub split_early : (S : State) (w v inside outside : ℕ) (P : Packing) → early_fault S (Split w v inside outside P) ≡ None → SplitEarly S w v inside outside
-split_early S w v inside outside P h =
+pub split_early : (S : State) (w : ℕ) (at : SplitAt) (inside outside : ℕ) (P : Packing) → early_fault S (Split w at inside outside P) ≡ None → SplitEarly S w at inside outside
+split_early S w at inside outside P h =
     let a = both_pass _ _ _ h in
     let b = both_pass _ _ _ a.1 in
     let d = both_pass _ _ _ b.1 in
@@ -126,7 +127,7 @@ split_early S w v inside outside P h =
       made = m.0;
       held = m.1;
       up = unless_not (up_waits S w) d.0;
-      vertex = unless_not (can_split S w v) e.0;
+      vertex = unless_not (can_split S w at) e.0;
       apart = k.0;
       new_inside = none_there (made_as S inside) k.1;
       new_outside = none_there (made_as S outside) n.1;

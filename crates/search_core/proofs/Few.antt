@@ -4,12 +4,14 @@ use Rattle.std.specs.Prelude.{◌==◌, IsTrue}
 use Rattle.std.proofs.lemmas.Bool.{and_from, both_ways}
 use Rattle.std.proofs.Math.Nat.{pow-suc}
 use Rattle.st_model.specs.declared.branch.Branch.{Branch}
-use Rattle.st_model.specs.Branch.{is_free, is_undecided, with_inside, with_outside}
+use Rattle.st_model.specs.declared.split_at.SplitAt.{SplitAt}
+use Rattle.st_model.specs.declared.split_at.SplitAt.TheVariants.{Vertex, Link}
+use Rattle.st_model.specs.Branch.{is_free, is_undecided, with_inside, with_outside, yes_half, no_half}
 use Rattle.st_model.specs.Lists.{has}
 use Rattle.st_model.specs.Network.{Network, is_required}
 use Rattle.st_model.proofs.Sums.{sum_to_same, sum_to-add, sum_to_one}
 use Rattle.st_model.proofs.Halves.{has-with_vertex}
-use Rattle.cut_packing.specs.ProofTree.{ProofTree, IsSplit}
+use Rattle.cut_packing.specs.ProofTree.{ProofTree, IsSplit, IsSplitAt}
 use Rattle.search_core.specs.declared.gathered.Gathered.{Gathered}
 use Rattle.search_core.specs.Complete.{IsComplete, IsMade, root, inside_of, outside_of, records}
 use Rattle.search_core.specs.FreeVertices.{free_count}
@@ -53,6 +55,15 @@ less_outside I B v may = one_less I B (with_outside B v) v may (λ w.
     by_case true false o r = refl
     by_case false i o r = refl
 
+-- each half of a split has one vertex less to split at
+less_yes : (I : Network) (B : Branch) (at : SplitAt) → IsSplitAt I B at → free_count I B ≡ free_count I (yes_half B at) + 1
+less_yes I B (Vertex v) may = less_inside I B v may
+less_yes I B (Link a b) may = absurd may
+
+less_no : (I : Network) (B : Branch) (at : SplitAt) → IsSplitAt I B at → free_count I B ≡ free_count I (no_half B at) + 1
+less_no I B (Vertex v) may = less_outside I B v may
+less_no I B (Link a b) may = absurd may
+
 two_le : (k : ℕ) → 1 + 1 ≤ 2 ^ (k + 1)
 two_le zero = omega arith
 two_le (suc k) =
@@ -70,11 +81,11 @@ halves_fit k m n a b first second h l =
 few_nodes : (G : Gathered) (I : Network) (R : Branch) (start budget : ℕ) → IsComplete G I R start budget → (id : ℕ) (p : ProofTree) → IsReadOff G id p → (B : Branch) → IsMade R (records G) id B → size p + 1 ≤ 2 ^ (free_count I B + 1)
 few_nodes G I R start budget complete id p (closed c) B made = two_le (free_count I B)
 few_nodes G I R start budget complete id p (waits c) B made = two_le (free_count I B)
-few_nodes G I R start budget complete id p (was_split {id = a} {v} {i} {o} {P} {inside} {outside} c l r) B made =
-    let may = split_right G I R start budget complete a v i o P B c made in
-    halves_fit (free_count I B) (free_count I (with_inside B v)) (free_count I (with_outside B v)) (size inside) (size outside) (less_inside I B v may) (less_outside I B v may)
-    (few_nodes G I R start budget complete i inside l (with_inside B v) (inside_of c made))
-    (few_nodes G I R start budget complete o outside r (with_outside B v) (outside_of c made))
+few_nodes G I R start budget complete id p (was_split {id = a} {at} {i} {o} {P} {inside} {outside} c l r) B made =
+    let may = split_right G I R start budget complete a at i o P B c made in
+    halves_fit (free_count I B) (free_count I (yes_half B at)) (free_count I (no_half B at)) (size inside) (size outside) (less_yes I B at may) (less_no I B at may)
+    (few_nodes G I R start budget complete i inside l (yes_half B at) (inside_of c made))
+    (few_nodes G I R start budget complete o outside r (no_half B at) (outside_of c made))
 
 pub few_lem : CompleteIsFew
 few_lem G I R start budget p complete read = below _ _ (few_nodes G I R start budget complete 0 p read R root)

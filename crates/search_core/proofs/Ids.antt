@@ -3,6 +3,7 @@ use Rattle.std.proofs.Common.{◌≡◌, ℕ, zero, suc, ◌+◌, ◌<◌, ◌�
 use Rattle.std.specs.Prelude.{◌==◌, Contains, ◌⊎◌}
 use Rattle.std.specs.List.{flat_map}
 use Rattle.std.proofs.lemmas.Bool.Decides.{nat_tests}
+use Rattle.st_model.specs.declared.split_at.SplitAt.{SplitAt}
 use Rattle.st_model.specs.declared.branch.Branch.{Branch}
 use Rattle.cut_packing.specs.declared.packing.Packing.{Packing}
 use Rattle.search_core.specs.declared.done.Done.{Done}
@@ -67,8 +68,8 @@ same_record (y ∷ ys) d e x once a b p q = by_place a b (λ k i j. same_record 
     by_place (inr i) (inl j) rest = absurd (too_many _ _ (times x (half_ids d)) 0 sum (half_times ys d x i) (here e j q) p)
     by_place (inr i) (inr j) rest = rest (fewer _ _ sum) i j
 
-inside_times : (id v i o : ℕ) (P : Packing) → 1 ≤ times i (half_ids (Split id v i o P))
-inside_times id v i o P = by_tests (i == i) (itself i)
+inside_times : (id : ℕ) (at : SplitAt) (i o : ℕ) (P : Packing) → 1 ≤ times i (half_ids (Split id at i o P))
+inside_times id at i o P = by_tests (i == i) (itself i)
   where
     itself : (a : ℕ) → (a == a) ≡ true
     itself a = grind (arith, nat_tests)
@@ -76,8 +77,8 @@ inside_times id v i o P = by_tests (i == i) (itself i)
     by_tests : (b : Bool) → b ≡ true → 1 ≤ cond b 1 0 + (cond (o == i) 1 0 + 0)
     by_tests b e = rw e (omega arith)
 
-outside_times : (id v i o : ℕ) (P : Packing) → 1 ≤ times o (half_ids (Split id v i o P))
-outside_times id v i o P = by_tests (o == o) (itself o)
+outside_times : (id : ℕ) (at : SplitAt) (i o : ℕ) (P : Packing) → 1 ≤ times o (half_ids (Split id at i o P))
+outside_times id at i o P = by_tests (o == o) (itself o)
   where
     itself : (a : ℕ) → (a == a) ≡ true
     itself a = grind (arith, nat_tests)
@@ -103,8 +104,8 @@ zero_apart done d x apart there h is = too_many _ _ (apart 0) (half_times done d
     too_many a c h k l = omega arith
 
 -- the halves of a split have two ids
-twins_apart : (done : List Done) (id v i o : ℕ) (P : Packing) → AreApart done → Contains done (Split id v i o P) → i ≡ o → ⊥
-twins_apart done id v i o P apart there is = too_many _ (halves_once done o apart) (both (i == o) (o == o) (sames i o is) (sames o o refl)) (half_times done (Split id v i o P) o (among done (Split id v i o P) there))
+twins_apart : (done : List Done) (id : ℕ) (at : SplitAt) (i o : ℕ) (P : Packing) → AreApart done → Contains done (Split id at i o P) → i ≡ o → ⊥
+twins_apart done id at i o P apart there is = too_many _ (halves_once done o apart) (both (i == o) (o == o) (sames i o is) (sames o o refl)) (half_times done (Split id at i o P) o (among done (Split id at i o P) there))
   where
     sames : (a b : ℕ) → a ≡ b → (a == b) ≡ true
     sames a b h = grind (arith, nat_tests)
@@ -118,30 +119,30 @@ twins_apart done id v i o P apart there is = too_many _ (halves_once done o apar
 -- under one id one branch was made
 pub one_branch : (R : Branch) (done : List Done) → AreApart done → (a b : ℕ) (B C : Branch) → IsMade R done a B → IsMade R done b C → a ≡ b → B ≡ C
 one_branch R done apart a b B C root root e = refl
-one_branch R done apart a b B C root (inside_of {id} {v} {i} {o} {P} c m) e = absurd (zero_apart done (Split id v i o P) i apart c (inside_times id v i o P) e)
-one_branch R done apart a b B C root (outside_of {id} {v} {i} {o} {P} c m) e = absurd (zero_apart done (Split id v i o P) o apart c (outside_times id v i o P) e)
-one_branch R done apart a b B C (inside_of {id} {v} {i} {o} {P} c m) root e = absurd (zero_apart done (Split id v i o P) i apart c (inside_times id v i o P) (sym e))
-one_branch R done apart a b B C (outside_of {id} {v} {i} {o} {P} c m) root e = absurd (zero_apart done (Split id v i o P) o apart c (outside_times id v i o P) (sym e))
-one_branch R done apart a b B C (inside_of {id} {v} {i} {o} {P} {B = B'} c m) (inside_of {id = id'} {v = v'} {i = i'} {o = o'} {P = P'} {B = C'} c' m') e =
-    let same : Split id v i o P ≡ Split id' v' i' o' P' = same_record done (Split id v i o P) (Split id' v' i' o' P') i (halves_once done i apart) (among done _ c) (among done _ c') (inside_times id v i o P) (subst (λ (n : ℕ). 1 ≤ times n (half_ids (Split id' v' i' o' P'))) (sym e) (inside_times id' v' i' o' P')) in
+one_branch R done apart a b B C root (inside_of {id} {at} {i} {o} {P} c m) e = absurd (zero_apart done (Split id at i o P) i apart c (inside_times id at i o P) e)
+one_branch R done apart a b B C root (outside_of {id} {at} {i} {o} {P} c m) e = absurd (zero_apart done (Split id at i o P) o apart c (outside_times id at i o P) e)
+one_branch R done apart a b B C (inside_of {id} {at} {i} {o} {P} c m) root e = absurd (zero_apart done (Split id at i o P) i apart c (inside_times id at i o P) (sym e))
+one_branch R done apart a b B C (outside_of {id} {at} {i} {o} {P} c m) root e = absurd (zero_apart done (Split id at i o P) o apart c (outside_times id at i o P) (sym e))
+one_branch R done apart a b B C (inside_of {id} {at} {i} {o} {P} {B = B'} c m) (inside_of {id = id'} {at = at'} {i = i'} {o = o'} {P = P'} {B = C'} c' m') e =
+    let same : Split id at i o P ≡ Split id' at' i' o' P' = same_record done (Split id at i o P) (Split id' at' i' o' P') i (halves_once done i apart) (among done _ c) (among done _ c') (inside_times id at i o P) (subst (λ (n : ℕ). 1 ≤ times n (half_ids (Split id' at' i' o' P'))) (sym e) (inside_times id' at' i' o' P')) in
     let ids : id ≡ id' = cc in
-    let vertices : v ≡ v' = cc in
+    let places : at ≡ at' = cc in
     let branches = one_branch R done apart id id' B' C' m m' ids in
-    rw (branches, vertices) refl
-one_branch R done apart a b B C (outside_of {id} {v} {i} {o} {P} {B = B'} c m) (outside_of {id = id'} {v = v'} {i = i'} {o = o'} {P = P'} {B = C'} c' m') e =
-    let same : Split id v i o P ≡ Split id' v' i' o' P' = same_record done (Split id v i o P) (Split id' v' i' o' P') o (halves_once done o apart) (among done _ c) (among done _ c') (outside_times id v i o P) (subst (λ (n : ℕ). 1 ≤ times n (half_ids (Split id' v' i' o' P'))) (sym e) (outside_times id' v' i' o' P')) in
+    rw (branches, places) refl
+one_branch R done apart a b B C (outside_of {id} {at} {i} {o} {P} {B = B'} c m) (outside_of {id = id'} {at = at'} {i = i'} {o = o'} {P = P'} {B = C'} c' m') e =
+    let same : Split id at i o P ≡ Split id' at' i' o' P' = same_record done (Split id at i o P) (Split id' at' i' o' P') o (halves_once done o apart) (among done _ c) (among done _ c') (outside_times id at i o P) (subst (λ (n : ℕ). 1 ≤ times n (half_ids (Split id' at' i' o' P'))) (sym e) (outside_times id' at' i' o' P')) in
     let ids : id ≡ id' = cc in
-    let vertices : v ≡ v' = cc in
+    let places : at ≡ at' = cc in
     let branches = one_branch R done apart id id' B' C' m m' ids in
-    rw (branches, vertices) refl
-one_branch R done apart a b B C (inside_of {id} {v} {i} {o} {P} {B = B'} c m) (outside_of {id = id'} {v = v'} {i = i'} {o = o'} {P = P'} {B = C'} c' m') e =
-    let same : Split id v i o P ≡ Split id' v' i' o' P' = same_record done (Split id v i o P) (Split id' v' i' o' P') i (halves_once done i apart) (among done _ c) (among done _ c') (inside_times id v i o P) (subst (λ (n : ℕ). 1 ≤ times n (half_ids (Split id' v' i' o' P'))) (sym e) (outside_times id' v' i' o' P')) in
+    rw (branches, places) refl
+one_branch R done apart a b B C (inside_of {id} {at} {i} {o} {P} {B = B'} c m) (outside_of {id = id'} {at = at'} {i = i'} {o = o'} {P = P'} {B = C'} c' m') e =
+    let same : Split id at i o P ≡ Split id' at' i' o' P' = same_record done (Split id at i o P) (Split id' at' i' o' P') i (halves_once done i apart) (among done _ c) (among done _ c') (inside_times id at i o P) (subst (λ (n : ℕ). 1 ≤ times n (half_ids (Split id' at' i' o' P'))) (sym e) (outside_times id' at' i' o' P')) in
     let insides : i ≡ i' = cc in
-    absurd (twins_apart done id' v' i' o' P' apart c' (sym insides ∙ e))
-one_branch R done apart a b B C (outside_of {id} {v} {i} {o} {P} {B = B'} c m) (inside_of {id = id'} {v = v'} {i = i'} {o = o'} {P = P'} {B = C'} c' m') e =
-    let same : Split id v i o P ≡ Split id' v' i' o' P' = same_record done (Split id v i o P) (Split id' v' i' o' P') o (halves_once done o apart) (among done _ c) (among done _ c') (outside_times id v i o P) (subst (λ (n : ℕ). 1 ≤ times n (half_ids (Split id' v' i' o' P'))) (sym e) (inside_times id' v' i' o' P')) in
+    absurd (twins_apart done id' at' i' o' P' apart c' (sym insides ∙ e))
+one_branch R done apart a b B C (outside_of {id} {at} {i} {o} {P} {B = B'} c m) (inside_of {id = id'} {at = at'} {i = i'} {o = o'} {P = P'} {B = C'} c' m') e =
+    let same : Split id at i o P ≡ Split id' at' i' o' P' = same_record done (Split id at i o P) (Split id' at' i' o' P') o (halves_once done o apart) (among done _ c) (among done _ c') (outside_times id at i o P) (subst (λ (n : ℕ). 1 ≤ times n (half_ids (Split id' at' i' o' P'))) (sym e) (inside_times id' at' i' o' P')) in
     let insides : i ≡ i' = cc in
-    absurd (twins_apart done id v i o P apart c (insides ∙ sym e))
+    absurd (twins_apart done id at i o P apart c (insides ∙ sym e))
 
 -- what was made stands among the ids that were
 pub made_times : (R : Branch) (done : List Done) (id : ℕ) (B : Branch) → IsMade R done id B → 1 ≤ times id (made_ids done)
@@ -149,11 +150,11 @@ made_times R done id B root = at_first (times 0 (flat_map half_ids done))
   where
     at_first : (n : ℕ) → 1 ≤ 1 + n
     at_first n = omega arith
-made_times R done id B (inside_of {id = a} {v} {i} {o} {P} c m) = later _ _ _ (inside_times a v i o P) (half_times done (Split a v i o P) i (among done _ c))
+made_times R done id B (inside_of {id = a} {at} {i} {o} {P} c m) = later _ _ _ (inside_times a at i o P) (half_times done (Split a at i o P) i (among done _ c))
   where
     later : (a b c : ℕ) → 1 ≤ a → a ≤ b → 1 ≤ c + b
     later a b c h k = omega arith
-made_times R done id B (outside_of {id = a} {v} {i} {o} {P} c m) = later _ _ _ (outside_times a v i o P) (half_times done (Split a v i o P) o (among done _ c))
+made_times R done id B (outside_of {id = a} {at} {i} {o} {P} c m) = later _ _ _ (outside_times a at i o P) (half_times done (Split a at i o P) o (among done _ c))
   where
     later : (a b c : ℕ) → 1 ≤ a → a ≤ b → 1 ≤ c + b
     later a b c h k = omega arith

@@ -4,14 +4,16 @@ use Rattle.std.specs.Prelude.{◌==◌, Contains, All, ◌⊎◌}
 use Rattle.std.specs.List.{flat_map}
 use Rattle.std.proofs.lemmas.Bool.Decides.{nat_tests}
 use Rattle.std.proofs.lemmas.List.Elements.{All-contains, All-head, All-tail, Contains-append_cases}
+use Rattle.st_model.specs.declared.split_at.SplitAt.{SplitAt}
+use Rattle.st_model.specs.declared.split_at.SplitAt.TheVariants.{Vertex, Link}
 use Rattle.st_model.specs.declared.branch.Branch.{Branch}
-use Rattle.st_model.specs.Branch.{is_undecided, with_inside, with_outside}
+use Rattle.st_model.specs.Branch.{is_undecided, with_inside, with_outside, yes_half, no_half}
 use Rattle.st_model.specs.Lists.{has, sum_to}
 use Rattle.st_model.specs.Network.{Network}
 use Rattle.st_model.proofs.Halves.{has-with_vertex}
 use Rattle.cut_packing.specs.declared.packing.Packing.{Packing}
 use Rattle.cut_packing.specs.Packing.{Fits, weight}
-use Rattle.cut_packing.specs.ProofTree.{ProofTree, close, split, Proves, IsSplit}
+use Rattle.cut_packing.specs.ProofTree.{ProofTree, close, split, Proves, IsSplit, IsSplitAt}
 use Rattle.branching.specs.declared.node.Node.{Node}
 use Rattle.search_core.specs.declared.done.Done.{Done}
 use Rattle.search_core.specs.declared.done.Done.TheVariants.{Split, Close}
@@ -91,13 +93,21 @@ free-outside I B v may = sum_falls (λ w. one_of (is_undecided B w)) (λ w. one_
     one true b e = rw e (omega arith)
     one false b e = rw e (omega arith)
 
+free-yes : (I : Network) (B : Branch) (at : SplitAt) → IsSplitAt I B at → free I (yes_half B at) + 1 ≤ free I B
+free-yes I B (Vertex v) may = free-inside I B v may
+free-yes I B (Link a b) may = absurd may
+
+free-no : (I : Network) (B : Branch) (at : SplitAt) → IsSplitAt I B at → free I (no_half B at) + 1 ≤ free I B
+free-no I B (Vertex v) may = free-outside I B v may
+free-no I B (Link a b) may = absurd may
+
 -- what proves a value proves a lower one
 proves-lower : (I : Network) (B : Branch) (x y : ℕ) (p : ProofTree) → x ≤ y → Proves I B y p → Proves I B x p
 proves-lower I B x y (close P) low h = record { fits = h.fits; weighs = at_most x y (weight I B P) low h.weighs }
   where
     at_most : (a b c : ℕ) → a ≤ b → b ≤ c → a ≤ c
     at_most a b c h k = omega arith
-proves-lower I B x y (split v p q) low h = (h.0, proves-lower I (with_inside B v) x y p low h.1, proves-lower I (with_outside B v) x y q low h.2)
+proves-lower I B x y (split at p q) low h = (h.0, proves-lower I (yes_half B at) x y p low h.1, proves-lower I (no_half B at) x y q low h.2)
 
 -- who has an id that stands in a list
 id_there : {X : Type 0} (f : X → ℕ) (xs : List X) (id : ℕ) → 1 ≤ times id (map f xs) → (x : X) × Contains xs x × (f x ≡ id)
@@ -161,13 +171,13 @@ read_node G I id B N there is same fits = (
         no_place : (k : ℕ) → k < 0 → ⊥
         no_place k h = omega arith
 
-read_split : (G : Gathered) (I : Network) (id a v i o : ℕ) (B : Branch) (P : Packing) → Contains (records G) (Split a v i o P) → a ≡ id → IsSplit I B v → (p : ProofTree) × Read G I i (with_inside B v) p → (p : ProofTree) × Read G I o (with_outside B v) p → (p : ProofTree) × Read G I id B p
-read_split G I id a v i o B P there is may (p, inside) (q, outside) = (
-  split v p q,
+read_split : (G : Gathered) (I : Network) (id a : ℕ) (at : SplitAt) (i o : ℕ) (B : Branch) (P : Packing) → Contains (records G) (Split a at i o P) → a ≡ id → IsSplitAt I B at → (p : ProofTree) × Read G I i (yes_half B at) p → (p : ProofTree) × Read G I o (no_half B at) p → (p : ProofTree) × Read G I id B p
+read_split G I id a at i o B P there is may (p, inside) (q, outside) = (
+  split at p q,
   record {
     least = λ none. both_least _ _ _ (inside.least none) (outside.least none);
-    read = subst (λ (n : ℕ). IsReadOff G n (split v p q)) is (was_split there inside.read outside.read);
-    proves = (may, proves-lower I (with_inside B v) _ _ p (left_min _ _) inside.proves, proves-lower I (with_outside B v) _ _ q (right_min _ _) outside.proves);
+    read = subst (λ (n : ℕ). IsReadOff G n (split at p q)) is (was_split there inside.read outside.read);
+    proves = (may, proves-lower I (yes_half B at) _ _ p (left_min _ _) inside.proves, proves-lower I (no_half B at) _ _ q (right_min _ _) outside.proves);
   },
 )
   where
@@ -182,11 +192,11 @@ read_split G I id a v i o B P there is may (p, inside) (q, outside) = (
 
 -- the node of a record that was made, where what decides more has a tree
 read_record : (G : Gathered) (I : Network) (R : Branch) (start budget : ℕ) → IsComplete G I R start budget → (fuel id : ℕ) (B : Branch) → IsMade R (records G) id B → free I B < suc fuel → ((j : ℕ) (C : Branch) → IsMade R (records G) j C → free I C < fuel → (p : ProofTree) × Read G I j C p) → (d : Done) → Contains (records G) d → done_id d ≡ id → (seen : ℕ) × (G.least ≤ seen) × IsRightRecord I R start (records G) seen d → (p : ProofTree) × Read G I id B p
-read_record G I R start budget complete fuel id B made low go (Split a v i o P) there is (seen, low_seen, (C, right)) =
+read_record G I R start budget complete fuel id B made low go (Split a at i o P) there is (seen, low_seen, (C, right)) =
     let same = one_branch R (records G) complete.apart a id C B right.made made is in
-    let may : IsSplit I B v = subst (λ (D : Branch). IsSplit I D v) same right.vertex in
+    let may : IsSplitAt I B at = subst (λ (D : Branch). IsSplitAt I D at) same right.vertex in
     let mine : IsMade R (records G) a B = subst (λ (D : Branch). IsMade R (records G) a D) same right.made in
-    read_split G I id a v i o B P there is may (go i (with_inside B v) (inside_of there mine) (less _ _ fuel (free-inside I B v may) low)) (go o (with_outside B v) (outside_of there mine) (less _ _ fuel (free-outside I B v may) low))
+    read_split G I id a at i o B P there is may (go i (yes_half B at) (inside_of there mine) (less _ _ fuel (free-yes I B at may) low)) (go o (no_half B at) (outside_of there mine) (less _ _ fuel (free-no I B at may) low))
   where
     less : (a b c : ℕ) → a + 1 ≤ b → b < suc c → a < c
     less a b c h k = omega arith

@@ -6,12 +6,13 @@ use Rattle.std.proofs.lemmas.Bool.{false≢true}
 use Rattle.std.proofs.lemmas.Bool.Decides.{nat_tests}
 use Rattle.std.proofs.lemmas.List.{append-nil}
 use Rattle.std.proofs.lemmas.List.Elements.{All-append, All-from_recursion, All-nil, All-weaker}
+use Rattle.st_model.specs.declared.split_at.SplitAt.{SplitAt}
 use Rattle.st_model.specs.declared.branch.Branch.{Branch}
 use Rattle.st_model.specs.Lists.{total}
 use Rattle.st_model.specs.Network.{Network}
 use Rattle.st_model.proofs.Sums.{total-append}
 use Rattle.cut_packing.specs.declared.packing.Packing.{Packing}
-use Rattle.cut_packing.specs.ProofTree.{IsSplit}
+use Rattle.cut_packing.specs.ProofTree.{IsSplitAt}
 use Rattle.branching.specs.declared.node.Node.{Node}
 use Rattle.branching.specs.Node.{IsNode}
 use Rattle.branching.proofs.NoLighter.{halves_are_no_lighter_lem}
@@ -27,7 +28,7 @@ use Rattle.search_core.specs.declared.worker.Worker.{Worker}
 use Rattle.search_core.specs.Complete.{IsMade, root, inside_of, outside_of, inside, outside, done_id, half_ids, made_ids, times}
 use Rattle.search_core.specs.Effects.{after, ended, granted, refused, handed, moved, id_in_hand, put_down}
 use Rattle.search_core.specs.Kept.{AreRecorded, IsCounted, IsOfWorker, IsRecorded, IsRecordedNode, IsSound, all_done, ended_ids, node_ids, one_if}
-use Rattle.search_core.specs.Needs.{AllowsSplit, IsAllowed, is_fresh, is_fresh_of, is_queue, holds, splits_at}
+use Rattle.search_core.specs.Needs.{AllowsSplit, IsAllowed, is_fresh, is_fresh_of, is_queue, holds, may_split_at}
 use Rattle.search_core.specs.Settled.{is_done}
 use Rattle.search_core.specs.State.{State, beginning, changed_at, hand, has_id, made_as, new_worker, seen, with_made}
 use Rattle.search_core.proofs.Counting.{found-first, fresh_waits, held_found, held_place, queue_waits}
@@ -250,18 +251,18 @@ abbrev splitting : ℕ → Done → Worker → Worker
 splitting i d x = record x { hand = Some i; up = false; done = x.done ++ d ∷ [] }
 
 -- a split is recorded, and both halves are made by it
-recorded_halves : (S : State) (w v i o : ℕ) (P : Packing) (id : ℕ) (m : Made) → SplitEarly S w v i o → made_as S id ≡ Some m → is_done m.place ≡ false → IsNode S.instance (record m.node { packing = P }) → IsSplit S.instance m.node.branch v → IsRecorded S → IsRecorded (split_state S w v i o P id m)
-recorded_halves S w v i o P id m early found waits node vertex h =
+recorded_halves : (S : State) (w : ℕ) (at : SplitAt) (i o : ℕ) (P : Packing) (id : ℕ) (m : Made) → SplitEarly S w at i o → made_as S id ≡ Some m → is_done m.place ≡ false → IsNode S.instance (record m.node { packing = P }) → IsSplitAt S.instance m.node.branch at → IsRecorded S → IsRecorded (split_state S w at i o P id m)
+recorded_halves S w at i o P id m early found waits node vertex h =
     rw (length-changed S.workers w (splitting i d)) (recorded_done S.instance S.branch (length S.workers) S.nodes (Y ∷ N ∷ []) (all_done S.workers) more d m place.Split found waits refl tt one h)
   where
     d : Done
-    d = done.Split id v i o P
+    d = done.Split id at i o P
 
     Y : Made
-    Y = inside_made m w v i P
+    Y = inside_made m w at i P
 
     N : Made
-    N = outside_made m w v o P
+    N = outside_made m w at o P
 
     more : List Done
     more = all_done (changed_at S.workers w (splitting i d))
@@ -278,13 +279,13 @@ recorded_halves S w v i o P id m early found waits node vertex h =
     made_inside : IsRecordedNode S.instance S.branch more Y.node
     made_inside = record {
       made = inside_of recorded parent;
-      keeps = inr (id, P, m.node.branch, record { half = inside recorded; made = parent; weight = (halves_are_no_lighter_lem S.instance (record m.node { packing = P }) v i o node vertex).0.no_lighter });
+      keeps = inr (id, P, m.node.branch, record { half = inside recorded; made = parent; weight = (halves_are_no_lighter_lem S.instance (record m.node { packing = P }) at i o node vertex).0.no_lighter });
     }
 
     made_outside : IsRecordedNode S.instance S.branch more N.node
     made_outside = record {
       made = outside_of recorded parent;
-      keeps = inr (id, P, m.node.branch, record { half = outside recorded; made = parent; weight = (halves_are_no_lighter_lem S.instance (record m.node { packing = P }) v i o node vertex).1.no_lighter });
+      keeps = inr (id, P, m.node.branch, record { half = outside recorded; made = parent; weight = (halves_are_no_lighter_lem S.instance (record m.node { packing = P }) at i o node vertex).1.no_lighter });
     }
 
     one : IsOneMore S.instance S.branch (length S.workers) S.nodes (Y ∷ N ∷ []) (all_done S.workers) more d
@@ -298,16 +299,16 @@ recorded_halves S w v i o P id m early found waits node vertex h =
       apart = halves_apart S.nodes i o early.apart early.new_inside early.new_outside h.apart;
     }
 
-recorded_split : (S : State) (w v i o : ℕ) (P : Packing) → IsAllowed S (Split w v i o P) → IsSound S → IsCounted S → IsRecorded S → IsRecorded (after S (Split w v i o P))
-recorded_split S w v i o P allowed sound counted h =
-    let early = split_early S w v i o P allowed.early in
+recorded_split : (S : State) (w : ℕ) (at : SplitAt) (i o : ℕ) (P : Packing) → IsAllowed S (Split w at i o P) → IsSound S → IsCounted S → IsRecorded S → IsRecorded (after S (Split w at i o P))
+recorded_split S w at i o P allowed sound counted h =
+    let early = split_early S w at i o P allowed.early in
     let m = early.made in
-    let at = held_node S w m early.held in
-    let vertex : splits_at S.instance m.node.branch v ≡ true = subst (λ (k : Option Made). option_map_or (λ m. splits_at S.instance m.node.branch v) k false ≡ true) early.held early.vertex in
+    let here = held_node S w m early.held in
+    let vertex : may_split_at S.instance m.node.branch at ≡ true = subst (λ (k : Option Made). option_map_or (λ m. may_split_at S.instance m.node.branch at) k false ≡ true) early.held early.vertex in
     let allows : AllowsSplit S.instance m.node.branch P (seen S w) = subst (λ (k : Option Made). IfSome k (λ m. AllowsSplit S.instance m.node.branch P (seen S w))) early.held allowed.packing in
-    let node : IsNode S.instance m.node = all-found (λ m. IsNode S.instance m.node) S.nodes at.id m sound.nodes at.found in
-    let waits : is_done m.place ≡ false = ap is_done (held_place S w m at counted) in
-    subst (λ (T : State). IsRecorded T) (sym (after_split S w v i o P at.id m at.in_hand at.found)) (recorded_halves S w v i o P at.id m early at.found waits (record { branch = node.branch; required = node.required; fits = allows.fits }) (splits S.instance m.node v vertex) h)
+    let node : IsNode S.instance m.node = all-found (λ m. IsNode S.instance m.node) S.nodes here.id m sound.nodes here.found in
+    let waits : is_done m.place ≡ false = ap is_done (held_place S w m here counted) in
+    subst (λ (T : State). IsRecorded T) (sym (after_split S w at i o P here.id m here.in_hand here.found)) (recorded_halves S w at i o P here.id m early here.found waits (record { branch = node.branch; required = node.required; fits = allows.fits }) (splits S.instance m.node at vertex) h)
 
 pub recorded_after : (S : State) (e : Event) → IsSound S → IsCounted S → IsRecorded S → IsAllowed S e → IsRecorded (after S e)
 recorded_after S (Take w id) sound counted h allowed = recorded_take S w id allowed h
@@ -318,7 +319,7 @@ recorded_after S (Claim w) sound counted h allowed = recorded_claim S w allowed 
 recorded_after S (See w) sound counted h allowed = recorded_idle S w (λ x. record x { seen = S.least }) S.nodes (λ x. refl) h
 recorded_after S (Offer w value) sound counted h allowed = recorded_idle S w (λ x. record x { seen = min S.least value; offered = min x.offered value }) S.nodes (λ x. refl) h
 recorded_after S (Up w) sound counted h allowed = recorded_idle S w (λ x. record x { up = true }) S.nodes (λ x. refl) h
-recorded_after S (Split w v i o P) sound counted h allowed = recorded_split S w v i o P allowed sound counted h
+recorded_after S (Split w at i o P) sound counted h allowed = recorded_split S w at i o P allowed sound counted h
 recorded_after S (Close w P) sound counted h allowed = recorded_close S w P allowed counted h
 recorded_after S (Down w) sound counted h allowed = recorded_idle S w (λ x. record x { closes = x.closes - 1 }) S.nodes (λ x. refl) h
 recorded_after S (SeeOpen w) sound counted h allowed = by_test (S.opened == 0)

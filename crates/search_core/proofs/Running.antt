@@ -117,8 +117,8 @@ some_fault : {R : Type 0} (f : EventFault) → Some f ≡ None → R
 some_fault f h = absurd cc
 
 serves_or_fails : (S : State) (e : Event) (f : EventFault) → early_fault S e ≡ None → IsPackingFault S e None → IsPackingFault S e (Some f) → ⊥
-serves_or_fails S (Split w v i o P) f early serves fails =
-    let h = split_early S w v i o P early in
+serves_or_fails S (Split w at i o P) f early serves fails =
+    let h = split_early S w at i o P early in
     of_held (held S w) h.made h.held (λ m. split_serves S.instance m.node.branch P (seen S w) f) serves fails
 serves_or_fails S (Close w P) f early serves fails =
     let h = up_early S w early in
@@ -126,8 +126,8 @@ serves_or_fails S (Close w P) f early serves fails =
 serves_or_fails S _ f early serves fails = some_fault f fails
 
 fails_once : (S : State) (e : Event) (f g : EventFault) → early_fault S e ≡ None → IsPackingFault S e (Some f) → IsPackingFault S e (Some g) → f ≡ g
-fails_once S (Split w v i o P) f g early a b =
-    let h = split_early S w v i o P early in
+fails_once S (Split w at i o P) f g early a b =
+    let h = split_early S w at i o P early in
     of_held (held S w) h.made h.held (λ m. split_one S.instance m.node.branch P (seen S w) f g) a b
 fails_once S (Close w P) f g early a b =
     let h = up_early S w early in

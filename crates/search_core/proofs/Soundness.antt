@@ -5,15 +5,17 @@ use Rattle.std.specs.Option.{option_map_or}
 use Rattle.std.proofs.lemmas.Bool.Decides.{nat_tests}
 use Rattle.std.proofs.lemmas.List.Elements.{All-append, All-from_recursion, All-nil, All-push, All-replicate, All-weaker, Contains-append_left, Contains-append_right}
 use Rattle.std.proofs.lemmas.List.{map-append}
+use Rattle.st_model.specs.declared.split_at.SplitAt.{SplitAt}
+use Rattle.st_model.specs.declared.split_at.SplitAt.TheVariants.{Vertex, Link}
 use Rattle.st_model.specs.Branch.{is_free, is_undecided}
 use Rattle.st_model.specs.Network.{Network, is_required}
 use Rattle.cut_packing.specs.declared.packing.Packing.{Packing}
 use Rattle.cut_packing.specs.Packing.{Fits, weight}
-use Rattle.cut_packing.specs.ProofTree.{IsSplit, Closes}
+use Rattle.cut_packing.specs.ProofTree.{IsSplit, Closes, IsSplitAt}
 use Rattle.st_model.specs.declared.branch.Branch.{Branch}
 use Rattle.branching.specs.declared.node.Node.{Node}
 use Rattle.branching.specs.Node.{IsNode}
-use Rattle.branching.proofs.NoLighter.{inside_node, outside_node}
+use Rattle.branching.proofs.NoLighter.{halves_are_no_lighter_lem}
 use Rattle.search_core.specs.declared.event.Event.{Event}
 use Rattle.search_core.specs.declared.event.Event.TheVariants.{Take, Pick, Give, Claim, See, Offer, Up, Split, Close, Down, SeeOpen, SeeHalt, Halt, Keep}
 use Rattle.search_core.specs.declared.done.Done.{Done}
@@ -22,7 +24,7 @@ use Rattle.search_core.specs.declared.made.Made.{Made}
 use Rattle.search_core.specs.State.{State, made_as, hand, held, with_made, changed_at, seen, beginning, new_worker, root_of}
 use Rattle.search_core.specs.declared.made.Place.TheVariants.{Queue}
 use Rattle.search_core.specs.declared.made.Place.TheVariants as place
-use Rattle.search_core.specs.Needs.{IsAllowed, AllowsSplit, splits_at}
+use Rattle.search_core.specs.Needs.{IsAllowed, AllowsSplit, splits_at, may_split_at}
 use Rattle.search_core.specs.Effects.{after, granted, refused, ended, halves_made, id_in_hand}
 use Rattle.search_core.specs.declared.done.End.TheVariants.{OpenZero, HaltSeen}
 use Rattle.search_core.specs.declared.worker.Worker.{Worker}
@@ -39,9 +41,10 @@ AreNodes I nodes = All (λ m. IsNode I m.node) nodes
 kept_nodes : (S : State) (id : ℕ) (f : Made → Made) → ((m : Made) → IsNode S.instance m.node → IsNode S.instance (f m).node) → IsSound S → AreNodes S.instance (with_made S.nodes id f)
 kept_nodes S id f same kept = all-with_made (λ m. IsNode S.instance m.node) S.nodes id f same kept.nodes
 
--- the test of a vertex says that the branch can be split there
-pub splits : (I : Network) (N : Node) (v : ℕ) → splits_at I N.branch v ≡ true → IsSplit I N.branch v
-splits I N v h =
+-- where the test says so, the branch can be split there
+pub splits : (I : Network) (N : Node) (at : SplitAt) → may_split_at I N.branch at ≡ true → IsSplitAt I N.branch at
+splits I N (Link a b) h = absurd cc
+splits I N (Vertex v) h =
     let p = both (nat_le 1 v && nat_le v I.n) (is_free I N.branch v) h in
     let q = both (nat_le 1 v) (nat_le v I.n) p.0 in
     let r = both (is_undecided N.branch v) (not (is_required I v)) p.1 in
@@ -66,20 +69,21 @@ held_found P S w m all e = by_hand (hand S w) e
     by_hand None e = absurd cc
     by_hand (Some id) e = all-found P S.nodes id m all e
 
-halves_nodes : (I : Network) (k : Option Made) (w v i o : ℕ) (P : Packing) → IfSome k (λ m. IsNode I m.node × IsSplit I m.node.branch v × Fits I m.node.branch P) → AreNodes I (halves_made k w v i o P)
-halves_nodes I None w v i o P h = All-nil (λ m. IsNode I m.node)
-halves_nodes I (Some m) w v i o P h =
+halves_nodes : (I : Network) (k : Option Made) (w : ℕ) (at : SplitAt) (i o : ℕ) (P : Packing) → IfSome k (λ m. IsNode I m.node × IsSplitAt I m.node.branch at × Fits I m.node.branch P) → AreNodes I (halves_made k w at i o P)
+halves_nodes I None w at i o P h = All-nil (λ m. IsNode I m.node)
+halves_nodes I (Some m) w at i o P h =
     let node : IsNode I (record m.node { packing = P }) = record { branch = h.0.branch; required = h.0.required; fits = h.2 } in
-    All-from_recursion (λ m. IsNode I m.node) (halves_made (Some m) w v i o P) (inside_node I (record m.node { packing = P }) v i node h.1, (outside_node I (record m.node { packing = P }) v o node h.1, tt))
+    let halves = halves_are_no_lighter_lem I (record m.node { packing = P }) at i o node h.1 in
+    All-from_recursion (λ m. IsNode I m.node) (halves_made (Some m) w at i o P) (halves.0.node, (halves.1.node, tt))
 
 -- what the need of a split says of the node in hand
-split_halves : (S : State) (w v i o : ℕ) (P : Packing) → IsSound S → IsAllowed S (Split w v i o P) → AreNodes S.instance (halves_made (held S w) w v i o P)
-split_halves S w v i o P kept allowed =
-    by_held (held S w) refl (split_early S w v i o P allowed.early).vertex allowed.packing
+split_halves : (S : State) (w : ℕ) (at : SplitAt) (i o : ℕ) (P : Packing) → IsSound S → IsAllowed S (Split w at i o P) → AreNodes S.instance (halves_made (held S w) w at i o P)
+split_halves S w at i o P kept allowed =
+    by_held (held S w) refl (split_early S w at i o P allowed.early).vertex allowed.packing
   where
-    by_held : (k : Option Made) → held S w ≡ k → option_map_or (λ m. splits_at S.instance m.node.branch v) k false ≡ true → IfSome k (λ m. AllowsSplit S.instance m.node.branch P (seen S w)) → AreNodes S.instance (halves_made k w v i o P)
+    by_held : (k : Option Made) → held S w ≡ k → option_map_or (λ m. may_split_at S.instance m.node.branch at) k false ≡ true → IfSome k (λ m. AllowsSplit S.instance m.node.branch P (seen S w)) → AreNodes S.instance (halves_made k w at i o P)
     by_held None e vertex allows = All-nil (λ m. IsNode S.instance m.node)
-    by_held (Some m) e vertex allows = halves_nodes S.instance (Some m) w v i o P (held_found (λ m. IsNode S.instance m.node) S w m kept.nodes e, splits S.instance m.node v vertex, allows.fits)
+    by_held (Some m) e vertex allows = halves_nodes S.instance (Some m) w at i o P (held_found (λ m. IsNode S.instance m.node) S w m kept.nodes e, splits S.instance m.node at vertex, allows.fits)
 
 -- what was made before is among what is made after
 abbrev pub AreMore : List Node → List Node → Type 0
@@ -87,7 +91,7 @@ AreMore nodes more = (N : Node) → Contains nodes N → Contains more N
 
 -- a record stays sound where more nodes are made, and a lower value is seen
 record-kept : (I : Network) (start : ℕ) (nodes more : List Node) (seen lower : ℕ) → AreMore nodes more → lower ≤ seen → (d : Done) → IsSoundRecord I start nodes seen d → IsSoundRecord I start more lower d
-record-kept I start nodes more seen lower grown low (done.Split id v i o P) (N, h) = (N, record { node = grown N h.node; id_is = h.id_is; vertex = h.vertex; packing = h.packing; inside_made = grown _ h.inside_made; outside_made = grown _ h.outside_made })
+record-kept I start nodes more seen lower grown low (done.Split id at i o P) (N, h) = (N, record { node = grown N h.node; id_is = h.id_is; vertex = h.vertex; packing = h.packing; inside_made = grown _ h.inside_made; outside_made = grown _ h.outside_made })
 record-kept I start nodes more seen lower grown low (done.Close id P) (N, h) = (N, record { node = grown N h.node; id_is = h.id_is; packing = record { fits = h.packing.fits; weighs = at_least lower seen (weight I N.branch P) low h.packing.weighs } })
   where
     at_least : (a b c : ℕ) → a ≤ b → b ≤ c → a ≤ c
@@ -210,37 +214,37 @@ allows_below I B P x y bound allows = record { fits = allows.fits; full = elim a
     lower a b c h k = omega arith
 
 -- the nodes after a split: those before it, and the halves
-split_nodes : (S : State) (w v i o : ℕ) (P : Packing) (id : ℕ) (m : Made) → made_nodes (split_state S w v i o P id m) ≡ made_nodes S ++ (inside_made m w v i P).node ∷ (outside_made m w v o P).node ∷ []
-split_nodes S w v i o P id m =
-    nodes-with_made (S.nodes ++ inside_made m w v i P ∷ outside_made m w v o P ∷ []) id (λ m. record m { place = place.Split }) (λ m. refl)
-    ∙ map-append (λ (m : Made). m.node) S.nodes (inside_made m w v i P ∷ outside_made m w v o P ∷ [])
+split_nodes : (S : State) (w : ℕ) (at : SplitAt) (i o : ℕ) (P : Packing) (id : ℕ) (m : Made) → made_nodes (split_state S w at i o P id m) ≡ made_nodes S ++ (inside_made m w at i P).node ∷ (outside_made m w at o P).node ∷ []
+split_nodes S w at i o P id m =
+    nodes-with_made (S.nodes ++ inside_made m w at i P ∷ outside_made m w at o P ∷ []) id (λ m. record m { place = place.Split }) (λ m. refl)
+    ∙ map-append (λ (m : Made). m.node) S.nodes (inside_made m w at i P ∷ outside_made m w at o P ∷ [])
 
 -- a split of a node at a vertex where it can be, on a packing that allows it
-kept_halves : (S : State) (w v i o : ℕ) (P : Packing) (id : ℕ) (m : Made) → made_as S id ≡ Some m → IsSplit S.instance m.node.branch v → AllowsSplit S.instance m.node.branch P (seen S w) → AreNodes S.instance (halves_made (Some m) w v i o P) → IsSound S → IsSound (split_state S w v i o P id m)
-kept_halves S w v i o P id m found vertex allows halves kept = record {
-  nodes = all-with_made (λ m. IsNode S.instance m.node) (S.nodes ++ halves_made (Some m) w v i o P) id _ (λ m h. h) (All-append (λ m. IsNode S.instance m.node) S.nodes (halves_made (Some m) w v i o P) kept.nodes halves);
+kept_halves : (S : State) (w : ℕ) (at : SplitAt) (i o : ℕ) (P : Packing) (id : ℕ) (m : Made) → made_as S id ≡ Some m → IsSplitAt S.instance m.node.branch at → AllowsSplit S.instance m.node.branch P (seen S w) → AreNodes S.instance (halves_made (Some m) w at i o P) → IsSound S → IsSound (split_state S w at i o P id m)
+kept_halves S w at i o P id m found vertex allows halves kept = record {
+  nodes = all-with_made (λ m. IsNode S.instance m.node) (S.nodes ++ halves_made (Some m) w at i o P) id _ (λ m h. h) (All-append (λ m. IsNode S.instance m.node) S.nodes (halves_made (Some m) w at i o P) kept.nodes halves);
   workers = all-changed _ _ S.workers w _ (λ x h. kept_one x h) (λ x e h. work x e h) kept.workers;
   least = same_least S w _ (λ x. refl) kept;
   claims = kept.claims;
 }
   where
-    halves_are : (N : Node) → Contains ((inside_made m w v i P).node ∷ (outside_made m w v o P).node ∷ []) N → Contains (made_nodes (split_state S w v i o P id m)) N
-    halves_are N h = rw (split_nodes S w v i o P id m) (Contains-append_right (made_nodes S) ((inside_made m w v i P).node ∷ (outside_made m w v o P).node ∷ []) N h)
+    halves_are : (N : Node) → Contains ((inside_made m w at i P).node ∷ (outside_made m w at o P).node ∷ []) N → Contains (made_nodes (split_state S w at i o P id m)) N
+    halves_are N h = rw (split_nodes S w at i o P id m) (Contains-append_right (made_nodes S) ((inside_made m w at i P).node ∷ (outside_made m w at o P).node ∷ []) N h)
 
-    grown : AreMore (made_nodes S) (made_nodes (split_state S w v i o P id m))
-    grown N h = rw (split_nodes S w v i o P id m) (Contains-append_left (made_nodes S) ((inside_made m w v i P).node ∷ (outside_made m w v o P).node ∷ []) N h)
+    grown : AreMore (made_nodes S) (made_nodes (split_state S w at i o P id m))
+    grown N h = rw (split_nodes S w at i o P id m) (Contains-append_left (made_nodes S) ((inside_made m w at i P).node ∷ (outside_made m w at o P).node ∷ []) N h)
 
-    kept_one : (x : Worker) → IsSoundWork S.instance S.start S.least (made_nodes S) x.seen x.done → IsSoundWork S.instance S.start S.least (made_nodes (split_state S w v i o P id m)) x.seen x.done
-    kept_one x h = work-kept S.instance S.start S.least S.least (made_nodes S) (made_nodes (split_state S w v i o P id m)) x.seen x.seen x.done grown (omega arith) h.low h
+    kept_one : (x : Worker) → IsSoundWork S.instance S.start S.least (made_nodes S) x.seen x.done → IsSoundWork S.instance S.start S.least (made_nodes (split_state S w at i o P id m)) x.seen x.done
+    kept_one x h = work-kept S.instance S.start S.least S.least (made_nodes S) (made_nodes (split_state S w at i o P id m)) x.seen x.seen x.done grown (omega arith) h.low h
 
     at_most : (a b c : ℕ) → a ≡ b → b ≤ c → a ≤ c
     at_most a b c h k = omega arith
 
-    work : (x : Worker) → slice_get S.workers w ≡ Some x → IsSoundWork S.instance S.start S.least (made_nodes S) x.seen x.done → IsSoundWork S.instance S.start S.least (made_nodes (split_state S w v i o P id m)) x.seen (x.done ++ done.Split id v i o P ∷ [])
+    work : (x : Worker) → slice_get S.workers w ≡ Some x → IsSoundWork S.instance S.start S.least (made_nodes S) x.seen x.done → IsSoundWork S.instance S.start S.least (made_nodes (split_state S w at i o P id m)) x.seen (x.done ++ done.Split id at i o P ∷ [])
     work x e h = record {
       low = h.low;
       high = h.high;
-      records = All-push (IsSoundRecord S.instance S.start (made_nodes (split_state S w v i o P id m)) x.seen) x.done (done.Split id v i o P) (kept_one x h).records (
+      records = All-push (IsSoundRecord S.instance S.start (made_nodes (split_state S w at i o P id m)) x.seen) x.done (done.Split id at i o P) (kept_one x h).records (
         m.node,
         record {
           node = grown m.node (found-among S.nodes id m found);
@@ -282,15 +286,15 @@ kept_closed S w P m id in_hand found closes kept = record {
       );
     }
 
-kept_split : (S : State) (w v i o : ℕ) (P : Packing) → IsSound S → IsAllowed S (Split w v i o P) → IsSound (after S (Split w v i o P))
-kept_split S w v i o P kept allowed =
-    let early = split_early S w v i o P allowed.early in
+kept_split : (S : State) (w : ℕ) (at : SplitAt) (i o : ℕ) (P : Packing) → IsSound S → IsAllowed S (Split w at i o P) → IsSound (after S (Split w at i o P))
+kept_split S w at i o P kept allowed =
+    let early = split_early S w at i o P allowed.early in
     let m = early.made in
-    let at = held_node S w m early.held in
-    let halves : AreNodes S.instance (halves_made (Some m) w v i o P) = subst (λ (k : Option Made). AreNodes S.instance (halves_made k w v i o P)) early.held (split_halves S w v i o P kept allowed) in
-    let vertex : splits_at S.instance m.node.branch v ≡ true = subst (λ (k : Option Made). option_map_or (λ m. splits_at S.instance m.node.branch v) k false ≡ true) early.held early.vertex in
+    let here = held_node S w m early.held in
+    let halves : AreNodes S.instance (halves_made (Some m) w at i o P) = subst (λ (k : Option Made). AreNodes S.instance (halves_made k w at i o P)) early.held (split_halves S w at i o P kept allowed) in
+    let vertex : may_split_at S.instance m.node.branch at ≡ true = subst (λ (k : Option Made). option_map_or (λ m. may_split_at S.instance m.node.branch at) k false ≡ true) early.held early.vertex in
     let allows : AllowsSplit S.instance m.node.branch P (seen S w) = subst (λ (k : Option Made). IfSome k (λ m. AllowsSplit S.instance m.node.branch P (seen S w))) early.held allowed.packing in
-    subst (λ (T : State). IsSound T) (sym (after_split S w v i o P at.id m at.in_hand at.found)) (kept_halves S w v i o P at.id m at.found (splits S.instance m.node v vertex) allows halves kept)
+    subst (λ (T : State). IsSound T) (sym (after_split S w at i o P here.id m here.in_hand here.found)) (kept_halves S w at i o P here.id m here.found (splits S.instance m.node at vertex) allows halves kept)
 
 kept_close : (S : State) (w : ℕ) (P : Packing) → IsSound S → IsAllowed S (Close w P) → IsSound (after S (Close w P))
 kept_close S w P kept allowed =
@@ -309,7 +313,7 @@ sound_after S (Claim w) kept allowed = kept_claim S w kept
 sound_after S (See w) kept allowed = kept_see S w kept
 sound_after S (Offer w value) kept allowed = kept_offer S w value (see_early S w allowed.early) kept
 sound_after S (Up w) kept allowed = sound_idle S w _ (S.opened + 1) (λ x. refl) (λ x. refl) (λ x. refl) kept
-sound_after S (Split w v i o P) kept allowed = kept_split S w v i o P kept allowed
+sound_after S (Split w at i o P) kept allowed = kept_split S w at i o P kept allowed
 sound_after S (Close w P) kept allowed = kept_close S w P kept allowed
 sound_after S (Down w) kept allowed = sound_idle S w _ (S.opened - 1) (λ x. refl) (λ x. refl) (λ x. refl) kept
 sound_after S (SeeOpen w) kept allowed = by_test (S.opened == 0)

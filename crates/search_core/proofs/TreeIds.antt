@@ -1,6 +1,7 @@
 -- The ids of the nodes of a tree that is read off.
 use Rattle.std.proofs.Common.{◌≡◌, ℕ, suc, ◌+◌, ◌≤◌, List, [], ◌∷◌, ◌++◌, length, map, refl, subst, arith, inl, inr, length-append}
 use Rattle.std.specs.Prelude.{Contains}
+use Rattle.st_model.specs.declared.split_at.SplitAt.{SplitAt}
 use Rattle.st_model.specs.declared.branch.Branch.{Branch}
 use Rattle.cut_packing.specs.declared.packing.Packing.{Packing}
 use Rattle.cut_packing.specs.ProofTree.{ProofTree}
@@ -65,27 +66,27 @@ both_roots i o j k b xs ys e f m n = (
 )
 
 -- where a tree has a node that was split, it has both halves
-goes_on : (G : Gathered) → AreOnce G → (a v i o : ℕ) (P : Packing) → Contains (records G) (Split a v i o P) → (id : ℕ) (p : ProofTree) (read : IsReadOff G id p)
+goes_on : (G : Gathered) → AreOnce G → (a : ℕ) (at : SplitAt) (i o : ℕ) (P : Packing) → Contains (records G) (Split a at i o P) → (id : ℕ) (p : ProofTree) (read : IsReadOff G id p)
     → 1 ≤ times a (ids_of G id p read) → HasBoth i o (ids_of G id p read)
-goes_on G once a v i o P there id p (closed {id = b} {P = Q} c) h =
-    let same : Close b Q ≡ Split a v i o P = one_record G (Close b Q) (Split a v i o P) once c there (times-single a b h) in
+goes_on G once a at i o P there id p (closed {id = b} {P = Q} c) h =
+    let same : Close b Q ≡ Split a at i o P = one_record G (Close b Q) (Split a at i o P) once c there (times-single a b h) in
     absurd cc
-goes_on G once a v i o P there id p (waits {N} c) h = absurd (not_both G (Split a v i o P) N once there c (times-single a N.id h))
-goes_on G once a v i o P there id p (was_split {id = b} {v = w} {i = j} {o = k} {P = Q} {inside} {outside} c l r) h =
+goes_on G once a at i o P there id p (waits {N} c) h = absurd (not_both G (Split a at i o P) N once there c (times-single a N.id h))
+goes_on G once a at i o P there id p (was_split {id = b} {at = w} {i = j} {o = k} {P = Q} {inside} {outside} c l r) h =
     elim (times-cases a b (ids_of G j inside l ++ ids_of G k outside r) h) [
       | inl is ↦
-          let same : Split b w j k Q ≡ Split a v i o P = one_record G (Split b w j k Q) (Split a v i o P) once c there is in
+          let same : Split b w j k Q ≡ Split a at i o P = one_record G (Split b w j k Q) (Split a at i o P) once c there is in
           let insides : j ≡ i = cc in
           let outsides : k ≡ o = cc in
           both_roots i o j k b (ids_of G j inside l) (ids_of G k outside r) insides outsides (root_there G j inside l) (root_there G k outside r)
       | inr rest ↦ elim (times-either a (ids_of G j inside l) (ids_of G k outside r) rest) [
-        | inl m ↦ both_inside i o b (ids_of G j inside l) (ids_of G k outside r) (goes_on G once a v i o P there j inside l m)
-        | inr m ↦ both_outside i o b (ids_of G j inside l) (ids_of G k outside r) (goes_on G once a v i o P there k outside r m)
+        | inl m ↦ both_inside i o b (ids_of G j inside l) (ids_of G k outside r) (goes_on G once a at i o P there j inside l m)
+        | inr m ↦ both_outside i o b (ids_of G j inside l) (ids_of G k outside r) (goes_on G once a at i o P there k outside r m)
       ]
     ]
 
 -- each node that was made is one of the tree's
 pub made_in_tree : (G : Gathered) (R : Branch) → AreOnce G → (p : ProofTree) (read : IsReadOff G 0 p) (id : ℕ) (B : Branch) → IsMade R (records G) id B → 1 ≤ times id (ids_of G 0 p read)
 made_in_tree G R once p read id B root = root_there G 0 p read
-made_in_tree G R once p read id B (inside_of {id = a} {v} {i} {o} {P} {B = C} c m) = (goes_on G once a v i o P c 0 p read (made_in_tree G R once p read a C m)).0
-made_in_tree G R once p read id B (outside_of {id = a} {v} {i} {o} {P} {B = C} c m) = (goes_on G once a v i o P c 0 p read (made_in_tree G R once p read a C m)).1
+made_in_tree G R once p read id B (inside_of {id = a} {at} {i} {o} {P} {B = C} c m) = (goes_on G once a at i o P c 0 p read (made_in_tree G R once p read a C m)).0
+made_in_tree G R once p read id B (outside_of {id = a} {at} {i} {o} {P} {B = C} c m) = (goes_on G once a at i o P c 0 p read (made_in_tree G R once p read a C m)).1

@@ -1,15 +1,16 @@
 -- When what is gathered of a search accounts for every node that was made, and when it is finished.
 use Rattle.std.specs.Prelude.{◌≡◌, ℕ, ◌≤◌, ◌==◌, min, List, [], ◌∷◌, ◌++◌, length, map, All, Contains, if◌then◌else◌, IfSome, Option, Some, None, ◌⊎◌}
 use Rattle.std.specs.List.{flat_map}
+use Rattle.st_model.specs.declared.split_at.SplitAt.{SplitAt}
 use Rattle.st_model.specs.declared.branch.Branch.{Branch}
 use Rattle.st_model.specs.declared.tree.Tree.{Tree}
 use Rattle.st_model.specs.Arborescence.{IsTree, cost}
-use Rattle.st_model.specs.Branch.{Belongs, with_inside, with_outside}
+use Rattle.st_model.specs.Branch.{Belongs, yes_half, no_half}
 use Rattle.st_model.specs.Lists.{total}
 use Rattle.st_model.specs.Network.{Network}
 use Rattle.cut_packing.specs.declared.packing.Packing.{Packing}
 use Rattle.cut_packing.specs.Packing.{Fits, weight}
-use Rattle.cut_packing.specs.ProofTree.{IsSplit, Closes}
+use Rattle.cut_packing.specs.ProofTree.{Closes, IsSplitAt}
 use Rattle.branching.specs.declared.node.Node.{Node}
 use Rattle.search_core.specs.declared.done.Done.{Done}
 use Rattle.search_core.specs.declared.done.Done.TheVariants.{Split, Close}
@@ -27,12 +28,12 @@ waiting G = flat_map (λ s. s.left) G.segments ++ G.queued
 
 -- the id of the node that was split or closed
 abbrev pub done_id : Done → ℕ
-done_id (Split id v inside outside P) = id
+done_id (Split id at inside outside P) = id
 done_id (Close id P) = id
 
 -- the packing on which the node was split, or by which it was closed
 abbrev pub done_packing : Done → Packing
-done_packing (Split id v inside outside P) = P
+done_packing (Split id at inside outside P) = P
 done_packing (Close id P) = P
 
 -- each packing has a property: that of each record, and that of each node that waits
@@ -41,7 +42,7 @@ AllPackings Q G = All (λ d. Q (done_packing d)) (records G) × All (λ N. Q N.p
 
 -- the ids of the halves that were made
 abbrev pub half_ids : Done → List ℕ
-half_ids (Split id v inside outside P) = inside ∷ outside ∷ []
+half_ids (Split id at inside outside P) = inside ∷ outside ∷ []
 half_ids (Close id P) = []
 
 -- the ids under which nodes were made: 0, and those of both halves of each split
@@ -60,13 +61,13 @@ times id ids = total (λ other. if other == id then 1 else 0) ids
 -- that was made and split
 pub data IsMade (R : Branch) (done : List Done) : ℕ → Branch → Type 0 where
   root : IsMade R done 0 R
-  inside_of : {id v i o : ℕ} {P : Packing} {B : Branch} → Contains done (Split id v i o P) → IsMade R done id B → IsMade R done i (with_inside B v)
-  outside_of : {id v i o : ℕ} {P : Packing} {B : Branch} → Contains done (Split id v i o P) → IsMade R done id B → IsMade R done o (with_outside B v)
+  inside_of : {id : ℕ} {at : SplitAt} {i o : ℕ} {P : Packing} {B : Branch} → Contains done (Split id at i o P) → IsMade R done id B → IsMade R done i (yes_half B at)
+  outside_of : {id : ℕ} {at : SplitAt} {i o : ℕ} {P : Packing} {B : Branch} → Contains done (Split id at i o P) → IsMade R done id B → IsMade R done o (no_half B at)
 
 -- a node was split at a vertex where its branch can be split, on a packing that allows it below the start cost
-pub record IsRightSplit (I : Network) (R : Branch) (start : ℕ) (done : List Done) (id v : ℕ) (P : Packing) (B : Branch) : Type 0 where
+pub record IsRightSplit (I : Network) (R : Branch) (start : ℕ) (done : List Done) (id : ℕ) (at : SplitAt) (P : Packing) (B : Branch) : Type 0 where
   pub made : IsMade R done id B
-  pub vertex : IsSplit I B v
+  pub vertex : IsSplitAt I B at
   pub packing : AllowsSplit I B P start
 
 -- a node was closed by a packing that fits its branch and weighs at least what the worker saw last
@@ -76,13 +77,13 @@ pub record IsRightClose (I : Network) (R : Branch) (seen : ℕ) (done : List Don
 
 -- what was done with a node that was made
 abbrev pub IsRightRecord : Network → Branch → ℕ → List Done → ℕ → Done → Type 0
-IsRightRecord I R start done seen (Split id v i o P) = (B : Branch) × IsRightSplit I R start done id v P B
+IsRightRecord I R start done seen (Split id at i o P) = (B : Branch) × IsRightSplit I R start done id at P B
 IsRightRecord I R start done seen (Close id P) = (B : Branch) × IsRightClose I R seen done id P B
 
 -- the id is that of a half of a split, on this packing, of the node under the other id
 pub data IsHalf (done : List Done) (id : ℕ) (P : Packing) : ℕ → Type 0 where
-  inside : {v i o : ℕ} → Contains done (Split id v i o P) → IsHalf done id P i
-  outside : {v i o : ℕ} → Contains done (Split id v i o P) → IsHalf done id P o
+  inside : {at : SplitAt} {i o : ℕ} → Contains done (Split id at i o P) → IsHalf done id P i
+  outside : {at : SplitAt} {i o : ℕ} → Contains done (Split id at i o P) → IsHalf done id P o
 
 -- a node weighs at least what the split weighs that made it
 pub record WeighsAsSplit (I : Network) (R : Branch) (done : List Done) (N : Node) (id : ℕ) (P : Packing) (B : Branch) : Type 0 where

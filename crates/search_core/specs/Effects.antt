@@ -1,8 +1,9 @@
 -- What each event does to the state.
 use Rattle.std.specs.Prelude.{ℕ, ◌+◌, ◌-◌, ◌==◌, min, true, false, nat_lt, if◌then◌else◌, List, [], ◌∷◌, ◌++◌, Option, Some, None, unwrap_or}
+use Rattle.st_model.specs.declared.split_at.SplitAt.{SplitAt}
 use Rattle.cut_packing.specs.declared.packing.Packing.{Packing}
 use Rattle.branching.specs.declared.node.Node.{Node}
-use Rattle.branching.specs.Node.{inside_half, outside_half}
+use Rattle.branching.specs.Node.{yes_node, no_node}
 use Rattle.search_core.specs.declared.done.Done.{Done}
 use Rattle.search_core.specs.declared.done.Done.TheVariants as done
 use Rattle.search_core.specs.declared.done.End.{End}
@@ -44,12 +45,12 @@ abbrev pub refused : State → ℕ → State
 refused S w = with_worker S w (λ x. record x { refused = true; end = ClaimRefused })
 
 -- both halves of a node that is split by w, the one inside in its hand, and the other fresh
-abbrev pub halves_made : Option Made → ℕ → ℕ → ℕ → ℕ → Packing → List Made
-halves_made None w v inside outside P = []
-halves_made (Some m) w v inside outside P =
+abbrev pub halves_made : Option Made → ℕ → SplitAt → ℕ → ℕ → Packing → List Made
+halves_made None w at inside outside P = []
+halves_made (Some m) w at inside outside P =
     let N : Node = record m.node { packing = P } in
-    record { node = inside_half N v inside; place = place.Hand w; claimed = false }
-    ∷ record { node = outside_half N v outside; place = place.Fresh w; claimed = false }
+    record { node = yes_node N at inside; place = place.Hand w; claimed = false }
+    ∷ record { node = no_node N at outside; place = place.Fresh w; claimed = false }
     ∷ []
 
 -- the halves join the nodes, and w holds the one inside
@@ -70,7 +71,7 @@ after S (Claim w) = if nat_lt S.claims S.budget then granted S w else refused S 
 after S (See w) = with_worker S w (λ x. record x { seen = S.least })
 after S (Offer w value) = record (with_worker S w (λ x. record x { seen = min S.least value; offered = min x.offered value })) { least = min S.least value }
 after S (Up w) = record (with_worker S w (λ x. record x { up = true })) { opened = S.opened + 1 }
-after S (Split w v inside outside P) = moved (split_into S w (halves_made (held S w) w v inside outside P) inside (done.Split (id_in_hand S w) v inside outside P)) (id_in_hand S w) place.Split
+after S (Split w at inside outside P) = moved (split_into S w (halves_made (held S w) w at inside outside P) inside (done.Split (id_in_hand S w) at inside outside P)) (id_in_hand S w) place.Split
 after S (Close w P) = moved (close_done S w (done.Close (id_in_hand S w) P)) (id_in_hand S w) place.Closed
 after S (Down w) = record (with_worker S w (λ x. record x { closes = x.closes - 1 })) { opened = S.opened - 1 }
 after S (SeeOpen w) = if S.opened == 0 then ended S w OpenZero else S

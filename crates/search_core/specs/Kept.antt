@@ -1,13 +1,14 @@
 -- What every state keeps that a search reaches from its beginning.
 use Rattle.std.specs.Prelude.{◌≡◌, ℕ, ◌+◌, ◌<◌, ◌≤◌, min, Bool, true, not, if◌then◌else◌, Some, List, [], ◌∷◌, length, map, filter, find, All, Contains}
 use Rattle.std.specs.List.{flat_map}
+use Rattle.st_model.specs.declared.split_at.SplitAt.{SplitAt}
 use Rattle.st_model.specs.declared.branch.Branch.{Branch}
 use Rattle.st_model.specs.Lists.{total}
 use Rattle.st_model.specs.Network.{Network}
 use Rattle.cut_packing.specs.declared.packing.Packing.{Packing}
-use Rattle.cut_packing.specs.ProofTree.{IsSplit, Closes}
+use Rattle.cut_packing.specs.ProofTree.{Closes, IsSplitAt}
 use Rattle.branching.specs.declared.node.Node.{Node}
-use Rattle.branching.specs.Node.{IsNode, inside_half, outside_half}
+use Rattle.branching.specs.Node.{IsNode, yes_node, no_node}
 use Rattle.search_core.specs.declared.done.Done.{Done}
 use Rattle.search_core.specs.declared.done.Done.TheVariants.{Split, Close}
 use Rattle.search_core.specs.declared.worker.Worker.{Worker}
@@ -29,13 +30,13 @@ least_offered start [] = start
 least_offered start (x ∷ xs) = min x.offered (least_offered start xs)
 
 -- a node was split at a vertex where it can be, on a packing that allows it below the start cost, and both halves were made
-pub record IsSoundSplit (I : Network) (start : ℕ) (nodes : List Node) (id v inside outside : ℕ) (P : Packing) (N : Node) : Type 0 where
+pub record IsSoundSplit (I : Network) (start : ℕ) (nodes : List Node) (id : ℕ) (at : SplitAt) (inside outside : ℕ) (P : Packing) (N : Node) : Type 0 where
   pub node : Contains nodes N
   pub id_is : N.id ≡ id
-  pub vertex : IsSplit I N.branch v
+  pub vertex : IsSplitAt I N.branch at
   pub packing : AllowsSplit I N.branch P start
-  pub inside_made : Contains nodes (inside_half (record N { packing = P }) v inside)
-  pub outside_made : Contains nodes (outside_half (record N { packing = P }) v outside)
+  pub inside_made : Contains nodes (yes_node (record N { packing = P }) at inside)
+  pub outside_made : Contains nodes (no_node (record N { packing = P }) at outside)
 
 -- a node was closed by a packing that fits it and weighs at least what was seen
 pub record IsSoundClose (I : Network) (seen : ℕ) (nodes : List Node) (id : ℕ) (P : Packing) (N : Node) : Type 0 where
@@ -45,7 +46,7 @@ pub record IsSoundClose (I : Network) (seen : ℕ) (nodes : List Node) (id : ℕ
 
 -- a record of a worker that saw this value last
 abbrev pub IsSoundRecord : Network → ℕ → List Node → ℕ → Done → Type 0
-IsSoundRecord I start nodes seen (Split id v inside outside P) = (N : Node) × IsSoundSplit I start nodes id v inside outside P N
+IsSoundRecord I start nodes seen (Split id at inside outside P) = (N : Node) × IsSoundSplit I start nodes id at inside outside P N
 IsSoundRecord I start nodes seen (Close id P) = (N : Node) × IsSoundClose I seen nodes id P N
 
 -- a worker saw a value between the least and the start cost, and its records are sound

@@ -2,6 +2,8 @@
 use Rattle.std.specs.Prelude.{◌≡◌, ℕ, ◌<◌, ◌==◌, Bool, true, false, not, ◌&&◌, ◌||◌, nat_lt, nat_le, if◌then◌else◌, List, [], ◌∷◌, length, Option, Some, None, is_none, is_some, slice_get, IfSome, ◌⊎◌}
 use Rattle.std.specs.Option.{option_map_or}
 use Rattle.st_model.specs.declared.branch.Branch.{Branch}
+use Rattle.st_model.specs.declared.split_at.SplitAt.{SplitAt}
+use Rattle.st_model.specs.declared.split_at.SplitAt.TheVariants.{Vertex, Link}
 use Rattle.st_model.specs.Branch.{is_free, NoneIsCertain}
 use Rattle.st_model.specs.Network.{Network}
 use Rattle.cut_packing.specs.declared.packing.Packing.{Packing}
@@ -57,13 +59,18 @@ up_waits S w = option_map_or (λ x. x.up) (slice_get S.workers w) false
 abbrev pub close_waits : State → ℕ → Bool
 close_waits S w = option_map_or (λ x. nat_lt 0 x.closes) (slice_get S.workers w) false
 
--- whether a branch can be split at v
+-- whether a branch can be split at the vertex v
 abbrev pub splits_at : Network → Branch → ℕ → Bool
 splits_at I B v = nat_le 1 v && nat_le v I.n && is_free I B v
 
--- whether the node in the hand of w can be split at v
-abbrev pub can_split : State → ℕ → ℕ → Bool
-can_split S w v = option_map_or (λ m. splits_at S.instance m.node.branch v) (held S w) false
+-- whether it can be split here: at no link so far
+abbrev pub may_split_at : Network → Branch → SplitAt → Bool
+may_split_at I B (Vertex v) = splits_at I B v
+may_split_at I B (Link a b) = false
+
+-- whether the node in the hand of w can be split here
+abbrev pub can_split : State → ℕ → SplitAt → Bool
+can_split S w at = option_map_or (λ m. may_split_at S.instance m.node.branch at) (held S w) false
 
 -- whether a node was made under this id
 abbrev pub is_used : State → ℕ → Bool
@@ -83,7 +90,7 @@ early_fault S (Claim w) = first ((no_worker S w, NoWorker) ∷ (is_none (held S 
 early_fault S (See w) = first ((no_worker S w, NoWorker) ∷ [])
 early_fault S (Offer w value) = first ((no_worker S w, NoWorker) ∷ [])
 early_fault S (Up w) = first ((no_worker S w, NoWorker) ∷ (is_none (held S w), HandEmpty) ∷ (not (is_claimed S w), NotClaimed) ∷ (up_waits S w, OutOfTurn) ∷ [])
-early_fault S (Split w v inside outside P) = first ((no_worker S w, NoWorker) ∷ (is_none (held S w), HandEmpty) ∷ (not (up_waits S w), OutOfTurn) ∷ (not (can_split S w v), BadVertex) ∷ ((inside == outside) || is_used S inside || is_used S outside, UsedId) ∷ [])
+early_fault S (Split w at inside outside P) = first ((no_worker S w, NoWorker) ∷ (is_none (held S w), HandEmpty) ∷ (not (up_waits S w), OutOfTurn) ∷ (not (can_split S w at), BadVertex) ∷ ((inside == outside) || is_used S inside || is_used S outside, UsedId) ∷ [])
 early_fault S (Close w P) = first ((no_worker S w, NoWorker) ∷ (is_none (held S w), HandEmpty) ∷ (not (is_claimed S w), NotClaimed) ∷ (up_waits S w, OutOfTurn) ∷ [])
 early_fault S (Down w) = first ((no_worker S w, NoWorker) ∷ (not (close_waits S w), OutOfTurn) ∷ [])
 early_fault S (SeeOpen w) = first ((no_worker S w, NoWorker) ∷ [])
@@ -116,7 +123,7 @@ IsCloseFault I B P x _ = ⊥
 
 -- the fault of an event's packing, if it has one, where no other need fails
 abbrev pub IsPackingFault : State → Event → Option EventFault → Type 0
-IsPackingFault S (Split w v inside outside P) fault = IfSome (held S w) (λ m. IsSplitFault S.instance m.node.branch P (seen S w) fault)
+IsPackingFault S (Split w at inside outside P) fault = IfSome (held S w) (λ m. IsSplitFault S.instance m.node.branch P (seen S w) fault)
 IsPackingFault S (Close w P) fault = IfSome (held S w) (λ m. IsCloseFault S.instance m.node.branch P (seen S w) fault)
 IsPackingFault S _ fault = fault ≡ None
 

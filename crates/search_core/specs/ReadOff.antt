@@ -1,8 +1,9 @@
 -- The proof tree that is read off what was gathered.
 use Rattle.std.specs.Prelude.{◌≡◌, ℕ, ◌≤◌, min, IsTrue, IsFalse, [], Contains}
 use Rattle.std.specs.Prelude.{◌+◌, ◌^◌, ◌<◌, length, nat_lt, if◌then◌else◌}
+use Rattle.st_model.specs.declared.split_at.SplitAt.{SplitAt}
 use Rattle.st_model.specs.declared.branch.Branch.{Branch}
-use Rattle.st_model.specs.Branch.{Belongs, with_inside, with_outside}
+use Rattle.st_model.specs.Branch.{Belongs, yes_half, no_half}
 use Rattle.st_model.specs.declared.tree.Tree.{Tree}
 use Rattle.st_model.specs.Arborescence.{IsTree, cost}
 use Rattle.st_model.specs.Lists.{has}
@@ -20,12 +21,12 @@ use Rattle.search_core.specs.FreeVertices.{free_count}
 pub data IsReadOff (G : Gathered) : ℕ → ProofTree → Type 0 where
   closed : {id : ℕ} {P : Packing} → Contains (records G) (Close id P) → IsReadOff G id (close P)
   waits : {N : Node} → Contains (waiting G) N → IsReadOff G N.id (close N.packing)
-  was_split : {id v i o : ℕ} {P : Packing} {inside outside : ProofTree} → Contains (records G) (Split id v i o P) → IsReadOff G i inside → IsReadOff G o outside → IsReadOff G id (split v inside outside)
+  was_split : {id : ℕ} {at : SplitAt} {i o : ℕ} {P : Packing} {inside outside : ProofTree} → Contains (records G) (Split id at i o P) → IsReadOff G i inside → IsReadOff G o outside → IsReadOff G id (split at inside outside)
 
 -- the least weight of the closes of a tree for a branch
 abbrev pub least_weight : Network → Branch → ProofTree → ℕ
 least_weight I B (close P) = weight I B P
-least_weight I B (split v inside outside) = min (least_weight I (with_inside B v) inside) (least_weight I (with_outside B v) outside)
+least_weight I B (split at inside outside) = min (least_weight I (yes_half B at) inside) (least_weight I (no_half B at) outside)
 
 -- a tree is read off the whole, and proves the least weight of its closes for the branch of the node with id 0
 pub record ProvesItsLeast (G : Gathered) (I : Network) (R : Branch) (p : ProofTree) : Type 0 where
@@ -43,12 +44,12 @@ CompleteBounds = (G : Gathered) (I : Network) (R : Branch) (start budget : ℕ) 
 -- how many splits and closes a tree has
 abbrev pub size : ProofTree → ℕ
 size (close P) = 1
-size (split v inside outside) = 1 + size inside + size outside
+size (split at inside outside) = 1 + size inside + size outside
 
 -- how many of the closes of a tree for a branch weigh less than x
 abbrev pub light_closes : Network → Branch → ℕ → ProofTree → ℕ
 light_closes I B x (close P) = if nat_lt (weight I B P) x then 1 else 0
-light_closes I B x (split v inside outside) = light_closes I (with_inside B v) x inside + light_closes I (with_outside B v) x outside
+light_closes I B x (split at inside outside) = light_closes I (yes_half B at) x inside + light_closes I (no_half B at) x outside
 
 -- no vertex is both inside and outside
 abbrev pub SidesAreApart : Branch → Type 0

@@ -11,13 +11,13 @@ pub fn copied_done(alloc: Global, done: &Done) -> Result<Done, AllocError>
     match done {
         Done::Split {
             id,
-            v,
+            at,
             inside,
             outside,
             packing,
         } => Ok(Done::Split {
             id: *id,
-            v: *v,
+            at: *at,
             inside: *inside,
             outside: *outside,
             packing: packing.shared(alloc)?,

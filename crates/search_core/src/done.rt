@@ -1,12 +1,13 @@
 use cut_packing::Packing;
+use st_model::SplitAt;
 
-/// What was done with a node, under its id: it was split at a vertex into a half inside and a half
-/// outside, on the strength of a packing, or closed by a packing.
+/// What was done with a node, under its id: it was split into two halves, the one that says yes
+/// and the one that says no, on the strength of a packing, or closed by a packing.
 #[derive(Debug, Drop)]
 pub enum Done {
     Split {
         id: u64,
-        v: u32,
+        at: SplitAt,
         inside: u64,
         outside: u64,
         packing: Packing,

@@ -1,5 +1,5 @@
 ghost use Rattle.std.specs.Prelude.{◌≡◌, ◌≤◌, ◌<◌, false, OnOk, OnErr, IfOk};
-ghost use Rattle.branching.specs.Node.{inside_half, outside_half};
+ghost use Rattle.branching.specs.Node.{yes_node, no_node};
 ghost use Rattle.search_core.specs.declared.event.Event.{Event};
 ghost use Rattle.search_core.specs.Needs.{IsAllowed};
 ghost use Rattle.search_core.specs.Effects.{after};
@@ -8,8 +8,9 @@ use crate::workers::{
     await_split, close, come_down, end, hold, offer, put_down, refuse, see, split,
 };
 use crate::{Done, End, Made, Place, Search};
-use branching::{Node, halves};
+use branching::{Node, halves_at};
 use cut_packing::Packing;
+use st_model::SplitAt;
 use std::alloc::{AllocError, Global};
 
 impl Search {
@@ -117,13 +118,13 @@ impl Search {
     pub(crate) fn split(
         &mut self,
         w: u32,
-        v: u32,
+        at: SplitAt,
         inside: u64,
         outside: u64,
         packing: Packing,
     ) -> Result<(), AllocError>
-        requires { IsAllowed self.old (Event.Split w v inside outside packing) }
-        ensures ok { OnOk result (self.new ≡ after self.old (Event.Split w v inside outside packing)) }
+        requires { IsAllowed self.old (Event.Split w at inside outside packing) }
+        ensures ok { OnOk result (self.new ≡ after self.old (Event.Split w at inside outside packing)) }
         ensures err { OnErr result (self.new ≡ self.old) }
     {
         let alloc = self.nodes.allocator();
@@ -133,10 +134,10 @@ impl Search {
         let Some(made) = self.nodes.find(id) else {
             return Err(AllocError);
         };
-        let (yes, no) = halves_on(alloc, w, &made.node, &packing, v, (inside, outside))?;
+        let (yes, no) = halves_on(alloc, w, &made.node, &packing, at, (inside, outside))?;
         let done = Done::Split {
             id,
-            v,
+            at,
             inside,
             outside,
             packing,
@@ -159,22 +160,22 @@ impl Search {
     }
 }
 
-// Both halves of a node at a vertex, where a worker splits it on a packing.
+// Both halves of a node that a worker splits on a packing.
 fn halves_on(
     alloc: Global,
     w: u32,
     node: &Node,
     packing: &Packing,
-    v: u32,
+    at: SplitAt,
     ids: (u64, u64),
 ) -> Result<(Made, Made), AllocError>
     ensures inside { IfOk result (λ h. h.0 ≡ record {
-      node = inside_half (record node.now { packing = packing.now }) v ids.0;
+      node = yes_node (record node.now { packing = packing.now }) at ids.0;
       place = Place.Hand w;
       claimed = false;
     }) }
     ensures outside { IfOk result (λ h. h.1 ≡ record {
-      node = outside_half (record node.now { packing = packing.now }) v ids.1;
+      node = no_node (record node.now { packing = packing.now }) at ids.1;
       place = Place.Fresh w;
       claimed = false;
     }) }
@@ -184,10 +185,10 @@ fn halves_on(
         branch: node.branch.copied(alloc)?,
         packing: packing.shared(alloc)?,
     };
-    match halves(alloc, parent, v, ids.0, ids.1) {
-        Ok((inside, outside)) => Ok((
-            fresh(inside, Place::Hand(w)),
-            fresh(outside, Place::Fresh(w)),
+    match halves_at(alloc, parent, at, ids.0, ids.1) {
+        Ok((yes, no)) => Ok((
+            fresh(yes, Place::Hand(w)),
+            fresh(no, Place::Fresh(w)),
         )),
         Err((_, error)) => Err(error),
     }

@@ -1,4 +1,5 @@
 use cut_packing::Packing;
+use st_model::SplitAt;
 
 /// What a worker does next.
 #[derive(Debug, Drop)]
@@ -35,10 +36,10 @@ pub enum Event {
     Up {
         w: u32,
     },
-    /// It splits the node in its hand at a vertex.
+    /// It splits the node in its hand.
     Split {
         w: u32,
-        v: u32,
+        at: SplitAt,
         inside: u64,
         outside: u64,
         packing: Packing,
@@ -92,7 +93,7 @@ pub enum EventFault {
     NotRefused,
     /// An up or a close waits, or doesn't, against the need.
     OutOfTurn,
-    /// The node can't be split at the vertex.
+    /// The node can't be split there.
     BadVertex,
     /// An id was made before, or the two are one.
     UsedId,

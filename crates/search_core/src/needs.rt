@@ -2,10 +2,10 @@ ghost use Rattle.std.specs.Prelude.{◌≡◌, not, ◌||◌, is_none, is_some};
 ghost use Rattle.st_model.specs.Lists.{has};
 ghost use Rattle.cut_packing.specs.declared.packing.Packing.{Packing};
 ghost use Rattle.search_core.specs.State.{hand};
-ghost use Rattle.search_core.specs.Needs.{early_fault, is_queue, is_fresh_of, is_queued, is_fresh, holds, is_claimed, was_refused, up_waits, close_waits, splits_at, can_split, is_used, no_worker};
+ghost use Rattle.search_core.specs.Needs.{early_fault, is_queue, is_fresh_of, is_queued, is_fresh, holds, is_claimed, was_refused, up_waits, close_waits, may_split_at, splits_at, can_split, is_used, no_worker};
 
 use crate::{Event, EventFault, Place, Search};
-use st_model::{Branch, Instance, Need};
+use st_model::{Branch, Instance, Need, SplitAt};
 
 impl Search {
     /// The first fault of an event that looks at no packing, if it has one.
@@ -20,11 +20,11 @@ impl Search {
             Event::Up { w } => self.up_fault(*w),
             Event::Split {
                 w,
-                v,
+                at,
                 inside,
                 outside,
                 ..
-            } => self.split_fault(*w, *v, *inside, *outside),
+            } => self.split_fault(*w, *at, *inside, *outside),
             Event::Close { w, .. } => self.up_fault(*w),
             Event::Down { w } => self.down_fault(*w),
             Event::Halt { w } => self.halt_fault(*w),
@@ -123,8 +123,8 @@ impl Search {
         None
     }
 
-    fn split_fault(&self, w: u32, v: u32, inside: u64, outside: u64) -> Option<EventFault>
-        ensures { (P : Packing) → result ≡ early_fault self.now (Event.Split w v inside outside P) }
+    fn split_fault(&self, w: u32, at: SplitAt, inside: u64, outside: u64) -> Option<EventFault>
+        ensures { (P : Packing) → result ≡ early_fault self.now (Event.Split w at inside outside P) }
     {
         if self.no_worker(w) {
             return Some(EventFault::NoWorker);
@@ -135,7 +135,7 @@ impl Search {
         if !self.up_waits(w) {
             return Some(EventFault::OutOfTurn);
         }
-        if !self.can_split(w, v) {
+        if !self.can_split(w, at) {
             return Some(EventFault::BadVertex);
         }
         if inside == outside || self.is_used(inside) || self.is_used(outside) {
@@ -263,12 +263,12 @@ impl Search {
         }
     }
 
-    // Whether the node in the hand of a worker can be split at a vertex.
-    fn can_split(&self, w: u32, v: u32) -> bool
-        ensures { result ≡ can_split self.now w v }
+    // Whether the node in the hand of a worker can be split there.
+    fn can_split(&self, w: u32, at: SplitAt) -> bool
+        ensures { result ≡ can_split self.now w at }
     {
         match self.held(w) {
-            Some(made) => splits_at(self.instance(), &made.node.branch, v),
+            Some(made) => may_split_at(self.instance(), &made.node.branch, at),
             None => false,
         }
     }
@@ -295,6 +295,16 @@ fn is_fresh_of(w: u32, place: Place) -> bool
     match place {
         Place::Fresh(of) => of == w,
         _ => false,
+    }
+}
+
+// Whether a branch can be split there: at no link so far.
+fn may_split_at(instance: &Instance, branch: &Branch, at: SplitAt) -> bool
+    ensures { result ≡ may_split_at instance.now branch.now at }
+{
+    match at {
+        SplitAt::Vertex(vertex) => splits_at(instance, branch, vertex),
+        SplitAt::Link(_, _) => false,
     }
 }
 

@@ -98,11 +98,11 @@ impl Search {
         match event {
             Event::Split {
                 w,
-                v,
+                at,
                 inside,
                 outside,
                 packing,
-            } => return self.split(w, v, inside, outside, packing),
+            } => return self.split(w, at, inside, outside, packing),
             Event::Close { w, packing } => return self.close(w, packing),
             Event::Take { w, id } => self.take(w, id),
             Event::Pick { w, id } => self.pick(w, id),

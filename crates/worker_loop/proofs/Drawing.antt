@@ -4,6 +4,7 @@ use Rattle.std.specs.Prelude.{◌==◌}
 use Rattle.std.specs.List.{flat_map}
 use Rattle.std.proofs.lemmas.Bool.Decides.{nat_tests}
 use Rattle.std.proofs.lemmas.List.Concat.{flat_map-append}
+use Rattle.st_model.specs.declared.split_at.SplitAt.{SplitAt}
 use Rattle.cut_packing.specs.declared.packing.Packing.{Packing}
 use Rattle.search_core.specs.declared.done.Done.{Done}
 use Rattle.search_core.specs.declared.done.Done.TheVariants.{Split, Close}
@@ -78,9 +79,9 @@ own_so seat workers next x there own (k, is_next) some = by_case (next == x) ref
     by_case false is false e lt = own (omega (arith, lt))
 
 -- a split draws two
-pub drawn_split : (seat workers next id v : ℕ) (done : List Done) (P : Packing) → AreDrawnBelow seat workers next done
-    → AreDrawnBelow seat workers (next + workers + workers) (done ++ Split id v next (next + workers) P ∷ [])
-drawn_split seat workers next id v done P h = record {
+pub drawn_split : (seat workers next id : ℕ) (at : SplitAt) (done : List Done) (P : Packing) → AreDrawnBelow seat workers next done
+    → AreDrawnBelow seat workers (next + workers + workers) (done ++ Split id at next (next + workers) P ∷ [])
+drawn_split seat workers next id at done P h = record {
   some = h.some;
   drawn = record {
     once = λ x. at_most _ _ (pushed x) (apart next workers x (times x (drawn_ids done)) h.some (h.below x) (h.drawn.once x));
@@ -90,8 +91,8 @@ drawn_split seat workers next id v done P h = record {
   next_own = (h.next_own.0 + 2, twice seat workers next h.next_own.0 h.next_own.1);
 }
   where
-    pushed : (x : ℕ) → times x (drawn_ids (done ++ Split id v next (next + workers) P ∷ [])) ≡ times x (drawn_ids done) + (one next x + (one (next + workers) x + 0))
-    pushed x = drawn_pushed done (Split id v next (next + workers) P) x
+    pushed : (x : ℕ) → times x (drawn_ids (done ++ Split id at next (next + workers) P ∷ [])) ≡ times x (drawn_ids done) + (one next x + (one (next + workers) x + 0))
+    pushed x = drawn_pushed done (Split id at next (next + workers) P) x
 
     at_most : (a b : ℕ) → a ≡ b → b ≤ 1 → a ≤ 1
     at_most a b e h = omega arith

@@ -32,7 +32,7 @@ lower_task : (I : Network) (R : Branch) (start seen lower : ℕ) → lower ≤ s
 lower_task I R start seen lower low T h = record { sound = h.sound; same = h.same; done_right = by_case T.done h.done_right }
   where
     by_case : (d : Done) → IsDoneWith I start seen T.node d → IsDoneWith I start lower T.node d
-    by_case (Split id v i o P) k = k
+    by_case (Split id at i o P) k = k
     by_case (Close id P) k = record { closes = record { fits = k.closes.fits; weighs = omega (arith, low, k.closes.weighs) }; writable = k.writable }
 
 -- looks at the ledger change nothing that counts

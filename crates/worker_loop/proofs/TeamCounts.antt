@@ -26,7 +26,7 @@ nodes_number [] = refl
 nodes_number (N ∷ Ns) = omega (arith, sum_by-cons each N Ns, nodes_number Ns)
 
 one_each : (d : Done) → splits d + closes d ≡ 1
-one_each (Split id v i o P) = refl
+one_each (Split id at i o P) = refl
 one_each (Close id P) = refl
 
 -- each task has one node, and a split makes two
@@ -36,7 +36,7 @@ tasks_number (T ∷ Ts) =
     omega (arith, one_each T.done, tasks_number Ts, sum_by-cons each T.node (map node_of Ts), sum_by-cons splits T.done (map done_of Ts), sum_by-cons closes T.done (map done_of Ts))
 
 two_halves : (B : Branch) (d : Done) → sum_by each (halves_by B d) ≡ 2 * splits d
-two_halves B (Split id v i o P) = refl
+two_halves B (Split id at i o P) = refl
 two_halves B (Close id P) = refl
 
 halves_number : (tasks : List Task) → sum_by each (flat_map halves_of tasks) ≡ 2 * sum_by splits (map done_of tasks)

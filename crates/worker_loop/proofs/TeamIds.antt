@@ -37,7 +37,7 @@ task_ids id (T ∷ Ts) same =
 
 record_ids : (id : ℕ) (B : Branch) (d : Done) → times id (half_ids d) ≡ sum_by (has_id id) (halves_by B d)
 record_ids id B (Close a P) = refl
-record_ids id B (Split a v i o P) = plain (cond (i == id) 1 0) (cond (o == id) 1 0)
+record_ids id B (Split a at i o P) = plain (cond (i == id) 1 0) (cond (o == id) 1 0)
   where
     plain : (a b : ℕ) → a + (b + 0) ≡ 0 + a + b
     plain a b = omega arith

@@ -2,13 +2,16 @@
 use Rattle.std.proofs.Common.{◌≡◌, ℕ, zero, suc, ◌+◌, ◌≤◌, Bool, true, false, cond, List, [], ◌∷◌, length, map, refl, sym, ap, subst, ◌∙◌, ◌⊎◌, inl, inr, arith}
 use Rattle.std.specs.Prelude.{nat_lt, Contains}
 use Rattle.std.specs.List.{flat_map, sum_by}
+use Rattle.cut_packing.specs.ProofTree.{IsSplitAt}
+use Rattle.st_model.specs.declared.split_at.SplitAt.{SplitAt}
+use Rattle.st_model.specs.declared.split_at.SplitAt.TheVariants.{Vertex, Link}
 use Rattle.st_model.specs.declared.branch.Branch.{Branch}
-use Rattle.st_model.specs.Branch.{with_vertex}
+use Rattle.st_model.specs.Branch.{with_vertex, yes_half, no_half}
 use Rattle.st_model.specs.Network.{Network}
 use Rattle.cut_packing.specs.declared.packing.Packing.{Packing}
 use Rattle.cut_packing.specs.Packing.{weight}
 use Rattle.branching.specs.declared.node.Node.{Node}
-use Rattle.branching.specs.Node.{inside_half, outside_half}
+use Rattle.branching.specs.Node.{yes_node, no_node}
 use Rattle.branching.proofs.NoLighter.{halves_are_no_lighter_lem}
 use Rattle.search_core.specs.declared.done.Done.{Done}
 use Rattle.search_core.specs.declared.done.Done.TheVariants.{Split, Close}
@@ -27,15 +30,15 @@ IsAccounted R tasks waiting = (h : Node → ℕ) → h (root_of R) + sum_by h (f
 abbrev pub AreTasks : Network → Branch → ℕ → List Task → Type 0
 AreTasks I R start tasks = (T : Task) → Among tasks T → (seen : ℕ) × IsTask I R start seen T
 
--- the node is a half of this task's, which split its node at v on P
+-- the node is a half of this task's, which split its node there on P
 pub record IsHalfOf (T : Task) (N : Node) : Type 0 where
   pub id : ℕ
-  pub v : ℕ
+  pub at : SplitAt
   pub i : ℕ
   pub o : ℕ
   pub P : Packing
-  pub is_split : T.done ≡ Split id v i o P
-  pub is_half : (N ≡ inside_half (packed id T.node.branch P) v i) ⊎ (N ≡ outside_half (packed id T.node.branch P) v o)
+  pub is_split : T.done ≡ Split id at i o P
+  pub is_half : (N ≡ yes_node (packed id T.node.branch P) at i) ⊎ (N ≡ no_node (packed id T.node.branch P) at o)
 
 -- what is among the halves of a task is a half of it
 half_of : (T : Task) (N : Node) → Among (halves_of T) N → IsHalfOf T N
@@ -43,9 +46,9 @@ half_of T N there = by_done T.done refl there
   where
     by_done : (d : Done) → T.done ≡ d → Among (halves_by T.node.branch d) N → IsHalfOf T N
     by_done (Close id P) is h = absurd h
-    by_done (Split id v i o P) is (inl e) = record { id = id; v = v; i = i; o = o; P = P; is_split = is; is_half = inl (sym e) }
-    by_done (Split id v i o P) is (inr (inl e)) = record { id = id; v = v; i = i; o = o; P = P; is_split = is; is_half = inr (sym e) }
-    by_done (Split id v i o P) is (inr (inr h)) = absurd h
+    by_done (Split id at i o P) is (inl e) = record { id = id; at = at; i = i; o = o; P = P; is_split = is; is_half = inl (sym e) }
+    by_done (Split id at i o P) is (inr (inl e)) = record { id = id; at = at; i = i; o = o; P = P; is_split = is; is_half = inr (sym e) }
+    by_done (Split id at i o P) is (inr (inr h)) = absurd h
 
 -- where a node comes from: it is the root, or a half of a task's
 abbrev pub Comes : Branch → List Task → Node → Type 0
@@ -97,14 +100,18 @@ one_longer (x ∷ xs) v = by_case (nat_lt x v) (one_longer xs v)
     by_case false e = omega arith
 
 -- a half decides one vertex more
-one_more : (T : Task) (N : Node) → IsHalfOf T N → decided N.branch ≡ decided T.node.branch + 1
-one_more T N h = elim h.is_half [
-  | inl is ↦ let e = ap (λ (M : Node). decided M.branch) is in omega (arith, e, one_longer T.node.branch.inside h.v)
-  | inr is ↦ let e = ap (λ (M : Node). decided M.branch) is in omega (arith, e, one_longer T.node.branch.outside h.v)
+one_more : (I : Network) (B : Branch) (at : SplitAt) → IsSplitAt I B at → (decided (yes_half B at) ≡ decided B + 1) × (decided (no_half B at) ≡ decided B + 1)
+one_more I B (Vertex v) may = (omega (arith, one_longer B.inside v), omega (arith, one_longer B.outside v))
+one_more I B (Link a b) may = absurd may
+
+half_more : (I : Network) (T : Task) (N : Node) (h : IsHalfOf T N) → IsSplitAt I T.node.branch h.at → decided N.branch ≡ decided T.node.branch + 1
+half_more I T N h may = elim h.is_half [
+  | inl is ↦ ap (λ (M : Node). decided M.branch) is ∙ (one_more I T.node.branch h.at may).0
+  | inr is ↦ ap (λ (M : Node). decided M.branch) is ∙ (one_more I T.node.branch h.at may).1
 ]
 
 -- the record of the split
-recorded : (tasks : List Task) (T : Task) (N : Node) (h : IsHalfOf T N) → Among tasks T → Contains (map done_of tasks) (Split h.id h.v h.i h.o h.P)
+recorded : (tasks : List Task) (T : Task) (N : Node) (h : IsHalfOf T N) → Among tasks T → Contains (map done_of tasks) (Split h.id h.at h.i h.o h.P)
 recorded tasks T N h there = contains (map done_of tasks) _ (subst (Among (map done_of tasks)) h.is_split (among_map done_of tasks T there))
 
 -- a half of what was made was made
@@ -119,19 +126,27 @@ half_made R tasks T N h there made = elim h.is_half [
 same_id : (I : Network) (R : Branch) (start seen : ℕ) (T : Task) (N : Node) (h : IsHalfOf T N) → IsTask I R start seen T → T.node.id ≡ h.id
 same_id I R start seen T N h task = sym task.same ∙ ap done_id h.is_split
 
+-- a task that split its node
+split_so : (I : Network) (start seen : ℕ) (N : Node) (d : Done) (id : ℕ) (at : SplitAt) (i o : ℕ) (P : Packing) → d ≡ Split id at i o P → IsDoneWith I start seen N d → IsSplitTask I start N at P
+split_so I start seen N d id at i o P is h = subst (IsDoneWith I start seen N) is h
+
+-- a half of a right task decides one vertex more
+right_more : (I : Network) (R : Branch) (start seen : ℕ) (T : Task) (N : Node) → IsHalfOf T N → IsTask I R start seen T → decided N.branch ≡ decided T.node.branch + 1
+right_more I R start seen T N h task = half_more I T N h (split_so I start seen T.node T.done h.id h.at h.i h.o h.P h.is_split task.done_right).place
+
 -- by induction on how many vertices the branch decides
 made_below : (I : Network) (R : Branch) (start : ℕ) (tasks : List Task) (waiting : List Node) → AreTasks I R start tasks → IsAccounted R tasks waiting
     → (k : ℕ) (N : Node) → decided N.branch ≤ k → Among (map node_of tasks) N ⊎ Among waiting N → IsMade R (map done_of tasks) N.id N.branch
 made_below I R start tasks waiting right accounted zero N few there = elim (comes R tasks waiting N accounted there) [
   | inl is ↦ subst (λ (M : Node). IsMade R (map done_of tasks) M.id M.branch) (sym is) root
-  | inr half ↦ absurd (omega (arith, few, one_more half.0 N half.2))
+  | inr half ↦ let task = right half.0 half.1 in absurd (omega (arith, few, right_more I R start task.0 half.0 N half.2 task.1))
 ]
 made_below I R start tasks waiting right accounted (suc k) N few there = elim (comes R tasks waiting N accounted there) [
   | inl is ↦ subst (λ (M : Node). IsMade R (map done_of tasks) M.id M.branch) (sym is) root
   | inr half ↦
       let T = half.0 in
       let task = right T half.1 in
-      let parent = made_below I R start tasks waiting right accounted k T.node (omega (arith, few, one_more T N half.2)) (inl (among_map node_of tasks T half.1)) in
+      let parent = made_below I R start tasks waiting right accounted k T.node (omega (arith, few, right_more I R start task.0 T N half.2 task.1)) (inl (among_map node_of tasks T half.1)) in
       half_made R tasks T N half.2 half.1 (subst (λ (id : ℕ). IsMade R (map done_of tasks) id T.node.branch) (same_id I R start task.0 T N half.2 task.1) parent)
 ]
 
@@ -139,10 +154,6 @@ made_below I R start tasks waiting right accounted (suc k) N few there = elim (c
 pub was_made : (I : Network) (R : Branch) (start : ℕ) (tasks : List Task) (waiting : List Node) (N : Node) → AreTasks I R start tasks → IsAccounted R tasks waiting
     → Among (map node_of tasks) N ⊎ Among waiting N → IsMade R (map done_of tasks) N.id N.branch
 was_made I R start tasks waiting N right accounted there = made_below I R start tasks waiting right accounted (decided N.branch) N (omega arith) there
-
--- a task that split its node
-split_so : (I : Network) (start seen : ℕ) (N : Node) (d : Done) (id v i o : ℕ) (P : Packing) → d ≡ Split id v i o P → IsDoneWith I start seen N d → IsSplitTask I start N v P
-split_so I start seen N d id v i o P is h = subst (IsDoneWith I start seen N) is h
 
 -- and a node that waits weighs no less than the split that made it
 pub keeps_weight : (I : Network) (R : Branch) (start : ℕ) (tasks : List Task) (waiting : List Node) (N : Node) → AreTasks I R start tasks → IsAccounted R tasks waiting
@@ -157,7 +168,7 @@ keeps_weight I R start tasks waiting N right accounted there = elim (comes R tas
         let task = right T among in
         let made = subst (λ (id : ℕ). IsMade R (map done_of tasks) id T.node.branch) (same_id I R start task.0 T N h task.1)
         (was_made I R start tasks waiting T.node right accounted (inl (among_map node_of tasks T among))) in
-        let of_split = split_so I start task.0 T.node T.done h.id h.v h.i h.o h.P h.is_split task.1.done_right in
+        let of_split = split_so I start task.0 T.node T.done h.id h.at h.i h.o h.P h.is_split task.1.done_right in
         let weighs = halves_are_no_lighter_lem I (packed T.node.id T.node.branch h.P) h.v h.i h.o of_split.packed.node of_split.vertex in
         let done = recorded tasks T N h among in
         inr (

@@ -24,14 +24,14 @@ use Rattle.worker_loop.proofs.Weights.{all_among, among_left, among_map, among_r
 -- a right record of a node that was made
 right_record : (I : Network) (R : Branch) (start seen : ℕ) (done : List Done) (N : Node) (d : Done) → done_id d ≡ N.id → IsDoneWith I start seen N d → IsMade R done N.id N.branch
     → IsRightRecord I R start done seen d
-right_record I R start seen done N (Split id v i o P) same h made =
-    (N.branch, record { made = subst (λ (a : ℕ). IsMade R done a N.branch) (sym same) made; vertex = h.vertex; packing = h.allows })
+right_record I R start seen done N (Split id at i o P) same h made =
+    (N.branch, record { made = subst (λ (a : ℕ). IsMade R done a N.branch) (sym same) made; vertex = h.place; packing = h.allows })
 right_record I R start seen done N (Close id P) same h made =
     (N.branch, record { made = subst (λ (a : ℕ). IsMade R done a N.branch) (sym same) made; packing = h.closes })
 
 -- a record that a log can hold
 writable_record : (I : Network) (start seen : ℕ) (N : Node) (d : Done) → IsDoneWith I start seen N d → IsWritablePacking (done_packing d)
-writable_record I start seen N (Split id v i o P) h = h.packed.writable
+writable_record I start seen N (Split id at i o P) h = h.packed.writable
 writable_record I start seen N (Close id P) h = h.writable
 
 -- what holds of each holds of all that are made of them

@@ -3,6 +3,7 @@ use Rattle.std.proofs.Common.{◌≡◌, ℕ, Bool, true, false, ◌+◌, ◌<�
 use Rattle.std.specs.Prelude.{IfSome}
 use Rattle.std.specs.List.{sum_by}
 use Rattle.std.proofs.lemmas.List.Elements.{All-cons, All-nil}
+use Rattle.st_model.specs.declared.split_at.SplitAt.TheVariants.{Vertex}
 use Rattle.st_model.specs.declared.branch.Branch.{Branch}
 use Rattle.st_model.specs.declared.tree.Tree.{Tree}
 use Rattle.st_model.specs.Branch.{NoneIsCertain}
@@ -145,9 +146,9 @@ closed_on I R start seat workers r N q u s s' next k k' m better P sound low is_
     plain a = omega arith
 
 -- the packing with which the halves begin allows the split below the start cost
-split_task : (I : Network) (N M : Node) (least start v : ℕ) → least ≤ start → SplitsAt I N least M v → IsSplitTask I start N v M.packing
+split_task : (I : Network) (N M : Node) (least start v : ℕ) → least ≤ start → SplitsAt I N least M v → IsSplitTask I start N (Vertex v) M.packing
 split_task I N M least start v low h = record {
-  vertex = h.split;
+  place = h.split;
   allows = record { fits = subst (λ (B : Branch). Rattle.cut_packing.specs.Packing.Fits I B M.packing) h.same h.node.node.fits; full = by_bound h.bounded };
   packed =
       let there = h.node in
@@ -168,8 +169,8 @@ split_task I N M least start v low h = record {
     by_bound (inr full) = inl (subst (λ (B : Branch). IsFullBelow I B M.packing start) h.same (record { full = full.0; below = omega (arith, full.1, low) }))
 
 -- the halves that a record tells of are those of the node that was split
-same_halves : (B : Branch) (M : Node) (id v i o : ℕ) → M.branch ≡ B → halves_by B (recorded.Split id v i o M.packing) ≡ inside_half M v i ∷ outside_half M v o ∷ []
-same_halves B M id v i o same = ap (λ (C : Branch). halves_by C (recorded.Split id v i o M.packing)) (sym same)
+same_halves : (B : Branch) (M : Node) (id v i o : ℕ) → M.branch ≡ B → halves_by B (recorded.Split id (Vertex v) i o M.packing) ≡ inside_half M v i ∷ outside_half M v o ∷ []
+same_halves B M id v i o same = ap (λ (C : Branch). halves_by C (recorded.Split id (Vertex v) i o M.packing)) (sym same)
 
 -- a node whose packing a step made heavier is as sound
 pub split_sound : (I : Network) (R : Branch) (N M : Node) (least v : ℕ) → IsSound I R N → SplitsAt I N least M v → IsSound I R M
@@ -207,10 +208,10 @@ pub split_on : (I : Network) (R : Branch) (start seat workers r : ℕ) (N M half
     (better : Option Priced) → IsSound I R N
     → r ≤ s.lowest → s.lowest ≤ start → IfSome better (IsBetter I N.branch r) → SplitsAt I N (least_after r better) M v
     → Adopts better (having_seen s r) s' (record { done = k.done; best = k.best; seen = r }) k' → IsHalved workers N.id M v deleted (as_of q u s' next k') m half
-    → IsWorkedOn I R start seat workers N (as_of q u s next k) m (half ∷ []) (recorded.Split N.id v next (next + workers) M.packing)
+    → IsWorkedOn I R start seat workers N (as_of q u s next k) m (half ∷ []) (recorded.Split N.id (Vertex v) next (next + workers) M.packing)
 split_on I R start seat workers r N M half v deleted q u s s' next k k' m better sound low first is_better end adopts halved =
     let a = adopted I R start r N s s' k k' better sound low is_better adopts in
-    let d = recorded.Split N.id v next (next + workers) M.packing in
+    let d = recorded.Split N.id (Vertex v) next (next + workers) M.packing in
     let grown : m.work.done.items ≡ k.done.items ++ d ∷ [] = halved.done ∙ ap (λ (ds : List Done). ds ++ d ∷ []) a.done in
     let less : least_after r better ≤ start = omega (arith, least_low r better I N.branch is_better, low, first) in
     let halves_sound : IsSound I R (half_of deleted M v next (next + workers)) =
@@ -227,7 +228,7 @@ split_on I R start seat workers r N M half v deleted q u s s' next k k' m better
           (w (inside_half M v next)) (w (outside_half M v (next + workers))) _ (halved.pass w) one (both_halves w M v next (next + workers) deleted) halves;
       drawn = λ h.
           subst (λ (n : ℕ). AreDrawnBelow seat workers n m.work.done.items) (sym halved.next)
-          (subst (λ (ds : List Done). AreDrawnBelow seat workers (next + workers + workers) ds) (sym grown) (drawn_split seat workers next N.id v k.done.items M.packing h));
+          (subst (λ (ds : List Done). AreDrawnBelow seat workers (next + workers + workers) ds) (sym grown) (drawn_split seat workers next N.id (Vertex v) k.done.items M.packing h));
       seen = λ h. still_seen I R start s' m.sight k'.best m.work.best k'.seen m.work.seen halved.sight halved.best halved.seen (a.seen h);
       lower = omega (arith, halved.seen, a.lower, low);
       ups = ap (λ (v : Account). v.tally.ups) halved.account;

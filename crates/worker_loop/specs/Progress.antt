@@ -2,6 +2,7 @@
 use Rattle.std.specs.Prelude.{◌≡◌, ◌≢◌, ℕ, Bool, if◌then◌else◌, ◌+◌, ◌*◌, ◌<◌, ◌≤◌, min, List, [], ◌∷◌, ◌++◌, length, map, All, Option, Some, None}
 use Rattle.std.specs.List.{flat_map, sum_by}
 use Rattle.std.specs.Option.{option_to_list}
+use Rattle.st_model.specs.declared.split_at.SplitAt.TheVariants.{Vertex}
 use Rattle.st_model.specs.declared.branch.Branch.{Branch}
 use Rattle.st_model.specs.declared.tree.Tree.{Tree}
 use Rattle.st_model.specs.Lists.{sum_to}
@@ -125,7 +126,7 @@ pub record IsHalved (workers id : ℕ) (N : Node) (v : ℕ) (deleted : Bool) (m 
   pub account : m'.account ≡ counting m.account (with_up m.account.tally)
   pub sight : m'.sight ≡ m.sight
   pub next : m'.next ≡ m.next + workers + workers
-  pub done : m'.work.done.items ≡ m.work.done.items ++ Split id v m.next (m.next + workers) N.packing ∷ []
+  pub done : m'.work.done.items ≡ m.work.done.items ++ Split id (Vertex v) m.next (m.next + workers) N.packing ∷ []
   pub best : m'.work.best ≡ m.work.best
   pub seen : m'.work.seen ≡ m.work.seen
 

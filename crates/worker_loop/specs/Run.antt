@@ -1,6 +1,7 @@
 -- What one worker did in a whole run.
 use Rattle.std.specs.Prelude.{◌≡◌, ◌≢◌, ℕ, ◌+◌, ◌*◌, ◌<◌, ◌≤◌, List, [], ◌∷◌, length, map, Option, Some, None, All, IfSome}
 use Rattle.std.specs.List.{flat_map, sum_by}
+use Rattle.st_model.specs.declared.split_at.SplitAt.{SplitAt}
 use Rattle.st_model.specs.declared.branch.Branch.{Branch}
 use Rattle.st_model.specs.declared.tree.Tree.{Tree}
 use Rattle.st_model.specs.Arborescence.{IsTree, cost}
@@ -8,10 +9,10 @@ use Rattle.st_model.specs.Branch.{Belongs}
 use Rattle.st_model.specs.Network.{Network}
 use Rattle.cut_packing.specs.declared.packing.Packing.{Packing}
 use Rattle.cut_packing.specs.Packing.{weight}
-use Rattle.cut_packing.specs.ProofTree.{Closes, IsSplit}
+use Rattle.cut_packing.specs.ProofTree.{Closes, IsSplitAt}
 use Rattle.log_format.specs.Text.{IsWritablePacking}
 use Rattle.branching.specs.declared.node.Node.{Node}
-use Rattle.branching.specs.Node.{inside_half, outside_half}
+use Rattle.branching.specs.Node.{yes_node, no_node}
 use Rattle.incumbent.specs.Least.{least_of}
 use Rattle.incumbent.specs.Seat.{Known as Sight}
 use Rattle.open_ledger.specs.Seat.{Known as Account}
@@ -45,15 +46,15 @@ packed id B P = record { id = id; branch = B; packing = P }
 -- the halves of a node of this branch that a record tells of
 abbrev pub halves_by : Branch → Done → List Node
 halves_by B (Close id P) = []
-halves_by B (Split id v i o P) = inside_half (packed id B P) v i ∷ outside_half (packed id B P) v o ∷ []
+halves_by B (Split id at i o P) = yes_node (packed id B P) at i ∷ no_node (packed id B P) at o ∷ []
 
 -- the halves that a task made
 abbrev pub halves_of : Task → List Node
 halves_of T = halves_by T.node.branch T.done
 
 -- a node was split on a packing that is no lighter than its own
-pub record IsSplitTask (I : Network) (start : ℕ) (N : Node) (v : ℕ) (P : Packing) : Type 0 where
-  pub vertex : IsSplit I N.branch v
+pub record IsSplitTask (I : Network) (start : ℕ) (N : Node) (at : SplitAt) (P : Packing) : Type 0 where
+  pub place : IsSplitAt I N.branch at
   pub allows : AllowsSplit I N.branch P start
   pub packed : IsWritableNode I (packed N.id N.branch P)
   pub no_lighter : weight I N.branch N.packing ≤ weight I N.branch P
@@ -65,7 +66,7 @@ pub record IsCloseTask (I : Network) (seen : ℕ) (N : Node) (P : Packing) : Typ
 
 -- what was done with a node
 abbrev pub IsDoneWith : Network → ℕ → ℕ → Node → Done → Type 0
-IsDoneWith I start seen N (Split id v i o P) = IsSplitTask I start N v P
+IsDoneWith I start seen N (Split id at i o P) = IsSplitTask I start N at P
 IsDoneWith I start seen N (Close id P) = IsCloseTask I seen N P
 
 -- a sound node, and a right record of it
@@ -76,11 +77,11 @@ pub record IsTask (I : Network) (R : Branch) (start seen : ℕ) (T : Task) : Typ
 
 -- the number of splits that a record tells of, and of closes
 abbrev pub splits : Done → ℕ
-splits (Split id v i o P) = 1
+splits (Split id at i o P) = 1
 splits (Close id P) = 0
 
 abbrev pub closes : Done → ℕ
-closes (Split id v i o P) = 0
+closes (Split id at i o P) = 0
 closes (Close id P) = 1
 
 -- the ids of all halves

@@ -18,6 +18,7 @@ use graph_store::Whole;
 use node_work::{End, Step, expand};
 use open_ledger::Why;
 use search_core::{Done, End as Ending};
+use st_model::SplitAt;
 use std::alloc::{AllocError, Global};
 use std::sync::Wait;
 use std::thread::Threads;
@@ -171,7 +172,7 @@ impl<Q: Aim> Worker<Q> {
         };
         work.done.push(Done::Split {
             id,
-            v: vertex,
+            at: SplitAt::Vertex(vertex),
             inside: first,
             outside: second,
             packing,

@@ -1,7 +1,7 @@
 ghost use Rattle.std.specs.Bool.{OnTrue};
 ghost use Rattle.std.specs.List.Sorted.{IsNonDecreasing};
 
-use st_model::{Branch, Instance, Need, Sides};
+use st_model::{Branch, Instance, Need, Sides, SplitAt};
 use std::alloc::{AllocError, Global};
 use std::test::Fail;
 
@@ -28,6 +28,25 @@ fn is_copied(alloc: Global, branch: &Branch) -> Result<bool, AllocError> {
 fn halves_keep_the_order_of_vertices(rt: HostRuntime) -> Result<(), Fail> {
     assert!(rt; has(&Branch::all(rt.alloc()), &[], &[]));
     assert!(rt; is_copied(rt.alloc(), &halved(rt.alloc())?)?);
+    Ok(())
+}
+
+// Whether the halves of the branch above are these: at a vertex both have it, on its side, and at a link both are the
+// branch again.
+fn are_split(alloc: Global, branch: &Branch) -> Result<bool, AllocError> {
+    let yes = branch.yes_half(alloc, SplitAt::Vertex(3))?;
+    let no = branch.no_half(alloc, SplitAt::Vertex(1))?;
+    let yes_again = branch.yes_half(alloc, SplitAt::Link(1, 3))?;
+    let no_again = branch.no_half(alloc, SplitAt::Link(1, 3))?;
+    Ok(has(&yes, &[2, 3, 4, 9], &[3])
+        && has(&no, &[2, 4, 9], &[1, 3])
+        && has(&yes_again, &[2, 4, 9], &[3])
+        && has(&no_again, &[2, 4, 9], &[3]))
+}
+
+#[test]
+fn splits_by_kind(rt: HostRuntime) -> Result<(), Fail> {
+    assert!(rt; are_split(rt.alloc(), &halved(rt.alloc())?)?);
     Ok(())
 }
 

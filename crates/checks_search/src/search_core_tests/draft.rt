@@ -1,7 +1,7 @@
 //! Events in numbers.
 use cut_packing::Packing;
 use search_core::Event;
-use st_model::Listed;
+use st_model::{Listed, SplitAt};
 use std::alloc::Global;
 use test_instances::Draws;
 
@@ -81,7 +81,7 @@ impl Draft {
             Kind::Up => Event::Up { w },
             Kind::Split => Event::Split {
                 w,
-                v: self.v,
+                at: SplitAt::Vertex(self.v),
                 inside: self.inside,
                 outside: self.outside,
                 packing: self.packing(alloc),

@@ -1,6 +1,7 @@
 //! Records in numbers.
 use cut_packing::Packing;
 use search_core::Done;
+use st_model::SplitAt;
 
 /// The id of a node, and where it was split: the vertex, the half inside and the half outside. A
 /// node that was closed has no halves.
@@ -15,13 +16,18 @@ pub fn note_of(done: &Done) -> Note {
     match done {
         Done::Split {
             id,
-            v,
+            at: SplitAt::Vertex(vertex),
             inside,
             outside,
             ..
         } => Note {
             id: *id,
-            halves: Some((*v, *inside, *outside)),
+            halves: Some((*vertex, *inside, *outside)),
+        },
+        // none is made so far
+        Done::Split { id, .. } => Note {
+            id: *id,
+            halves: None,
         },
         Done::Close { id, .. } => Note {
             id: *id,

@@ -3,7 +3,7 @@ use super::notes::{Note, cuts_weigh, note_of, packing_of};
 use super::{answer, begun, cut, has};
 use cut_packing::Packing;
 use search_core::{Done, End, Event, EventFault, Gathered, Search, Segment};
-use st_model::Listed;
+use st_model::{Listed, SplitAt};
 use std::alloc::{AllocError, Global};
 use std::test::Fail;
 use test_instances::odd_wheel;
@@ -64,7 +64,7 @@ fn event(alloc: Global, turn: u32) -> Result<Event, AllocError> {
         3 => Event::Up { w: 0 },
         4 => Event::Split {
             w: 0,
-            v: 2,
+            at: SplitAt::Vertex(2),
             inside: 1,
             outside: 2,
             packing: packed(alloc, FOR_ALL)?,

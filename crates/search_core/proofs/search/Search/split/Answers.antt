@@ -10,20 +10,20 @@ use Rattle.search_core.proofs.search.Search.split.Goals as goal
 
 pub split-requires-clause-inside : goal.split-requires-clause-inside
 split-requires-clause-inside c =
-    rw c.in_ok-yes.ensures.inside (split_early (state_of c.self.inside) c.args.w c.args.v c.args.inside c.args.outside c.args.packing (rw (← c.self.view_is) at c.requires.early)).new_inside
+    rw c.in_ok-yes.ensures.inside (split_early (state_of c.self.inside) c.args.w c.args.at c.args.inside c.args.outside c.args.packing (rw (← c.self.view_is) at c.requires.early)).new_inside
 
 pub split-requires-clause-outside : goal.split-requires-clause-outside
 split-requires-clause-outside c =
-    rw c.in_ok-yes.ensures.outside (split_early (state_of c.self.inside) c.args.w c.args.v c.args.inside c.args.outside c.args.packing (rw (← c.self.view_is) at c.requires.early)).new_outside
+    rw c.in_ok-yes.ensures.outside (split_early (state_of c.self.inside) c.args.w c.args.at c.args.inside c.args.outside c.args.packing (rw (← c.self.view_is) at c.requires.early)).new_outside
 
 pub invariant_of-self-2 : goal.invariant_of-self-2
 invariant_of-self-2 c =
     let in_hand : hand (state_of c.self.inside) c.args.w ≡ Some c.in-Some.id = ap (λ (s : State). hand s c.args.w) c.self.view_is ∙ (sym c.hand.ensures ∙ c.in-Some.is) in
     let found : made_as (state_of c.self.inside) c.in-Some.id ≡ Some c.in-Some-find.made.now = sym c.find.ensures ∙ ap (λ o. option_copied o) c.in-Some-find.is in
-    rw (c.set_place.ensures, c.in_ok-split.ensures.nodes, c.in_ok-split.ensures.workers, c.in_ok-yes.ensures.inside, c.in_ok-yes.ensures.outside) (rw (after_split (state_of c.self.inside) c.args.w c.args.v c.args.inside c.args.outside c.args.packing c.in-Some.id c.in-Some-find.made.now in_hand found) at (kept_after (state_of c.self.inside) (Split c.args.w c.args.v c.args.inside c.args.outside c.args.packing) c.self.invariant (rw (← c.self.view_is) at c.requires)))
+    rw (c.set_place.ensures, c.in_ok-split.ensures.nodes, c.in_ok-split.ensures.workers, c.in_ok-yes.ensures.inside, c.in_ok-yes.ensures.outside) (rw (after_split (state_of c.self.inside) c.args.w c.args.at c.args.inside c.args.outside c.args.packing c.in-Some.id c.in-Some-find.made.now in_hand found) at (kept_after (state_of c.self.inside) (Split c.args.w c.args.at c.args.inside c.args.outside c.args.packing) c.self.invariant (rw (← c.self.view_is) at c.requires)))
 
 pub returns-clause-ok : goal.returns-clause-ok
 returns-clause-ok c =
     let in_hand : hand (state_of c.self.inside) c.args.w ≡ Some c.in-Some.id = ap (λ (s : State). hand s c.args.w) c.self.view_is ∙ (sym c.hand.ensures ∙ c.in-Some.is) in
     let found : made_as (state_of c.self.inside) c.in-Some.id ≡ Some c.in-Some-find.made.now = sym c.find.ensures ∙ ap (λ o. option_copied o) c.in-Some-find.is in
-    rw (← c.self.view_is, c.set_place.ensures, c.in_ok-split.ensures.nodes, c.in_ok-split.ensures.workers, c.in_ok-yes.ensures.inside, c.in_ok-yes.ensures.outside) (sym (after_split (state_of c.self.inside) c.args.w c.args.v c.args.inside c.args.outside c.args.packing c.in-Some.id c.in-Some-find.made.now in_hand found))
+    rw (← c.self.view_is, c.set_place.ensures, c.in_ok-split.ensures.nodes, c.in_ok-split.ensures.workers, c.in_ok-yes.ensures.inside, c.in_ok-yes.ensures.outside) (sym (after_split (state_of c.self.inside) c.args.w c.args.at c.args.inside c.args.outside c.args.packing c.in-Some.id c.in-Some-find.made.now in_hand found))

@@ -1,4 +1,5 @@
 use Rattle.std.proofs.Common.{rules, ◌≡◌, ℕ, ◌+◌, subst}
+use Rattle.st_model.specs.declared.split_at.SplitAt.TheVariants.{Vertex}
 use Rattle.st_model.specs.Network.{Network}
 use Rattle.incumbent.specs.Seat.{Known as Sight}
 use Rattle.open_ledger.specs.Seat.{Known as Account}
@@ -63,7 +64,7 @@ returns-in_ok-half-in-Split-clause-worked g c =
     (subst (λ (q : Station). IsHalved w.workers c.args.node.id M vertex deleted (as_of q w.ledger v.best v.next k') m half) same.3
     (subst (λ (u : Account). IsHalved w.workers c.args.node.id M vertex deleted (as_of v.pass u v.best v.next k') m half) same.4
     (subst (λ (n : ℕ). IsHalved n c.args.node.id M vertex deleted (as_of v.pass v.ledger v.best v.next k') m half) same.1 c.in_ok-half-in-Split.ensures.halved))) in (
-      recorded.Split c.args.node.id vertex w.next (w.next + w.workers) M.packing,
+      recorded.Split c.args.node.id (Vertex vertex) w.next (w.next + w.workers) M.packing,
       split_on I g.Q.Aim.branch g.Q.Aim.start w.seat w.workers r c.args.node M half vertex deleted w.pass w.ledger w.best v.best w.next k k' m better c.requires.node c.see-work.ensures.at_most
           c.requires.low step.tree end adopts halved,
     )
