@@ -8,7 +8,7 @@ use crate::draws::Draws;
 use crate::effort::{Effort, steps_for};
 use crate::growing::grown;
 use crate::price::Priced;
-use crate::used_up::UsedUp;
+use crate::saturated::Saturated;
 use bidirected_form::Arcs;
 use graph_store::Whole;
 use local_search::{judged, wander};
@@ -21,10 +21,10 @@ const LEAST: u64 = 50;
 
 const MORE: u64 = 100;
 
-// How many steps a walk from a drawn tree has, or from one over used-up arcs at a first node, at most.
+// How many steps a walk from a drawn tree has, or from one over saturated arcs at a first node, at most.
 const STEPS: u64 = 4;
 
-/// A tree of the branch that costs less than the least cost known, if `used_up_tree` is one.
+/// A tree of the branch that costs less than the least cost known, if `saturated_tree` is one.
 pub fn better_tree(
     alloc: Global,
     whole: &Whole,
@@ -36,13 +36,13 @@ pub fn better_tree(
     requires branch { IsBranch whole.now.instance branch.now }
     ensures { IfOk result (λ better. IfSome better (IsBetter whole.now.instance branch.now least)) }
 {
-    let tree = used_up_tree(alloc, whole, branch, arcs, effort, 0)?;
+    let tree = saturated_tree(alloc, whole, branch, arcs, effort, 0)?;
     Ok(cheaper(&whole.instance, tree, least))
 }
 
 /// A tree of the branch over arcs with nothing left, if there is one: the cheapest of some that grow, led on by a
 /// walk of so many steps and improved.
-pub fn used_up_tree(
+pub fn saturated_tree(
     alloc: Global,
     whole: &Whole,
     branch: &Sides,
@@ -54,7 +54,7 @@ pub fn used_up_tree(
     ensures tree { IfOk result (λ tree. IfSome tree (IsTree whole.now.instance)) }
     ensures belongs { IfOk result (λ tree. IfSome tree (Belongs branch.now)) }
 {
-    let arcs = UsedUp::of(alloc, &whole.store, arcs)?;
+    let arcs = Saturated::of(alloc, &whole.store, arcs)?;
     let Some(tree) = grown_along(alloc, whole, branch, &arcs, &[])? else {
         return Ok(None);
     };
@@ -64,12 +64,12 @@ pub fn used_up_tree(
 }
 
 // The cheapest of a tree and of some that grow along weights that are drawn. What is left of a best packing
-// has used-up arcs to many trees, and the cheapest among them often is a cheapest one.
+// has saturated arcs to many trees, and the cheapest among them often is a cheapest one.
 fn cheapest_grown(
     alloc: Global,
     whole: &Whole,
     branch: &Sides,
-    arcs: &UsedUp,
+    arcs: &Saturated,
     first: Tree,
     effort: Effort,
 ) -> Result<Tree, AllocError>
@@ -92,12 +92,12 @@ fn cheapest_grown(
     Ok(best)
 }
 
-// The tree that grows over used-up arcs along weights, pruned, if it is one of the branch.
+// The tree that grows over saturated arcs along weights, pruned, if it is one of the branch.
 fn grown_along(
     alloc: Global,
     whole: &Whole,
     branch: &Sides,
-    arcs: &UsedUp,
+    arcs: &Saturated,
     weights: &[u64],
 ) -> Result<Option<Tree>, AllocError>
     requires branch { IsBranch whole.now.instance branch.now }
@@ -132,7 +132,7 @@ pub fn tree_along(
     Ok(Some(tree))
 }
 
-/// How many steps a walk from a drawn tree has, or from one over used-up arcs at a first node.
+/// How many steps a walk from a drawn tree has, or from one over saturated arcs at a first node.
 pub fn steps(whole: &Whole) -> u64 {
     steps_for(STEPS, whole.instance.links().len())
 }

@@ -1,5 +1,5 @@
 use crate::by_vertex::{at, put};
-use crate::used_up::UsedUp;
+use crate::saturated::Saturated;
 use graph_store::Whole;
 use st_model::{Listed, Sides, Tree};
 use std::alloc::{AllocError, Global};
@@ -9,7 +9,7 @@ use std::collections::BinaryHeap;
 // What a vertex weighs without a weight, in hundredths.
 const ONE: u64 = 100;
 
-// A tree that grows from a root over used-up arcs, by one cheap path after another. Nothing is
+// A tree that grows from a root over saturated arcs, by one cheap path after another. Nothing is
 // claimed of it: the tree is judged.
 #[derive(Drop)]
 struct Growth {
@@ -25,14 +25,14 @@ struct Growth {
     arcs: Vec<(u32, u32)>,
 }
 
-/// A tree from the root over used-up arcs, to all that it has to reach, as far as these lead there, and
+/// A tree from the root over saturated arcs, to all that it has to reach, as far as these lead there, and
 /// to whoever pays more than it costs to reach. The cost of an arc is weighted by its head, in hundredths; a
 /// vertex past the weights weighs 100. (Wong 1984)
 pub fn grown(
     alloc: Global,
     whole: &Whole,
     branch: &Sides,
-    arcs: &UsedUp,
+    arcs: &Saturated,
     weights: &[u64],
 ) -> Result<Tree, AllocError> {
     let root = arcs.root;
@@ -81,7 +81,7 @@ impl Growth {
         &mut self,
         whole: &Whole,
         branch: &Sides,
-        arcs: &UsedUp,
+        arcs: &Saturated,
         weights: &[u64],
         cost: u64,
         vertex: u32,
@@ -115,10 +115,10 @@ impl Growth {
         Ok(())
     }
 
-    // Offers each vertex to which a used-up arc leads what it costs by there.
+    // Offers each vertex to which a saturated arc leads what it costs by there.
     fn expand(
         &mut self,
-        arcs: &UsedUp,
+        arcs: &Saturated,
         weights: &[u64],
         cost: u64,
         tail: u32,

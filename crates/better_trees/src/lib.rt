@@ -18,7 +18,7 @@ mod narrowing;
 mod price;
 mod sampling;
 mod trees;
-mod used_up;
+mod saturated;
 mod walk;
 mod wandering;
 

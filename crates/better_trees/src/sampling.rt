@@ -39,7 +39,7 @@ const NOT_USED_UP: u64 = 55;
 const MORE: u64 = 10;
 
 /// A tree of the branch that costs less than the least cost known, if one is found: the cheapest of trees
-/// along costs that are drawn, led on by walks and improved, and of the one over used-up arcs led on so. Costs
+/// along costs that are drawn, led on by walks and improved, and of the one over saturated arcs led on so. Costs
 /// are drawn alone and by what is left of the arcs, and then round two of the trees found before. No more are
 /// drawn where one costs what the bound is.
 #[tactic(auto, using(crate::proofs::Found::found_later))]
@@ -49,7 +49,7 @@ pub fn drawn_tree<R: Threads + Sync>(
     whole: &Whole,
     branch: &Sides,
     arcs: &Arcs,
-    used_up: &Option<Tree>,
+    saturated: &Option<Tree>,
     elite: &mut Elite,
     effort: Effort,
     least: u64,
@@ -72,7 +72,7 @@ pub fn drawn_tree<R: Threads + Sync>(
         let drafts = if is_between {
             drafts_between(alloc, count.saturating_sub(first), arcs, elite, &mut draws)?
         } else {
-            first_drafts(alloc, whole, first, arcs, used_up, &mut draws)?
+            first_drafts(alloc, whole, first, arcs, saturated, &mut draws)?
         };
         let found = best_grown(rt, alloc, whole, branch, drafts, threads, elite, known)?;
         best = later(best, found);
@@ -92,18 +92,18 @@ fn first_of(count: u64) -> u64 {
     count.min(times.saturating_mul(AT_ONCE))
 }
 
-// So many drafts, of which the first leads on the tree over used-up arcs, if there is one and walks have steps. That
+// So many drafts, of which the first leads on the tree over saturated arcs, if there is one and walks have steps. That
 // one is there even where none is to be drawn.
 fn first_drafts(
     alloc: Global,
     whole: &Whole,
     count: u64,
     arcs: &Arcs,
-    used_up: &Option<Tree>,
+    saturated: &Option<Tree>,
     draws: &mut Draws,
 ) -> Result<Vec<Draft>, AllocError> {
     let mut drafts = Vec::new(alloc);
-    if let Some(tree) = used_up {
+    if let Some(tree) = saturated {
         if steps(whole) > 0 {
             let source = Source::Tree(tree.copied(alloc)?);
             drafts.push(Draft::of(source, draws.below(u64::MAX)))?;

@@ -4,7 +4,7 @@ ghost use Rattle.st_model.specs.Branch.{Belongs, IsBranch};
 ghost use Rattle.better_trees.specs.Part.{IsPartOf};
 ghost use Rattle.better_trees.specs.Better.{IsBetter};
 
-use crate::bettering::used_up_tree;
+use crate::bettering::saturated_tree;
 use crate::comparing::{cheaper, gap, later, least_after, tree_of};
 use crate::distances::near_root;
 use crate::effort::Effort;
@@ -51,7 +51,7 @@ pub fn trees_at<R: Threads + Sync>(
 {
     let below = gap(&whole.instance, branch, packing, least);
     let steps = effort.steps(below, least, whole.instance.links().len());
-    let tree = used_up_tree(alloc, whole, branch, arcs, effort, steps)?;
+    let tree = saturated_tree(alloc, whole, branch, arcs, effort, steps)?;
     let joints = joints_of(alloc, &whole.instance, known, &tree)?;
     let better = if effort.is_bare {
         led_on(
@@ -63,22 +63,22 @@ pub fn trees_at<R: Threads + Sync>(
     Ok(Trees { better, joints })
 }
 
-// Where the best tree known branches, and one over used-up arcs, if there is one.
+// Where the best tree known branches, and one over saturated arcs, if there is one.
 fn joints_of(
     alloc: Global,
     instance: &Instance,
     known: &Tree,
-    used_up: &Option<Tree>,
+    saturated: &Option<Tree>,
 ) -> Result<Joints, AllocError> {
     let mut joints = Joints::of_none(alloc, instance)?;
     joints.count(alloc, known)?;
-    if let Some(tree) = used_up {
+    if let Some(tree) = saturated {
         joints.count(alloc, tree)?;
     }
     Ok(joints)
 }
 
-// The best tree of one over used-up arcs, if there is one, of those that are drawn beside it, and of those
+// The best tree of one over saturated arcs, if there is one, of those that are drawn beside it, and of those
 // that walks come to, if it is cheaper than the least cost known.
 fn led_on<R: Threads + Sync>(
     rt: &R,
@@ -98,10 +98,10 @@ fn led_on<R: Threads + Sync>(
     requires belongs { IfSome tree (Belongs branch.now) }
     ensures { IfOk result (λ found. IfSome found (IsBetter whole.now.instance branch.now least)) }
 {
-    let used_up = kept(alloc, &whole.instance, &tree, elite)?;
+    let saturated = kept(alloc, &whole.instance, &tree, elite)?;
     let better = cheaper(&whole.instance, tree, least);
     let better = or_drawn(
-        rt, alloc, whole, branch, packing, arcs, &used_up, elite, better, least, effort,
+        rt, alloc, whole, branch, packing, arcs, &saturated, elite, better, least, effort,
     )?;
     or_wandered(
         rt, alloc, whole, branch, packing, arcs, known, elite, better, least, effort,
@@ -158,7 +158,7 @@ fn or_wandered<R: Threads + Sync>(
     Ok(later(better, found))
 }
 
-// A tree that is drawn, or to which a walk leads from the one over used-up arcs, where it is cheaper than a
+// A tree that is drawn, or to which a walk leads from the one over saturated arcs, where it is cheaper than a
 // better tree that was found, and else that one. None that costs less than all reaches a vertex that isn't near
 // the root, so the others are left out.
 fn or_drawn<R: Threads + Sync>(
@@ -168,7 +168,7 @@ fn or_drawn<R: Threads + Sync>(
     branch: &Sides,
     packing: &Packing,
     arcs: &Arcs,
-    used_up: &Option<Tree>,
+    saturated: &Option<Tree>,
     elite: &mut Elite,
     better: Option<Priced>,
     least: u64,
@@ -182,7 +182,7 @@ fn or_drawn<R: Threads + Sync>(
     let known = least_after(least, &better);
     let part = near_part(alloc, whole, branch, packing, arcs, known)?;
     let drawn = drawn_tree(
-        rt, alloc, whole, &part, arcs, used_up, elite, effort, known, bound,
+        rt, alloc, whole, &part, arcs, saturated, elite, effort, known, bound,
     )?;
     Ok(later(better, drawn))
 }

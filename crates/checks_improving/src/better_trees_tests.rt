@@ -114,7 +114,7 @@ fn price_from_1(alloc: Global, whole: &Whole, least: u64) -> Result<Option<u64>,
 }
 
 // The same where one of two links joins the required vertices at no cost, and the other one at this.
-fn price_over_used_up(alloc: Global, cost: u64, least: u64) -> Result<Option<u64>, AllocError>
+fn price_over_saturated(alloc: Global, cost: u64, least: u64) -> Result<Option<u64>, AllocError>
     requires { cost ≤ 1 }
 {
     let links = [link(1, 2, 0), link(2, 3, cost)];
@@ -128,7 +128,7 @@ fn price_over_used_up(alloc: Global, cost: u64, least: u64) -> Result<Option<u64
 #[test]
 fn grows_where_nothing_is_left(rt: HostRuntime) -> Result<(), Fail> {
     for (cost, least, wanted) in [(0, 5, Some(0)), (0, 0, None), (1, 5, None)] {
-        let got = price_over_used_up(rt.alloc(), cost, least)?;
+        let got = price_over_saturated(rt.alloc(), cost, least)?;
         assert_eq!(rt; got, wanted, "at a cost of {cost} below {least}");
     }
     Ok(())

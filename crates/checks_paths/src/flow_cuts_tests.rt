@@ -119,7 +119,7 @@ fn cuts_of_triangle(alloc: Global) -> Result<(Option<Vec<u32>>, Option<Vec<u32>>
 }
 
 #[test]
-fn finds_no_set_once_used_up_arcs_lead_there(rt: HostRuntime) -> Result<(), Fail> {
+fn finds_no_set_once_saturated_arcs_lead_there(rt: HostRuntime) -> Result<(), Fail> {
     let (before, after) = cuts_of_triangle(rt.alloc())?;
     assert_eq!(rt; before.as_deref(), Some([2, 3, 4].as_slice()));
     assert_eq!(rt; after, None);

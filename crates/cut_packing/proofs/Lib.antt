@@ -6,4 +6,4 @@ pub mod Charged
 pub mod Duality
 pub mod Judged
 pub mod HeldSets
-pub mod UsedUpArcs
+pub mod SaturatedArcs

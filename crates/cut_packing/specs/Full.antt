@@ -8,7 +8,7 @@ use Rattle.cut_packing.specs.declared.packing.Packing.{Packing}
 use Rattle.cut_packing.specs.Packing.{load, named}
 
 -- an arc between present vertices whose whole cost the cuts take
-pub record IsUsedUpIn (G : Ground) (B : Branch) (P : Packing) (u v : ℕ) : Type 0 where
+pub record IsSaturatedIn (G : Ground) (B : Branch) (P : Packing) (u v : ℕ) : Type 0 where
   pub tail : IsTrue (is_present B u)
   pub head : IsTrue (is_present B v)
   pub used : G.price u v ≡ Some (load P.cuts (u, v))
@@ -16,7 +16,7 @@ pub record IsUsedUpIn (G : Ground) (B : Branch) (P : Packing) (u v : ℕ) : Type
 -- what a walk of such arcs from the root reaches
 pub data IsReachedIn (G : Ground) (B : Branch) (P : Packing) (r : ℕ) : ℕ → Type 0 where
   here : IsReachedIn G B P r r
-  there : {u v : ℕ} → IsReachedIn G B P r u → IsUsedUpIn G B P u v → IsReachedIn G B P r v
+  there : {u v : ℕ} → IsReachedIn G B P r u → IsSaturatedIn G B P u v → IsReachedIn G B P r v
 
 -- whether v has to be reached, or could still be paid for
 abbrev pub open_in : Ground → Branch → Packing → ℕ → Bool
@@ -32,8 +32,8 @@ abbrev pub IsFullIn : Ground → Branch → Packing → Type 0
 IsFullIn G B P = (r : ℕ) × (P.root ≡ Some r) × IsFullFromIn G B P r
 
 -- the same in a network
-abbrev pub IsUsedUp : Network → Branch → Packing → ℕ → ℕ → Type 0
-IsUsedUp I B P u v = IsUsedUpIn (ground I) B P u v
+abbrev pub IsSaturated : Network → Branch → Packing → ℕ → ℕ → Type 0
+IsSaturated I B P u v = IsSaturatedIn (ground I) B P u v
 
 abbrev pub IsReached : Network → Branch → Packing → ℕ → ℕ → Type 0
 IsReached I B P r v = IsReachedIn (ground I) B P r v

@@ -1,7 +1,7 @@
 pub mod Packing
 pub mod Loads
 pub mod Full
-pub mod UsedUp
+pub mod Saturated
 pub mod SetTable
 pub mod ProofTree
 pub mod Laws

@@ -6,7 +6,7 @@ ghost use Rattle.cut_packing.specs.Full.{is_open, IsReached, IsFullFrom, IsFull}
 
 use crate::Packing;
 use crate::named::named_values;
-use crate::used_up::used_up;
+use crate::saturated::saturated;
 use st_model::{Instance, Sides, VertexSet, walk};
 use std::alloc::{AllocError, Global};
 
@@ -57,7 +57,7 @@ fn reached(
     if root as usize >= count {
         return VertexSet::new(alloc, count);
     }
-    let heads = used_up(alloc, instance, branch, packing)?;
+    let heads = saturated(alloc, instance, branch, packing)?;
     walk(alloc, &heads, root)
 }
 

@@ -19,12 +19,12 @@ use Rattle.prize_transform.specs.Twins.{Ends, left_of, prize_for}
 use Rattle.cut_packing.specs.declared.cut.Cut.{Cut}
 use Rattle.cut_packing.specs.declared.packing.Packing.{Packing}
 use Rattle.cut_packing.specs.Packing.{load, named, IsRoot, CutFits, ArcsFit, PrizesFit, Fits, weight}
-use Rattle.cut_packing.specs.Full.{IsUsedUp, IsReached, IsFull, here as at_root, there as along}
+use Rattle.cut_packing.specs.Full.{IsSaturated, IsReached, IsFull, here as at_root, there as along}
 use Rattle.graph_store.specs.Whole.{IsWhole}
 use Rattle.cut_packing.proofs.Duality.{named_vertex}
 use Rattle.dual_ascent.specs.Left.{FitsLeft, raised}
 use Rattle.dual_ascent.specs.Levels.{IsCutFor, AreCutsFor}
-use Rattle.dual_ascent.specs.Raises.{IsUsedUp as HasNothingLeft, Reaches, here, there, IsRaisable}
+use Rattle.dual_ascent.specs.Raises.{IsSaturated as HasNothingLeft, Reaches, here, there, IsRaisable}
 use Rattle.dual_ascent.specs.Ascent.{ReachesAll}
 use Rattle.dual_ascent.specs.Laws.{joined, IsCharged}
 use Rattle.dual_ascent.proofs.ChargedCuts.{before_taking, load-append, named-append}
@@ -93,9 +93,9 @@ module _ (g : Graph) (B : Branch) (P : Packing) (D : Digraph) (E : Ends) (h : Is
       not_must true is_here must = let e = sym must ∙ h.left.kinds q ∙ may_free g B q is_here free in absurd cc
       not_must false gone must = both_ways (is_open g B q) gone (open_must g B q (sym (h.left.kinds q) ∙ must))
 
-  -- an arc of which they leave nothing is used up by both together
-  used_up : (u v : ℕ) → HasNothingLeft D A.cuts u v → IsUsedUp g.network B (joined P A) u v
-  used_up u v none =
+  -- an arc of which they leave nothing is saturated by both together
+  saturated : (u v : ℕ) → HasNothingLeft D A.cuts u v → IsSaturated g.network B (joined P A) u v
+  saturated u v none =
       let before = before_taking (arc_cost g B u v) (load P.cuts (u, v)) (load A.cuts (u, v)) (sym (h.left.remaining u v) ∙ none) in
       let linked = cost_linked g B u v before.0 before.1 in
       let borne = rw linked.2 at (h.fits.arcs u v linked.0 linked.1) in
@@ -105,7 +105,7 @@ module _ (g : Graph) (B : Branch) (P : Packing) (D : Digraph) (E : Ends) (h : Is
   -- so what the root reaches over such arcs is reached
   walked : (r v u : ℕ) → Reaches D A.cuts v u → IsReached g.network B (joined P A) r u → IsReached g.network B (joined P A) r v
   walked r v u here reached = reached
-  walked r v u (there none rest) reached = walked r v _ rest (along reached (used_up _ _ none))
+  walked r v u (there none rest) reached = walked r v _ rest (along reached (saturated _ _ none))
 
   pub joined_full : A.root ≡ Some D.root → ReachesAll D E A.cuts → IsFull g.network B (joined P A)
   joined_full same all = (

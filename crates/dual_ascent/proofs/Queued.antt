@@ -16,7 +16,7 @@ use Rattle.cut_packing.specs.Packing.{load}
 use Rattle.dual_ascent.specs.declared.growing.Growth.{Growth}
 use Rattle.dual_ascent.specs.declared.turning.Turn.{Turn}
 use Rattle.dual_ascent.specs.Left.{AreEndsOf, AreLowered, AreSpent}
-use Rattle.dual_ascent.specs.Raises.{IsUsedUp, Reaches, IsRaisable}
+use Rattle.dual_ascent.specs.Raises.{IsSaturated, Reaches, IsRaisable}
 use Rattle.dual_ascent.specs.Turns.{AllWait, AreCertain, AreLeading, AreWaiting, Entry, IsCovered, IsGrowth, IsTurn, IsWaiting, waits}
 use Rattle.dual_ascent.proofs.ChargedCuts.{kinds_kept, raisable_after}
 use Rattle.dual_ascent.proofs.Reaching.{reaches_over, reaches_through}
@@ -133,7 +133,7 @@ passed_over D E g old rest t raisable turn h = by_case t.is_covered refl
         (waiting_past D E rest e (λ open_at. absurd (closed open_at)) (turn.waited E h), leading_past D E g.known.leads.items rest e closed (rw is at turn.leading))
 
 -- cuts use more arcs up
-used_still : (D D' : Digraph) (cuts : List Cut) → AreLowered D D' cuts → (u v : ℕ) → IsUsedUp D [] u v → IsUsedUp D' [] u v
+used_still : (D D' : Digraph) (cuts : List Cut) → AreLowered D D' cuts → (u v : ℕ) → IsSaturated D [] u v → IsSaturated D' [] u v
 used_still D D' cuts lowered u v used = lowered.remaining u v ∙ ap (option_map (λ r. r - load cuts (u, v))) used ∙ ap Some (omega arith)
 
 -- and the root reaches whom it reached

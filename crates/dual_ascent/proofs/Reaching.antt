@@ -18,11 +18,11 @@ use Rattle.bidirected_form.specs.Digraph.{Digraph, IsDigraph, arcs_into, kind_of
 use Rattle.bidirected_form.proofs.Lookups.{Rise, Rise-rest, left_from-found}
 use Rattle.cut_packing.specs.declared.cut.Cut.{Cut}
 use Rattle.dual_ascent.specs.declared.growing.Growth.{Growth}
-use Rattle.dual_ascent.specs.Raises.{IsUsedUp, Reaches, here, there}
+use Rattle.dual_ascent.specs.Raises.{IsSaturated, Reaches, here, there}
 use Rattle.dual_ascent.specs.Turns.{free_tails, AreSeeds, IsGathered, IsGrowth, IsLedTo, IsSet, leads, stops}
 
 -- what arcs with nothing left allow, more such arcs do
-pub reaches_over : (D D' : Digraph) (C C' : List Cut) → ((u v : ℕ) → IsUsedUp D C u v → IsUsedUp D' C' u v) → (q v : ℕ) → Reaches D C q v → Reaches D' C' q v
+pub reaches_over : (D D' : Digraph) (C C' : List Cut) → ((u v : ℕ) → IsSaturated D C u v → IsSaturated D' C' u v) → (q v : ℕ) → Reaches D C q v → Reaches D' C' q v
 reaches_over D D' C C' more q v here = here
 reaches_over D D' C C' more q v (there {u = u} {v = w} used rest) = there (more u w used) (reaches_over D D' C C' more q w rest)
 

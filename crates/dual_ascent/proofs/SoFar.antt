@@ -14,7 +14,7 @@ use Rattle.cut_packing.specs.declared.packing.Packing.{Packing}
 use Rattle.dual_ascent.specs.declared.ascent.Ascent.TheVariants.{Full, Reached}
 use Rattle.dual_ascent.specs.Ascent.{IsAscent, IsAscended, ReachesAll}
 use Rattle.dual_ascent.specs.Left.{AreLowered, AreSpent, raised}
-use Rattle.dual_ascent.specs.Raises.{IsUsedUp, Reaches, IsRaisable, UsesUpAnArc, ReachesTarget, SpendsThePrize, IsLeast, IsRaise, AreRaises}
+use Rattle.dual_ascent.specs.Raises.{IsSaturated, Reaches, IsRaisable, UsesUpAnArc, ReachesTarget, SpendsThePrize, IsLeast, IsRaise, AreRaises}
 use Rattle.dual_ascent.proofs.ChargedCuts.{AreLowered-none, AreLowered-append, AreSpent-none, AreSpent-append, before_taking, kinds_kept, raisable_after}
 use Rattle.dual_ascent.proofs.Raised.{nil_apart, raises_load, raises_push}
 use Rattle.dual_ascent.proofs.Reaching.{reaches_over}
@@ -48,10 +48,10 @@ module _ (D D' : Digraph) (E E' : Ends) (target room : ℕ) (cuts : List Cut) (h
       before.1 ∙ ap Some (omega (arith, before.2, raises_load D E target cuts h.raises u v before.0 before.1))
 
   -- nothing is left of an arc where the cuts take all of it
-  pub used_before : (u v : ℕ) → IsUsedUp D' [] u v → IsUsedUp D cuts u v
+  pub used_before : (u v : ℕ) → IsSaturated D' [] u v → IsSaturated D cuts u v
   used_before u v is = before_is u v 0 is ∙ ap Some (omega arith)
 
-  pub used_now : (u v : ℕ) → IsUsedUp D cuts u v → IsUsedUp D' [] u v
+  pub used_now : (u v : ℕ) → IsSaturated D cuts u v → IsSaturated D' [] u v
   used_now u v is = left_is u v (load cuts (u, v)) is ∙ ap Some (omega arith)
 
   kinds_same : (v : ℕ) → kind_of D' v ≡ kind_of D v

@@ -11,13 +11,13 @@ use Rattle.cut_packing.specs.Packing.{load, named}
 use Rattle.dual_ascent.specs.Left.{raised}
 
 -- the cuts take all that remains of the arc from u to v
-abbrev pub IsUsedUp : Digraph → List Cut → ℕ → ℕ → Type 0
-IsUsedUp D cuts u v = remaining D u v ≡ Some (load cuts (u, v))
+abbrev pub IsSaturated : Digraph → List Cut → ℕ → ℕ → Type 0
+IsSaturated D cuts u v = remaining D u v ≡ Some (load cuts (u, v))
 
 -- what reaches q over arcs with nothing left
 pub data Reaches (D : Digraph) (cuts : List Cut) (q : ℕ) : ℕ → Type 0 where
   here : Reaches D cuts q q
-  there : {u v : ℕ} → IsUsedUp D cuts u v → Reaches D cuts q v → Reaches D cuts q u
+  there : {u v : ℕ} → IsSaturated D cuts u v → Reaches D cuts q v → Reaches D cuts q u
 
 -- q has to be reached, or the cuts leave something of its prize
 abbrev pub IsRaisable : Digraph → Ends → List Cut → ℕ → Type 0

@@ -11,7 +11,7 @@ use Rattle.st_model.specs.Network.{IsVertex}
 use Rattle.st_model.specs.Branch.{IsVertexSet}
 use Rattle.bidirected_form.specs.Digraph.{Digraph, IsDigraph, remaining}
 use Rattle.bidirected_form.specs.Entering.{enters}
-use Rattle.flow_cuts.specs.Fewest.{entering_sum, entering_count, Separates, IsFewest, IsUsedUp}
+use Rattle.flow_cuts.specs.Fewest.{entering_sum, entering_count, Separates, IsFewest, IsSaturated}
 use Rattle.flow_cuts.specs.Sending.{back, CanSend, IsFlow, IsBalanced, IsSearched, SendsOne}
 use Rattle.flow_cuts.specs.declared.searching.Search.{Search}
 use Rattle.flow_cuts.proofs.Counts.{count_few}
@@ -54,7 +54,7 @@ flow_at_least D q k f set h flow holds misses closed =
     by_case u v left is entering (inl room) =
         absurd (false≢true (sym entering.1 ∙ closed u v entering.0 (record { left = left; arc = is; room = inr (omega arith) })))
 
--- no used-up arc enters a closed set
+-- no saturated arc enters a closed set
 pub separates_closed : (D : Digraph) (q capacity : ℕ) (f : ℕ → ℕ → ℕ) (set : List ℕ) → IsTrue (has set q) → IsFalse (has set D.root)
     → ((u v : ℕ) → IsTrue (has set v) → CanSend D f capacity u v → IsTrue (has set u)) → Separates D q set
 separates_closed D q capacity f set holds misses closed = record {
@@ -63,7 +63,7 @@ separates_closed D q capacity f set holds misses closed = record {
   remains = λ u v entering used. by_case u v (has set v) (has set u) refl refl entering used;
 }
   where
-    by_case : (u v : ℕ) (a b : Bool) → has set v ≡ a → has set u ≡ b → IsTrue (a && not b) → IsUsedUp D u v → ⊥
+    by_case : (u v : ℕ) (a b : Bool) → has set v ≡ a → has set u ≡ b → IsTrue (a && not b) → IsSaturated D u v → ⊥
     by_case u v true false e i t used = false≢true (sym i ∙ closed u v e (record { left = 0; arc = used; room = inl refl }))
     by_case u v true true e i t used = false≢true t
     by_case u v false b e i t used = false≢true t

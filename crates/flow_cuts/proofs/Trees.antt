@@ -143,7 +143,7 @@ met_root D f capacity q next s found tree = record {
 pub holds_q : (D : Digraph) (f : ℕ → ℕ → ℕ) (capacity q : ℕ) (s : Search) → IsTree D f capacity q s → IsTrue (has s.reaching.members q)
 holds_q D f capacity q s tree = tree.same q ∙ rw (eq-eqb q q refl) refl
 
--- where there is no room on arcs that something remains of, steps go over used-up arcs alone
+-- where there is no room on arcs that something remains of, steps go over saturated arcs alone
 pub steps_lead : (D : Digraph) (f : ℕ → ℕ → ℕ) (q : ℕ) (steps : List (ℕ × ℕ)) → AreSteps D f 0 q steps → (v : ℕ) → IsTrue (is_led q steps v) → LeadsTo D q v
 steps_lead D f q [] are v led = subst (λ (w : ℕ). LeadsTo D q w) (sym (eqb-true v q (alone (eqb v q) led))) here
   where

@@ -6,13 +6,13 @@ use Rattle.bidirected_form.specs.Digraph.{Digraph, arcs_into, remaining}
 use Rattle.bidirected_form.specs.Entering.{enters}
 
 -- nothing remains of the arc from u to v
-abbrev pub IsUsedUp : Digraph → ℕ → ℕ → Type 0
-IsUsedUp D u v = remaining D u v ≡ Some 0
+abbrev pub IsSaturated : Digraph → ℕ → ℕ → Type 0
+IsSaturated D u v = remaining D u v ≡ Some 0
 
 -- what leads to q over arcs that nothing remains of
 pub data LeadsTo (D : Digraph) (q : ℕ) : ℕ → Type 0 where
   here : LeadsTo D q q
-  over : {u v : ℕ} → IsUsedUp D u v → LeadsTo D q v → LeadsTo D q u
+  over : {u v : ℕ} → IsSaturated D u v → LeadsTo D q v → LeadsTo D q u
 
 -- the sum of f over the arcs that enter a set
 abbrev pub entering_sum : Digraph → (ℕ → ℕ → ℕ) → List ℕ → ℕ
@@ -26,7 +26,7 @@ entering_count D set = entering_sum D (λ u v. 1) set
 pub record Separates (D : Digraph) (q : ℕ) (set : List ℕ) : Type 0 where
   pub holds : IsTrue (has set q)
   pub misses : IsFalse (has set D.root)
-  pub remains : (u v : ℕ) → IsTrue (enters set u v) → IsUsedUp D u v → ⊥
+  pub remains : (u v : ℕ) → IsTrue (enters set u v) → IsSaturated D u v → ⊥
 
 -- a set of vertices that separates q from the root
 pub record IsCandidate (D : Digraph) (q : ℕ) (members : List ℕ) : Type 0 where

@@ -25,7 +25,7 @@ pub fn pick(
     for before in 0..instance.vertices() {
         let vertex = before + 1;
         let into = arcs.arcs_into(vertex);
-        let rank = (joints.at(vertex), used_up_of(into), into.len());
+        let rank = (joints.at(vertex), saturated_of(into), into.len());
         if rank > most && near.contains(vertex) && branch.is_free(instance, vertex) {
             best = vertex;
             most = rank;
@@ -35,6 +35,6 @@ pub fn pick(
 }
 
 // How many of the arcs have nothing left.
-fn used_up_of(arcs: &[Arc]) -> usize {
+fn saturated_of(arcs: &[Arc]) -> usize {
     arcs.iter().filter(|arc| arc.remaining == 0).count()
 }

@@ -163,7 +163,7 @@ fn walks_at_the_first_node(rt: HostRuntime) -> Result<(), Fail> {
     Ok(())
 }
 
-// What the tree costs that is drawn, or led on from the one over used-up arcs if there is one, if it costs less
+// What the tree costs that is drawn, or led on from the one over saturated arcs if there is one, if it costs less
 // than 7.
 fn price_drawn<R: Threads + Sync>(
     rt: &R,
@@ -171,19 +171,19 @@ fn price_drawn<R: Threads + Sync>(
     whole: &Whole,
     branch: &Sides,
     arcs: &Arcs,
-    used_up: &Option<Tree>,
+    saturated: &Option<Tree>,
 ) -> Result<Option<u64>, AllocError>
     requires { IsBranch whole.now.instance branch.now }
 {
     let mut elite = Elite::new(alloc);
     let effort = Effort::at(branch.branch(), true, 1);
     let found = drawn_tree(
-        rt, alloc, whole, branch, arcs, used_up, &mut elite, effort, 7, 0,
+        rt, alloc, whole, branch, arcs, saturated, &mut elite, effort, 7, 0,
     )?;
     Ok(found.map(|found| found.price))
 }
 
-// The same where the one over used-up arcs is the one over vertex 2, and where there is none.
+// The same where the one over saturated arcs is the one over vertex 2, and where there is none.
 fn prices_drawn<R: Threads + Sync>(
     rt: &R,
     alloc: Global,
@@ -193,9 +193,9 @@ fn prices_drawn<R: Threads + Sync>(
 {
     let branch = all(alloc)?;
     let arcs = Arcs::of(alloc, &whole.store, &branch, 1)?;
-    let used_up = Some(tree_over(alloc, &[(1, 2), (2, 3), (1, 5)])?);
+    let saturated = Some(tree_over(alloc, &[(1, 2), (2, 3), (1, 5)])?);
     Ok([
-        price_drawn(rt, alloc, whole, &branch, &arcs, &used_up)?,
+        price_drawn(rt, alloc, whole, &branch, &arcs, &saturated)?,
         price_drawn(rt, alloc, whole, &branch, &arcs, &None)?,
     ])
 }
@@ -209,9 +209,9 @@ fn prices_drawn_of_many<R: Threads + Sync>(
     prices_drawn(rt, alloc, &whole)
 }
 
-// A walk from the tree over used-up arcs comes to one of cost 6.
+// A walk from the tree over saturated arcs comes to one of cost 6.
 #[test]
-fn leads_on_the_tree_over_used_up_arcs(rt: HostRuntime) -> Result<(), Fail> {
+fn leads_on_the_tree_over_saturated_arcs(rt: HostRuntime) -> Result<(), Fail> {
     assert_eq!(rt; prices_drawn_of_many(&rt, rt.alloc())?, [Some(6), None]);
     Ok(())
 }

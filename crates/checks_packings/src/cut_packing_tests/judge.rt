@@ -104,7 +104,7 @@ pub fn plain_fits(instance: &Instance, branch: &Branch, packing: &Packing) -> bo
     root_fits(instance, branch, packing)
 }
 
-fn is_used_up(instance: &Instance, branch: &Branch, packing: &Packing, u: u32, v: u32) -> bool {
+fn is_saturated(instance: &Instance, branch: &Branch, packing: &Packing, u: u32, v: u32) -> bool {
     match instance.link_cost(u, v) {
         None => false,
         Some(cost) => {
@@ -115,7 +115,7 @@ fn is_used_up(instance: &Instance, branch: &Branch, packing: &Packing, u: u32, v
     }
 }
 
-// Whether v is reached from u over at most so many used-up arcs.
+// Whether v is reached from u over at most so many saturated arcs.
 fn leads(
     instance: &Instance,
     branch: &Branch,
@@ -131,7 +131,7 @@ fn leads(
         return false;
     }
     for w in 0..8 {
-        if is_used_up(instance, branch, packing, u, w)
+        if is_saturated(instance, branch, packing, u, w)
             && leads(instance, branch, packing, steps - 1, w, v)
         {
             return true;

@@ -24,7 +24,7 @@ fn bits(vertices: &[u32]) -> u32 {
     set
 }
 
-// How many arcs enter a set, unless a used-up one does.
+// How many arcs enter a set, unless a saturated one does.
 fn plain_count(arcs: &Arcs, set: u32) -> Option<u32> {
     let mut count = 0u32;
     for place in 0..64u32 {
@@ -39,7 +39,7 @@ fn plain_count(arcs: &Arcs, set: u32) -> Option<u32> {
     Some(count)
 }
 
-// By how few arcs a set is entered that holds a vertex and not 1, and that no used-up arc enters.
+// By how few arcs a set is entered that holds a vertex and not 1, and that no saturated arc enters.
 fn plain_least(arcs: &Arcs, q: u32) -> Option<u32> {
     let mut least: Option<u32> = None;
     for half in 0..128u32 {

@@ -1,6 +1,6 @@
 use Rattle.std.proofs.Common.{arith}
 use Rattle.std.proofs.lemmas.Result.{IfOk-weaker}
-use Rattle.cut_packing.proofs.UsedUpArcs.{reached_iff, unreached_iff}
+use Rattle.cut_packing.proofs.SaturatedArcs.{reached_iff, unreached_iff}
 use Rattle.cut_packing.proofs.fullness.reached.Goals as goal
 
 pub returns-then-root-count : goal.returns-then-root-count

@@ -3,9 +3,9 @@ use Rattle.std.specs.Prelude.{nat_lt}
 use Rattle.st_model.specs.Lists.{has}
 use Rattle.st_model.specs.Led.{heads_at}
 use Rattle.cut_packing.specs.Loads.{arcs_into}
-use Rattle.cut_packing.specs.UsedUp.{is_used}
-use Rattle.cut_packing.proofs.used_up.heads_of.Given as goal
+use Rattle.cut_packing.specs.Saturated.{is_saturated}
+use Rattle.cut_packing.proofs.saturated.heads_of.Given as goal
 
 abbrev pub invariant-loop-head : goal.invariant-loop-head
 invariant-loop-head l =
-    record { count : length l.heads ≡ l.count; listed : (u v : ℕ) → has (heads_at l.heads u) v ≡ (nat_lt v l.head && is_used (arcs_into l.arcs v) u) }
+    record { count : length l.heads ≡ l.count; listed : (u v : ℕ) → has (heads_at l.heads u) v ≡ (nat_lt v l.head && is_saturated (arcs_into l.arcs v) u) }

@@ -1,4 +1,4 @@
--- Arcs that bear just what their links cost are used up, and no others are.
+-- Arcs that bear just what their links cost are saturated, and no others are.
 use Rattle.std.proofs.Common.{◌≡◌, ℕ, ◌+◌, ◌<◌, ◌≤◌, true, ◌&&◌, List, [], ◌∷◌, length, get_or, Some, Result, Ok, Err, refl, sym, ap, ◌∙◌, inl, inr, subst, arith}
 use Rattle.std.specs.Prelude.{◌==◌, ◌↔◌, IsTrue, IfOk, All, is_some}
 use Rattle.std.specs.List.{list_any}
@@ -12,26 +12,26 @@ use Rattle.st_model.specs.Led.{heads_at, IsLed, start, along, AreLed}
 use Rattle.cut_packing.specs.declared.arcs.LoadedArc.{LoadedArc}
 use Rattle.cut_packing.specs.declared.packing.Packing.{Packing}
 use Rattle.cut_packing.specs.Packing.{load}
-use Rattle.cut_packing.specs.Full.{IsUsedUp, IsReached, here, there}
+use Rattle.cut_packing.specs.Full.{IsSaturated, IsReached, here, there}
 use Rattle.cut_packing.specs.Loads.{arcs_into, IsLoaded, AreLoaded}
-use Rattle.cut_packing.specs.UsedUp.{is_used, AreUsedUp}
+use Rattle.cut_packing.specs.Saturated.{is_saturated, AreSaturated}
 use Rattle.st_model.proofs.Marked.{has_at, place_of}
 use Rattle.cut_packing.proofs.Loaded.{linked_vertex}
 
 module _ (I : Network) (B : Branch) (P : Packing) (u v : ℕ) where
-  -- an arc that bears just what its link costs is used up
-  used_up_from : (arcs : List LoadedArc) → All (IsLoaded I B P.cuts v) arcs → IsTrue (is_used arcs u) → IsUsedUp I B P u v
-  used_up_from [] loaded used = absurd (false≢true used)
-  used_up_from (arc ∷ arcs) loaded used =
-      elim (or_cases ((arc.tail == u) && (arc.load == arc.cost)) (is_used arcs u) used) [
+  -- an arc that bears just what its link costs is saturated
+  saturated_from : (arcs : List LoadedArc) → All (IsLoaded I B P.cuts v) arcs → IsTrue (is_saturated arcs u) → IsSaturated I B P u v
+  saturated_from [] loaded used = absurd (false≢true used)
+  saturated_from (arc ∷ arcs) loaded used =
+      elim (or_cases ((arc.tail == u) && (arc.load == arc.cost)) (is_saturated arcs u) used) [
         | inl now ↦ here_used (and_parts (arc.tail == u) (arc.load == arc.cost) now)
-        | inr later ↦ used_up_from arcs (All-tail (IsLoaded I B P.cuts v) arc arcs loaded) later
+        | inr later ↦ saturated_from arcs (All-tail (IsLoaded I B P.cuts v) arc arcs loaded) later
       ]
     where
       one : IsLoaded I B P.cuts v arc
       one = All-head (IsLoaded I B P.cuts v) arc arcs loaded
 
-      here_used : ((arc.tail == u) ≡ true) × ((arc.load == arc.cost) ≡ true) → IsUsedUp I B P u v
+      here_used : ((arc.tail == u) ≡ true) × ((arc.load == arc.cost) ≡ true) → IsSaturated I B P u v
       here_used p =
           let same = eqb-true arc.tail u p.0 in
           rw (← same) (record {
@@ -40,13 +40,13 @@ module _ (I : Network) (B : Branch) (P : Packing) (u v : ℕ) where
             used = one.cost ∙ ap Some (sym (eqb-true arc.load arc.cost p.1) ∙ one.load);
           })
 
-  -- where an arc is used up, its own one among these bears just what its link costs
-  used_from : (arcs : List LoadedArc) → All (IsLoaded I B P.cuts v) arcs → IsUsedUp I B P u v → IsTrue (list_any (λ arc. arc.tail == u) arcs) → IsTrue (is_used arcs u)
-  used_from [] loaded used is_there = absurd (false≢true is_there)
-  used_from (arc ∷ arcs) loaded used is_there =
+  -- where an arc is saturated, its own one among these bears just what its link costs
+  its_own_from : (arcs : List LoadedArc) → All (IsLoaded I B P.cuts v) arcs → IsSaturated I B P u v → IsTrue (list_any (λ arc. arc.tail == u) arcs) → IsTrue (is_saturated arcs u)
+  its_own_from [] loaded used is_there = absurd (false≢true is_there)
+  its_own_from (arc ∷ arcs) loaded used is_there =
       elim (or_cases (arc.tail == u) (list_any (λ a. a.tail == u) arcs) is_there) [
-        | inl now ↦ or_left _ (is_used arcs u) (and_from (arc.tail == u) (arc.load == arc.cost) now (just (eqb-true arc.tail u now)))
-        | inr later ↦ or_right ((arc.tail == u) && (arc.load == arc.cost)) (is_used arcs u) (used_from arcs (All-tail (IsLoaded I B P.cuts v) arc arcs loaded) used later)
+        | inl now ↦ or_left _ (is_saturated arcs u) (and_from (arc.tail == u) (arc.load == arc.cost) now (just (eqb-true arc.tail u now)))
+        | inr later ↦ or_right ((arc.tail == u) && (arc.load == arc.cost)) (is_saturated arcs u) (its_own_from arcs (All-tail (IsLoaded I B P.cuts v) arc arcs loaded) used later)
       ]
     where
       one : IsLoaded I B P.cuts v arc
@@ -58,14 +58,14 @@ module _ (I : Network) (B : Branch) (P : Packing) (u v : ℕ) where
           let cost : arc.cost ≡ load P.cuts (u, v) = cc in
           eq-eqb arc.load arc.cost (omega (arith, one.load, ap (λ w. load P.cuts (w, v)) same))
 
--- the heads that are listed are those of the used-up arcs
-pub AreUsedUp-from : (I : Network) (B : Branch) (P : Packing) (arcs : List (List LoadedArc)) (heads : List (List ℕ)) → AreLoaded I B I.links P.cuts arcs → length heads ≡ I.n + 1 → ((u v : ℕ) → has (heads_at heads u) v ≡ is_used (arcs_into arcs v) u) → AreUsedUp I B P heads
-AreUsedUp-from I B P arcs heads h count listed = record {
+-- the heads that are listed are those of the saturated arcs
+pub AreSaturated-from : (I : Network) (B : Branch) (P : Packing) (arcs : List (List LoadedArc)) (heads : List (List ℕ)) → AreLoaded I B I.links P.cuts arcs → length heads ≡ I.n + 1 → ((u v : ℕ) → has (heads_at heads u) v ≡ is_saturated (arcs_into arcs v) u) → AreSaturated I B P heads
+AreSaturated-from I B P arcs heads h count listed = record {
   count = count;
   in_range = λ u k d below. head_below u _ (has_at (heads_at heads u) k d below);
   exact = λ u v. (
-    λ held. used_up_from I B P u v (arcs_into arcs v) (h.sound v) (sym (listed u v) ∙ held),
-    λ used. listed u v ∙ used_from I B P u v (arcs_into arcs v) (h.sound v) used (h.complete u v used.tail used.head (ap is_some used.used)),
+    λ held. saturated_from I B P u v (arcs_into arcs v) (h.sound v) (sym (listed u v) ∙ held),
+    λ used. listed u v ∙ its_own_from I B P u v (arcs_into arcs v) (h.sound v) used (h.complete u v used.tail used.head (ap is_some used.used)),
   );
 }
   where
@@ -75,7 +75,7 @@ AreUsedUp-from I B P arcs heads h count listed = record {
           | inl below ↦ below
           | inr past ↦
               let none : arcs_into arcs v ≡ [] = get_or_past arcs v [] (omega (arith, h.count)) in
-              absurd (false≢true (sym (listed u v ∙ ap (λ list. is_used list u) none) ∙ held))
+              absurd (false≢true (sym (listed u v ∙ ap (λ list. is_saturated list u) none) ∙ held))
         ]
 
 -- two facts of what a call gives
@@ -83,17 +83,17 @@ pub IfOk-both : {X Y : Type 0} (r : Result X Y) (P Q : X → Type 0) → IfOk r 
 IfOk-both (Ok x) P Q p q = (p, q)
 IfOk-both (Err y) P Q p q = tt
 
--- what the used-up arcs lead to is reached
-led_reached : (I : Network) (B : Branch) (P : Packing) (heads : List (List ℕ)) (r v : ℕ) → AreUsedUp I B P heads → IsLed heads r v → IsReached I B P r v
+-- what the saturated arcs lead to is reached
+led_reached : (I : Network) (B : Branch) (P : Packing) (heads : List (List ℕ)) (r v : ℕ) → AreSaturated I B P heads → IsLed heads r v → IsReached I B P r v
 led_reached I B P heads r v h start = here
 led_reached I B P heads r v h (along {u} before listed) = there (led_reached I B P heads r u h before) ((h.exact u v).0 listed)
 
 -- what is reached is among all that they lead to
-reached_led : (I : Network) (B : Branch) (P : Packing) (heads : List (List ℕ)) (members : List ℕ) (r v : ℕ) → AreUsedUp I B P heads → AreLed heads r members → IsReached I B P r v → IsTrue (has members v)
+reached_led : (I : Network) (B : Branch) (P : Packing) (heads : List (List ℕ)) (members : List ℕ) (r v : ℕ) → AreSaturated I B P heads → AreLed heads r members → IsReached I B P r v → IsTrue (has members v)
 reached_led I B P heads members r v h led here = led.root
 reached_led I B P heads members r v h led (there {u} before used) = led.closed u v (reached_led I B P heads members r u h led before) ((h.exact u v).1 used)
 
-pub reached_iff : (I : Network) (B : Branch) (P : Packing) (heads : List (List ℕ)) (members : List ℕ) (r : ℕ) → AreUsedUp I B P heads → AreLed heads r members → (v : ℕ) → IsVertex I.n v → IsTrue (has members v) ↔ IsReached I B P r v
+pub reached_iff : (I : Network) (B : Branch) (P : Packing) (heads : List (List ℕ)) (members : List ℕ) (r : ℕ) → AreSaturated I B P heads → AreLed heads r members → (v : ℕ) → IsVertex I.n v → IsTrue (has members v) ↔ IsReached I B P r v
 reached_iff I B P heads members r h led v in_range = (
   λ held. let p = place_of members v held in subst (IsReached I B P r) p.2 (led_reached I B P heads r (get_or members p.0 0) h (led.sound p.0 0 p.1)),
   λ reached. reached_led I B P heads members r v h led reached,

@@ -1,4 +1,4 @@
--- The heads of used-up arcs, listed at their tails.
+-- The heads of saturated arcs, listed at their tails.
 use Rattle.std.specs.Prelude.{ℕ, ◌+◌, ◌≡◌, ◌<◌, ◌↔◌, ◌==◌, ◌&&◌, Bool, IsTrue, List, length, All}
 use Rattle.std.specs.List.{list_any}
 use Rattle.st_model.specs.declared.branch.Branch.{Branch}
@@ -7,14 +7,14 @@ use Rattle.st_model.specs.Network.{Network}
 use Rattle.st_model.specs.Led.{heads_at}
 use Rattle.cut_packing.specs.declared.arcs.LoadedArc.{LoadedArc}
 use Rattle.cut_packing.specs.declared.packing.Packing.{Packing}
-use Rattle.cut_packing.specs.Full.{IsUsedUp}
+use Rattle.cut_packing.specs.Full.{IsSaturated}
 
 -- whether one of the arcs comes from u and bears just what its link costs
-abbrev pub is_used : List LoadedArc → ℕ → Bool
-is_used arcs u = list_any (λ arc. (arc.tail == u) && (arc.load == arc.cost)) arcs
+abbrev pub is_saturated : List LoadedArc → ℕ → Bool
+is_saturated arcs u = list_any (λ arc. (arc.tail == u) && (arc.load == arc.cost)) arcs
 
--- at each vertex the heads of the used-up arcs from it, and no others
-pub record AreUsedUp (I : Network) (B : Branch) (P : Packing) (heads : List (List ℕ)) : Type 0 where
+-- at each vertex the heads of the saturated arcs from it, and no others
+pub record AreSaturated (I : Network) (B : Branch) (P : Packing) (heads : List (List ℕ)) : Type 0 where
   pub count : length heads ≡ I.n + 1
   pub in_range : (u : ℕ) → All (λ v. v < length heads) (heads_at heads u)
-  pub exact : (u v : ℕ) → IsTrue (has (heads_at heads u) v) ↔ IsUsedUp I B P u v
+  pub exact : (u v : ℕ) → IsTrue (has (heads_at heads u) v) ↔ IsSaturated I B P u v

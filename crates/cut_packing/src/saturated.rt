@@ -2,7 +2,7 @@ ghost use Rattle.std.specs.Prelude.{◌≡◌, ℕ, ◌<◌, ◌^◌, ◌==◌, 
 ghost use Rattle.st_model.specs.Lists.{has};
 ghost use Rattle.st_model.specs.Led.{heads_at};
 ghost use Rattle.cut_packing.specs.Loads.{arcs_into};
-ghost use Rattle.cut_packing.specs.UsedUp.{is_used, AreUsedUp};
+ghost use Rattle.cut_packing.specs.Saturated.{is_saturated, AreSaturated};
 
 use crate::Packing;
 use crate::arcs::{LoadedArc, LoadedArcs};
@@ -11,13 +11,13 @@ use st_model::{Instance, Sides, VertexLists};
 use std::alloc::{AllocError, Global};
 
 /// The heads of the arcs whose whole cost the cuts take, listed at their tails.
-pub fn used_up(
+pub fn saturated(
     alloc: Global,
     instance: &Instance,
     branch: &Sides,
     packing: &Packing,
 ) -> Result<VertexLists<u32>, AllocError>
-    ensures { IfOk result (λ heads. AreUsedUp instance.now branch.now packing.now heads) }
+    ensures { IfOk result (λ heads. AreSaturated instance.now branch.now packing.now heads) }
 {
     let vertices = instance.vertices();
     let arcs = loads(alloc, instance, branch, packing.cuts.as_slice())?;
@@ -34,7 +34,7 @@ pub fn heads_of(
     requires tails { (v : ℕ) → All (λ arc. arc.tail < count) (arcs_into arcs.now v) }
     ensures count { IfOk result (λ heads. length heads ≡ count) }
     ensures listed { IfOk result (λ heads. (u v : ℕ) →
-        has (heads_at heads u) v ≡ is_used (arcs_into arcs.now v) u) }
+        has (heads_at heads u) v ≡ is_saturated (arcs_into arcs.now v) u) }
 {
     let mut heads = VertexLists::new(alloc, count as usize)?;
     for head in 0..count {
@@ -48,7 +48,7 @@ fn list_head(heads: &mut VertexLists<u32>, arcs: &[LoadedArc], head: u32) -> Res
     requires { All (λ arc. arc.tail < length heads.old) arcs.now }
     ensures count { length heads.new ≡ length heads.old }
     ensures listed { OnOk result ((u v : ℕ) → has (heads_at heads.new u) v
-        ≡ (has (heads_at heads.old u) v || ((head == v) && is_used arcs.now u))) }
+        ≡ (has (heads_at heads.old u) v || ((head == v) && is_saturated arcs.now u))) }
 {
     for arc in arcs {
         if arc.load == u128::from(arc.cost) {
