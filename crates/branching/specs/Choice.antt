@@ -1,5 +1,5 @@
 -- Where a branch is split.
-use Rattle.std.specs.Prelude.{◌≡◌, ℕ, ◌≤◌, Option, Some, None}
+use Rattle.std.specs.Prelude.{ℕ, ◌≤◌, Option, Some, None}
 use Rattle.st_model.specs.declared.branch.Branch.{Branch}
 use Rattle.st_model.specs.Network.{Network, IsVertex, pays}
 use Rattle.cut_packing.specs.ProofTree.{IsSplit}

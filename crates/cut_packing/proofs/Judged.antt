@@ -4,17 +4,15 @@ use Rattle.std.specs.Prelude.{◌==◌, if◌then◌else◌, ◌↔◌, IsTrue, 
 use Rattle.std.specs.List.{list_any}
 use Rattle.std.proofs.lemmas.Bool.{cases_eq, cases_lt, eqb-true, eq-eqb, ne_eqb, false≢true}
 use Rattle.std.proofs.lemmas.List.{get_or_past, get_or_default, length-set}
-use Rattle.std.proofs.lemmas.List.Elements.{All-weaker, All-head, All-tail}
+use Rattle.std.proofs.lemmas.List.Elements.{All-head, All-tail}
 use Rattle.st_model.specs.declared.branch.Branch.{Branch}
-use Rattle.st_model.specs.Lists.{has}
 use Rattle.st_model.specs.Network.{Network, link}
 use Rattle.st_model.specs.Branch.{is_present}
 use Rattle.cut_packing.specs.declared.arcs.LoadedArc.{LoadedArc}
 use Rattle.cut_packing.specs.declared.cut.Cut.{Cut}
-use Rattle.cut_packing.specs.Packing.{load, named, CutFits, ArcsFit}
+use Rattle.cut_packing.specs.Packing.{load, named, ArcsFit}
 use Rattle.cut_packing.specs.Loads.{arcs_into, IsLoaded, AreLoaded}
 use Rattle.st_model.proofs.Costs.{total_more}
-use Rattle.cut_packing.proofs.Duality.{named_vertex}
 
 -- an arc from u has its load below its cost where each has
 bears_from : (I : Network) (B : Branch) (cuts : List Cut) (u v : ℕ) (price : ℕ) (arcs : List LoadedArc) → All (IsLoaded I B cuts v) arcs → All (λ arc. arc.load ≤ arc.cost) arcs → IsTrue (list_any (λ arc. arc.tail == u) arcs) → link I.links u v ≡ Some price → load cuts (u, v) ≤ price
