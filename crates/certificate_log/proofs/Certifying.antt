@@ -26,7 +26,7 @@ use Rattle.certificate_log.specs.Bound.{lowest_weight}
 use Rattle.certificate_log.specs.Spent.{IsGreatestOf, IsSpent, light_weights}
 use Rattle.certificate_log.proofs.Proved.{lines_fit, one_proof, proved_below, proves_lower}
 use Rattle.certificate_log.proofs.Sizes.{length-light_weights, length-preorder}
-use Rattle.certificate_log.proofs.Writing.{cost_fits, writable_tree}
+use Rattle.log_format.proofs.Writable.{cost_fits, writable_tree}
 
 -- what the tree costs and what is paid besides is small
 pub small_sum : (s : State) (t : Tree) (least : ℕ) → IsState s → IsTreeOf s t → least ≡ cost s.instance t → least + s.offset < 2 ^ 64

@@ -4,5 +4,4 @@ pub mod Finding
 pub mod Lowest
 pub mod Sizes
 pub mod Proved
-pub mod Writing
 pub mod Certifying

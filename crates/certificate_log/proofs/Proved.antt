@@ -19,7 +19,7 @@ use Rattle.search_core.specs.declared.done.Done.TheVariants.{Close}
 use Rattle.search_core.specs.declared.gathered.Gathered.{Gathered}
 use Rattle.search_core.specs.Complete.{AllPackings, done_packing, records, waiting}
 use Rattle.search_core.specs.ReadOff.{IsReadOff, closed, waits, was_split, least_weight}
-use Rattle.certificate_log.proofs.Writing.{any_vertex}
+use Rattle.log_format.proofs.Writable.{any_vertex}
 
 -- where lines begin with a proof tree, they begin with no other, and the same lines follow
 one_in_front : (p q : ProofTree) (r s : List ProofLine) → preorder p ++ r ≡ preorder q ++ s → (p ≡ q) × (r ≡ s)

@@ -18,3 +18,4 @@ pub mod Refusing
 pub mod PlaceLaws
 pub mod ItemLaws
 pub mod Rejecting
+pub mod Writable

@@ -19,7 +19,8 @@ use Rattle.better_trees.specs.declared.price.Priced.{Priced}
 use Rattle.better_trees.specs.Better.{IsBetter, least_after}
 use Rattle.node_work.specs.declared.step.End.TheVariants.{Close}
 use Rattle.node_work.specs.Step.{IsStep}
-use Rattle.node_work.proofs.Writing.{cost_fits, writable_packing}
+use Rattle.log_format.proofs.Writable.{cost_fits}
+use Rattle.node_work.proofs.Writing.{writable_packing}
 
 -- a branch of which every vertex is outside weighs all prizes
 none_present : (I : Network) (B : Branch) (P : Packing) (least : ℕ) → IsBranch I B → LeavesRequired I B

@@ -17,7 +17,7 @@ use Rattle.st_model.proofs.ThinGrowth.{has-reached_from}
 use Rattle.log_format.specs.Text.{IsWritableSet}
 use Rattle.graph_store.specs.Graph.{Graph}
 use Rattle.graph_store.specs.Whole.{IsWholeOf}
-use Rattle.certificate_log.proofs.Writing.{any_vertex}
+use Rattle.log_format.proofs.Writable.{any_vertex}
 use Rattle.tree_heuristic.specs.Reaching.{HasNoTree, IsNoDearerThanOne, ReachesPresent}
 
 -- a wall can be written

@@ -12,7 +12,7 @@ use Rattle.lift_back.specs.State.{State, IsState, whole}
 use Rattle.lift_back.specs.Steps.{Applies, Takes}
 use Rattle.lift_back.proofs.Beginning.{whole_state}
 use Rattle.log_format.specs.Text.{IsAnyVertex, IsWritableStep}
-use Rattle.certificate_log.proofs.Writing.{any_vertex}
+use Rattle.log_format.proofs.Writable.{any_vertex}
 use Rattle.steiner_top.specs.Left.{CanBeCounted}
 
 -- a walk over links is one over vertices
