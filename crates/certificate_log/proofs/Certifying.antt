@@ -24,7 +24,8 @@ use Rattle.search_core.specs.ReadOff.{CompleteCounts, CompleteIsFew, CompleteIsP
 use Rattle.certificate_log.specs.Assembled.{IsAssembled}
 use Rattle.certificate_log.specs.Bound.{lowest_weight}
 use Rattle.certificate_log.specs.Spent.{IsGreatestOf, IsSpent, light_weights}
-use Rattle.certificate_log.proofs.Proved.{lines_fit, one_proof, proved_below, proves_lower}
+use Rattle.search_core.proofs.Reading.{proves-lower}
+use Rattle.certificate_log.proofs.Proved.{lines_fit, one_proof, proved_below}
 use Rattle.certificate_log.proofs.Sizes.{length-light_weights, length-preorder}
 use Rattle.log_format.proofs.Writable.{cost_fits, writable_tree}
 
@@ -83,7 +84,7 @@ module _ (steps : List Step) (first : Network) (s : State) (G : Gathered) (t tre
   is_below = omega (arith, h.is_lowest)
 
   proved : Proves s.instance (left_over s) (left_of dual s) p
-  proved = proves_lower s.instance (left_over s) (left_of dual s) light p (omega (arith, h.is_lowest)) h.proves.proves
+  proved = proves-lower s.instance (left_over s) (left_of dual s) light p (omega (arith, h.is_lowest)) h.proves.proves
 
   accepted : AcceptsFound first primal dual tree steps lines
   accepted = record { is_tree = h.is_tree; is_cost = is_primal; is_below = is_below; is_proved = (s, h.applies, (p, h.lines_are, proved)) }

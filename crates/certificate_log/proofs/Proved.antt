@@ -44,11 +44,6 @@ proved_below I B x (split at inside outside) proves =
     let outer = proved_below I (no_half B at) x outside proves.2 in
     omega (arith, inner, outer)
 
--- what proves a value proves a lower one
-pub proves_lower : (I : Network) (B : Branch) (x y : ℕ) (p : ProofTree) → x ≤ y → Proves I B y p → Proves I B x p
-proves_lower I B x y (close P) low proves = record { fits = proves.fits; weighs = omega (arith, low, proves.weighs) }
-proves_lower I B x y (split at inside outside) low proves = (proves.0, proves_lower I (yes_half B at) x y inside low proves.1, proves_lower I (no_half B at) x y outside low proves.2)
-
 -- a split of a branch can be written
 split_fits : (I : Network) (B : Branch) (at : SplitAt) → IsInstance I → IsSplitAt I B at → IsWritableLine (line.Split at)
 split_fits I B (Vertex v) instance may = any_vertex I v instance may.vertex

@@ -102,7 +102,7 @@ free-no I B (Vertex v) may = free-outside I B v may
 free-no I B (Link a b) may = absurd may
 
 -- what proves a value proves a lower one
-proves-lower : (I : Network) (B : Branch) (x y : ℕ) (p : ProofTree) → x ≤ y → Proves I B y p → Proves I B x p
+pub proves-lower : (I : Network) (B : Branch) (x y : ℕ) (p : ProofTree) → x ≤ y → Proves I B y p → Proves I B x p
 proves-lower I B x y (close P) low h = record { fits = h.fits; weighs = at_most x y (weight I B P) low h.weighs }
   where
     at_most : (a b c : ℕ) → a ≤ b → b ≤ c → a ≤ c

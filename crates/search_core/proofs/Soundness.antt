@@ -11,7 +11,7 @@ use Rattle.st_model.specs.Branch.{is_free, is_undecided}
 use Rattle.st_model.specs.Network.{Network, is_required}
 use Rattle.cut_packing.specs.declared.packing.Packing.{Packing}
 use Rattle.cut_packing.specs.Packing.{Fits, weight}
-use Rattle.cut_packing.specs.ProofTree.{IsSplit, Closes, IsSplitAt}
+use Rattle.cut_packing.specs.ProofTree.{Closes, IsSplitAt}
 use Rattle.st_model.specs.declared.branch.Branch.{Branch}
 use Rattle.branching.specs.declared.node.Node.{Node}
 use Rattle.branching.specs.Node.{IsNode}
@@ -24,7 +24,7 @@ use Rattle.search_core.specs.declared.made.Made.{Made}
 use Rattle.search_core.specs.State.{State, made_as, hand, held, with_made, changed_at, seen, beginning, new_worker, root_of}
 use Rattle.search_core.specs.declared.made.Place.TheVariants.{Queue}
 use Rattle.search_core.specs.declared.made.Place.TheVariants as place
-use Rattle.search_core.specs.Needs.{IsAllowed, AllowsSplit, splits_at, may_split_at}
+use Rattle.search_core.specs.Needs.{IsAllowed, AllowsSplit, may_split_at}
 use Rattle.search_core.specs.Effects.{after, granted, refused, ended, halves_made, id_in_hand}
 use Rattle.search_core.specs.declared.done.End.TheVariants.{OpenZero, HaltSeen}
 use Rattle.search_core.specs.declared.worker.Worker.{Worker}

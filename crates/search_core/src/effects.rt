@@ -186,10 +186,7 @@ fn halves_on(
         packing: packing.shared(alloc)?,
     };
     match halves_at(alloc, parent, at, ids.0, ids.1) {
-        Ok((yes, no)) => Ok((
-            fresh(yes, Place::Hand(w)),
-            fresh(no, Place::Fresh(w)),
-        )),
+        Ok((yes, no)) => Ok((fresh(yes, Place::Hand(w)), fresh(no, Place::Fresh(w)))),
         Err((_, error)) => Err(error),
     }
 }
