@@ -7,7 +7,7 @@ use log_format::{
     items_are_lines, line_items, one_item, one_spelling, read_log, refused_exactly,
     rejected_exactly, write_log,
 };
-use st_model::Listed;
+use st_model::{Listed, SplitAt};
 use std::alloc::{AllocError, Global};
 use std::test::Fail;
 use std::thread::Threads;
@@ -190,6 +190,7 @@ const CHANGES: &[(&str, &str, u64, Kind)] = &[
     ("C 1 3", "C 1 3\nC 1 3", 10, Kind::BadLine),
     ("C 1 3", "C 1000001 3", 9, Kind::BadLine),
     ("C 1 3", "S 0", 9, Kind::BadLine),
+    ("C 1 3", "L 1 4", 9, Kind::BadLine),
     ("C 1 3", "S 2\nC 1 3", 14, Kind::BadLine),
     ("U 2 2 1 2", "U 2 2 0", 10, Kind::BadLine),
     ("U 2 2 1 2", "U 2 2 2 2", 10, Kind::BadLine),
@@ -429,7 +430,7 @@ fn lines_of(alloc: Global, letters: &[u8]) -> Result<Vec<ProofLine>, AllocError>
     let mut lines = Vec::new(alloc);
     for letter in letters {
         let line = if *letter == b'S' {
-            ProofLine::Split(1)
+            ProofLine::Split(SplitAt::Vertex(1))
         } else {
             empty_close(alloc)
         };
@@ -480,7 +481,8 @@ fn seen(item: &Item) -> (&'static str, u64, u64) {
         Item::StepsHead(count) => ("steps", *count, 0),
         Item::OneStep(_) => ("step", 0, 0),
         Item::ProofHead => ("proof", 0, 0),
-        Item::Split(vertex) => ("split", *vertex as u64, 0),
+        Item::Split(SplitAt::Vertex(vertex)) => ("split", *vertex as u64, 0),
+        Item::Split(SplitAt::Link(a, b)) => ("split at a link", *a as u64, *b as u64),
         Item::CloseHead { root, count } => ("close", root.unwrap_or(0) as u64, *count),
         Item::OneCut(cut) => ("cut", cut.q as u64, cut.y),
         Item::Last => ("end", 0, 0),

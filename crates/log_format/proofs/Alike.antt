@@ -11,18 +11,20 @@ use Rattle.std.proofs.lemmas.List.Kept.{AllPairs-from_increasing}
 use Rattle.st_model.specs.declared.branch.Branch.{Branch}
 use Rattle.st_model.specs.declared.need.Need.{Need}
 use Rattle.st_model.specs.declared.need.Need.TheVariants.{Required, Pays}
+use Rattle.st_model.specs.declared.split_at.SplitAt.{SplitAt}
+use Rattle.st_model.specs.declared.split_at.SplitAt.TheVariants.{Vertex, Link}
 use Rattle.st_model.specs.Lists.{has, sum_to}
 use Rattle.st_model.specs.Made.{is_between}
 use Rattle.st_model.specs.Network.{Network, IsVertex, link, need_of, is_needed, is_required, prize, pays}
 use Rattle.st_model.specs.Arborescence.{arc_cost}
-use Rattle.st_model.specs.Branch.{with_inside, with_outside}
+use Rattle.st_model.specs.Branch.{yes_half, no_half}
 use Rattle.st_model.proofs.Distinct.{link-comm}
 use Rattle.st_model.proofs.Marked.{at_member}
 use Rattle.st_model.proofs.Members.{has-one}
 use Rattle.st_model.proofs.Sums.{sum_to_same}
 use Rattle.cut_packing.specs.declared.packing.Packing.{Packing}
 use Rattle.cut_packing.specs.Packing.{load, named, IsRoot, CutFits, Fits, outside_pays, weight}
-use Rattle.cut_packing.specs.ProofTree.{ProofTree, close, split, IsSplit, Proves}
+use Rattle.cut_packing.specs.ProofTree.{ProofTree, close, split, IsSplitAt, Proves}
 use Rattle.lift_back.specs.declared.step.Step.{Step}
 use Rattle.lift_back.specs.declared.step.Step.TheVariants.{Pendant, Through, Forced, Detour}
 use Rattle.lift_back.specs.State.{State, IsState}
@@ -84,8 +86,9 @@ module _ (I J : Network) (same : Agree I J) where
       let count : sum_to (outside_pays J B) I.n ≡ sum_to (outside_pays J B) J.n = ap (sum_to (outside_pays J B)) same.count in
       omega arith
 
-  pub split_same : (B : Branch) (v : ℕ) → IsSplit I B v → IsSplit J B v
-  split_same B v is = record { vertex = vertex_same v is.vertex; undecided = is.undecided; free = sym (required_same v) ∙ is.free }
+  pub split_same : (B : Branch) (at : SplitAt) → IsSplitAt I B at → IsSplitAt J B at
+  split_same B (Link _ _) is = absurd is
+  split_same B (Vertex v) is = record { vertex = vertex_same v is.vertex; undecided = is.undecided; free = sym (required_same v) ∙ is.free }
 
   leads_same : (v : ℕ) (others : List ℕ) → LeadsOnlyTo I v others → LeadsOnlyTo J v others
   leads_same v others only w linked = only w (linked_back v w linked)
@@ -108,7 +111,7 @@ module _ (I J : Network) (same : Agree I J) where
 -- the same is proved of both
 pub proves_alike : (I J : Network) → Agree I J → (B : Branch) (x : ℕ) (p : ProofTree) → Proves I B x p → Proves J B x p
 proves_alike I J same B x (close P) closes = record { fits = fits_same I J same B P closes.fits; weighs = subst (λ (w : ℕ). x ≤ w) (weight_same I J same B P) closes.weighs }
-proves_alike I J same B x (split v inside outside) proves = (split_same I J same B v proves.0, proves_alike I J same (with_inside B v) x inside proves.1, proves_alike I J same (with_outside B v) x outside proves.2)
+proves_alike I J same B x (split at p q) proves = (split_same I J same B at proves.0, proves_alike I J same (yes_half B at) x p proves.1, proves_alike I J same (no_half B at) x q proves.2)
 
 -- ---- sets
 

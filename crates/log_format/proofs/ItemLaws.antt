@@ -6,11 +6,12 @@ use Rattle.std.specs.Str.{bytes_eq}
 use Rattle.std.proofs.lemmas.List.{map-append}
 use Rattle.std.proofs.lemmas.List.Elements.{recursion_from_All}
 use Rattle.plain_text.specs.Steps.{◌>>=◌}
+use Rattle.st_model.specs.declared.split_at.SplitAt.TheVariants.{Vertex, Link}
 use Rattle.cut_packing.specs.declared.cut.Cut.{Cut}
 use Rattle.lift_back.specs.declared.step.Step.{Step}
 use Rattle.lift_back.specs.declared.step.Step.TheVariants.{Pendant, Through, Forced, Detour}
 use Rattle.log_format.specs.declared.item.Item.{Item}
-use Rattle.log_format.specs.declared.item.Item.TheVariants.{Header, ClaimTree, ClaimNone, Wall, TreeHead, Arc, StepsHead, OneStep, ProofHead, Split as SplitAt, CloseHead, OneCut, Last}
+use Rattle.log_format.specs.declared.item.Item.TheVariants.{Header, ClaimTree, ClaimNone, Wall, TreeHead, Arc, StepsHead, OneStep, ProofHead, Split as OneSplit, CloseHead, OneCut, Last}
 use Rattle.log_format.specs.declared.log.Log.{Log}
 use Rattle.log_format.specs.declared.log.Claim.{Claim}
 use Rattle.log_format.specs.declared.log.Claim.TheVariants.{Found, NoTree}
@@ -39,7 +40,7 @@ cuts_spelled [] = refl
 cuts_spelled (c ∷ cuts) = ap (λ (r : List (List ℕ)). cut_line c ∷ r) (cuts_spelled cuts)
 
 line_spelled : (line : ProofLine) → map item_line (proof_items line) ≡ lines_of line
-line_spelled (Split v) = refl
+line_spelled (Split at) = refl
 line_spelled (Close P) = ap (λ (r : List (List ℕ)). words (codes "C") (root_number P.root ∷ length P.cuts ∷ []) ∷ r) (cuts_spelled P.cuts)
 
 proof_spelled : (lines : List ProofLine) → map item_line (flat_map proof_items lines) ≡ flat_map lines_of lines
@@ -92,7 +93,7 @@ by_first b line =
     (either (pair_of (codes "CLAIM TREE") 0 most 0 most line >>= λ p. Some (ClaimTree p.0 p.1)) (pair_of (codes "C") 0 1000000 0 most line >>= λ p. Some (CloseHead (root_of p.0) p.1))) else
     if b == 69 then item_if (codes "END") line Last else
     if b == 83 then either (item_if header line Header)
-    (either (number_of (codes "STEPS") 0 most line >>= λ n. Some (StepsHead n)) (number_of (codes "S") 1 1000000 line >>= λ v. Some (SplitAt v))) else
+    (either (number_of (codes "STEPS") 0 most line >>= λ n. Some (StepsHead n)) (number_of (codes "S") 1 1000000 line >>= λ v. Some (OneSplit (Vertex v)))) else
     if b == 84 then (pair_of (codes "TREE") 1 1000000 0 most line >>= λ p. Some (TreeHead p.0 p.1)) else
     if b == 85 then (cut_of line >>= λ c. Some (OneCut c)) else
     if b == 87 then (wall_of line >>= λ wall. Some (Wall wall)) else
@@ -129,7 +130,8 @@ any_again (Arc tail head) fits = rw ((pair_judges (codes "A") 1 1000000 1 100000
 any_again (StepsHead count) fits = rw ((number_of_judges (codes "STEPS") 0 most (omega arith)).again count (omega arith, omega (arith, fits))) refl
 any_again (OneStep s) fits = any_step s fits
 any_again ProofHead fits = refl
-any_again (SplitAt v) fits = rw (no_steps, (number_of_judges (codes "S") 1 1000000 (omega arith)).again v fits) refl
+any_again (OneSplit (Vertex v)) fits = rw (no_steps, (number_of_judges (codes "S") 1 1000000 (omega arith)).again v fits) refl
+any_again (OneSplit (Link _ _)) fits = absurd fits
 any_again (CloseHead root count) fits =
     rw (no_claim, (pair_judges (codes "C") 0 1000000 0 most (omega arith) (omega arith)).again (root_number root, count) ((omega arith, root_in_range root fits.0), (omega arith, omega (arith, fits.1))))
     (ap (λ (r : Option ℕ). Some (CloseHead r count)) (root_again root fits.0))
@@ -161,7 +163,7 @@ cuts_fit (c ∷ cuts) h = (h.0, cuts_fit cuts h.1)
 
 proof_fits : (lines : List ProofLine) → AllByRecursion IsWritableLine lines → AllByRecursion IsItem (flat_map proof_items lines)
 proof_fits [] h = tt
-proof_fits (Split v ∷ lines) h = (h.0, proof_fits lines h.1)
+proof_fits (Split at ∷ lines) h = (h.0, proof_fits lines h.1)
 proof_fits (Close P ∷ lines) h = ((h.0.root, h.0.few_cuts), all-append (map (λ c. OneCut c) P.cuts) (flat_map proof_items lines) (cuts_fit P.cuts (recursion_from_All IsWritableCut P.cuts h.0.cuts)) (proof_fits lines h.1))
 
 claim_fits : (claim : Claim) → IsClaimInRange claim → AllByRecursion IsItem (claim_items claim)

@@ -9,6 +9,7 @@ use Rattle.log_format.specs.declared.log.Claim.{Claim}
 use Rattle.log_format.specs.declared.log.Claim.TheVariants.{Found, NoTree}
 use Rattle.log_format.specs.declared.proof_line.ProofLine.{ProofLine}
 use Rattle.log_format.specs.declared.proof_line.ProofLine.TheVariants.{Split, Close}
+use Rattle.st_model.specs.declared.split_at.SplitAt.TheVariants.{Vertex, Link}
 use Rattle.cut_packing.specs.declared.cut.Cut.{Cut}
 use Rattle.lift_back.specs.declared.step.Step.{Step}
 use Rattle.lift_back.specs.declared.step.Step.TheVariants.{Pendant, Through, Forced, Detour}
@@ -138,9 +139,8 @@ steps_lack (s ∷ steps) fits = (step_lacks s fits.0, steps_lack steps fits.1)
 
 proof_lacks : (lines : List ProofLine) → AllByRecursion IsWritableLine lines → AreLines (flat_map lines_of lines)
 proof_lacks [] fits = tt
-proof_lacks (Split v ∷ lines) fits =
-    let high : v ≤ 1000000 = fits.0.1 in
-    (words_lack (codes "S") (v ∷ []) refl (omega arith, tt), proof_lacks lines fits.1)
+proof_lacks (Split (Vertex v) ∷ lines) fits = (vertex_lacks (codes "S") v refl fits.0, proof_lacks lines fits.1)
+proof_lacks (Split (Link _ _) ∷ lines) fits = absurd fits.0
 proof_lacks (Close P ∷ lines) fits =
     let root = root_in_range P.root fits.0.root in
     lines-append (lines_of (Close P)) (flat_map lines_of lines) (words_lack (codes "C") (root_number P.root ∷ length P.cuts ∷ []) refl (omega (arith, root), (fits.0.few_cuts, tt)), cuts_lack P.cuts (recursion_from_All _ P.cuts fits.0.cuts)) (proof_lacks lines fits.1)

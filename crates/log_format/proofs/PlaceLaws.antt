@@ -5,10 +5,11 @@ use Rattle.std.specs.Str.{bytes_eq}
 use Rattle.std.proofs.lemmas.Option.{cond_some}
 use Rattle.plain_text.specs.Steps.{◌>>=◌}
 use Rattle.plain_text.proofs.Steps.{step_some, chosen}
+use Rattle.st_model.specs.declared.split_at.SplitAt.TheVariants.{Vertex}
 use Rattle.cut_packing.specs.declared.cut.Cut.{Cut}
 use Rattle.lift_back.specs.declared.step.Step.{Step}
 use Rattle.log_format.specs.declared.item.Item.{Item}
-use Rattle.log_format.specs.declared.item.Item.TheVariants.{Header, ClaimTree, ClaimNone, Wall, TreeHead, Arc, StepsHead, OneStep, ProofHead, Split as SplitAt, CloseHead, OneCut, Last}
+use Rattle.log_format.specs.declared.item.Item.TheVariants.{Header, ClaimTree, ClaimNone, Wall, TreeHead, Arc, StepsHead, OneStep, ProofHead, Split as OneSplit, CloseHead, OneCut, Last}
 use Rattle.log_format.specs.declared.log.Claim.{Claim}
 use Rattle.log_format.specs.declared.log.Claim.TheVariants.{NoTree}
 use Rattle.log_format.specs.declared.place.Place.{Place}
@@ -149,7 +150,7 @@ one_said wanted line item next y fits spelled e =
 
 half_takes : (line : List ℕ) (waiting : ℕ) (y : Item × Place) (v : Option ℕ) → number_of (codes "S") 1 1000000 line ≡ v → half_said v line waiting ≡ Some y → IsSaid line y
 half_takes line waiting y (Some v) found e =
-    let x : Item × Place = (SplitAt v, BeforeHalf (waiting + 1)) in
+    let x : Item × Place = (OneSplit (Vertex v), BeforeHalf (waiting + 1)) in
     let same : x ≡ y = cc in
     let j = (number_of_judges (codes "S") 1 1000000 (omega arith)).takes line v found in
     subst (λ (z : Item × Place). IsSaid line z) same (j.0, j.1)

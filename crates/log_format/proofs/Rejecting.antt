@@ -2,9 +2,10 @@
 use Rattle.std.proofs.Common.{◌≡◌, ℕ, ◌+◌, ◌-◌, true, List, [], ◌∷◌, ◌++◌, inl, inr, length, refl, sym, ap, subst, ◌∙◌, append_assoc, arith}
 use Rattle.std.proofs.lemmas.List.{append-nil}
 use Rattle.st_model.specs.declared.branch.Branch.{Branch}
+use Rattle.st_model.specs.declared.split_at.SplitAt.{SplitAt}
 use Rattle.st_model.specs.Network.{Network, IsInstance}
-use Rattle.st_model.specs.Branch.{avoiding, with_inside, with_outside}
-use Rattle.cut_packing.specs.ProofTree.{ProofTree, close, split, Closes, IsSplit, Proves}
+use Rattle.st_model.specs.Branch.{avoiding, yes_half, no_half}
+use Rattle.cut_packing.specs.ProofTree.{ProofTree, close, split, Closes, IsSplitAt, Proves}
 use Rattle.lift_back.specs.declared.step.Step.{Step}
 use Rattle.lift_back.specs.State.{State, IsState, whole}
 use Rattle.lift_back.specs.Steps.{Applies}
@@ -54,16 +55,16 @@ abbrev pub IsRight : Network → ℕ → List Branch → List ProofLine → Type
 IsRight I x [] [] = Unit {0}
 IsRight I x [] (line ∷ lines) = ⊥
 IsRight I x (B ∷ Bs) [] = ⊥
-IsRight I x (B ∷ Bs) (Split v ∷ lines) = IsSplit I B v × IsRight I x (with_inside B v ∷ with_outside B v ∷ Bs) lines
+IsRight I x (B ∷ Bs) (Split at ∷ lines) = IsSplitAt I B at × IsRight I x (yes_half B at ∷ no_half B at ∷ Bs) lines
 IsRight I x (B ∷ Bs) (Close P ∷ lines) = Closes I B x P × IsRight I x Bs lines
 
 -- the lines of a proof tree that proves x of a branch are right
 right_preorder : (I : Network) (x : ℕ) (p : ProofTree) (B : Branch) (Bs : List Branch) (rest : List ProofLine) → Proves I B x p → IsRight I x Bs rest → IsRight I x (B ∷ Bs) (preorder p ++ rest)
 right_preorder I x (close P) B Bs rest proves right = (proves, right)
-right_preorder I x (split v p q) B Bs rest proves right =
-    let inner = right_preorder I x q (with_outside B v) Bs rest proves.2 right in
-    let outer = right_preorder I x p (with_inside B v) (with_outside B v ∷ Bs) (preorder q ++ rest) proves.1 inner in
-    (proves.0, subst (λ (ls : List ProofLine). IsRight I x (with_inside B v ∷ with_outside B v ∷ Bs) ls) (sym (append_assoc (preorder p) (preorder q) rest)) outer)
+right_preorder I x (split at p q) B Bs rest proves right =
+    let inner = right_preorder I x q (no_half B at) Bs rest proves.2 right in
+    let outer = right_preorder I x p (yes_half B at) (no_half B at ∷ Bs) (preorder q ++ rest) proves.1 inner in
+    (proves.0, subst (λ (ls : List ProofLine). IsRight I x (yes_half B at ∷ no_half B at ∷ Bs) ls) (sym (append_assoc (preorder p) (preorder q) rest)) outer)
 
 -- each tree proves x of its branch
 abbrev AllProve : Network → ℕ → List Branch → List ProofTree → Type 0
@@ -77,17 +78,17 @@ abbrev Trees : Network → ℕ → List Branch → List ProofLine → Type 0
 Trees I x Bs lines = (ps : List ProofTree) × (lines ≡ preorders ps) × AllProve I x Bs ps
 
 -- a split of the first two
-with_split : (I : Network) (x : ℕ) (B : Branch) (Bs : List Branch) (v : ℕ) (lines : List ProofLine) → IsSplit I B v → Trees I x (with_inside B v ∷ with_outside B v ∷ Bs) lines → Trees I x (B ∷ Bs) (Split v ∷ lines)
-with_split I x B Bs v lines is_split ([], e, none) = absurd none
-with_split I x B Bs v lines is_split (p ∷ [], e, none) = absurd none.1
-with_split I x B Bs v lines is_split (p ∷ q ∷ ps, e, proved) = (split v p q ∷ ps, ap (λ (r : List ProofLine). Split v ∷ r) (e ∙ sym (append_assoc (preorder p) (preorder q) (preorders ps))), ((is_split, proved.0, proved.1.0), proved.1.1))
+with_split : (I : Network) (x : ℕ) (B : Branch) (Bs : List Branch) (at : SplitAt) (lines : List ProofLine) → IsSplitAt I B at → Trees I x (yes_half B at ∷ no_half B at ∷ Bs) lines → Trees I x (B ∷ Bs) (Split at ∷ lines)
+with_split I x B Bs at lines is_split ([], e, none) = absurd none
+with_split I x B Bs at lines is_split (p ∷ [], e, none) = absurd none.1
+with_split I x B Bs at lines is_split (p ∷ q ∷ ps, e, proved) = (split at p q ∷ ps, ap (λ (r : List ProofLine). Split at ∷ r) (e ∙ sym (append_assoc (preorder p) (preorder q) (preorders ps))), ((is_split, proved.0, proved.1.0), proved.1.1))
 
 -- lines that are right are those of proof trees
 trees_of : (I : Network) (x : ℕ) (Bs : List Branch) (lines : List ProofLine) → IsRight I x Bs lines → Trees I x Bs lines
 trees_of I x [] [] right = ([], refl, tt)
 trees_of I x [] (line ∷ lines) none = absurd none
 trees_of I x (B ∷ Bs) [] none = absurd none
-trees_of I x (B ∷ Bs) (Split v ∷ lines) right = with_split I x B Bs v lines right.0 (trees_of I x (with_inside B v ∷ with_outside B v ∷ Bs) lines right.1)
+trees_of I x (B ∷ Bs) (Split at ∷ lines) right = with_split I x B Bs at lines right.0 (trees_of I x (yes_half B at ∷ no_half B at ∷ Bs) lines right.1)
 trees_of I x (B ∷ Bs) (Close P ∷ lines) right =
     let others = trees_of I x Bs lines right.1 in
     (close P ∷ others.0, ap (λ (r : List ProofLine). Close P ∷ r) others.1, (right.0, others.2))
@@ -109,40 +110,40 @@ proves_right I x B lines (p, e, proves) = subst (λ (ls : List ProofLine). IsRig
 -- ---- the first line that is wrong
 
 -- no line is wrong where all are right
-none_wrong : (I : Network) (x : ℕ) (Bs : List Branch) (at : ℕ) (lines : List ProofLine) (l : ℕ) (k : Kind) → IsRight I x Bs lines → IsFirstWrong I x Bs at lines l k → ⊥
-none_wrong I x [] at lines l k right wrong = wrong
-none_wrong I x (B ∷ Bs) at [] l k right wrong = wrong
-none_wrong I x (B ∷ Bs) at (Split v ∷ lines) l k right wrong = passes at l BadSplit k wrong right.0 (none_wrong I x (with_inside B v ∷ with_outside B v ∷ Bs) (at + 1) lines l k right.1)
-none_wrong I x (B ∷ Bs) at (Close P ∷ lines) l k right wrong =
-    passes at l BadPacking k wrong right.0.fits (λ heavy. passes at l TooLight k heavy right.0.weighs (none_wrong I x Bs (at + 1 + length P.cuts) lines l k right.1))
+none_wrong : (I : Network) (x : ℕ) (Bs : List Branch) (number : ℕ) (lines : List ProofLine) (l : ℕ) (k : Kind) → IsRight I x Bs lines → IsFirstWrong I x Bs number lines l k → ⊥
+none_wrong I x [] number lines l k right wrong = wrong
+none_wrong I x (B ∷ Bs) number [] l k right wrong = wrong
+none_wrong I x (B ∷ Bs) number (Split at ∷ lines) l k right wrong = passes number l BadSplit k wrong right.0 (none_wrong I x (yes_half B at ∷ no_half B at ∷ Bs) (number + 1) lines l k right.1)
+none_wrong I x (B ∷ Bs) number (Close P ∷ lines) l k right wrong =
+    passes number l BadPacking k wrong right.0.fits (λ heavy. passes number l TooLight k heavy right.0.weighs (none_wrong I x Bs (number + 1 + length P.cuts) lines l k right.1))
 
 -- one line is the first that is wrong
-one_wrong : (I : Network) (x : ℕ) (Bs : List Branch) (at : ℕ) (lines : List ProofLine) (l l' : ℕ) (k k' : Kind) → IsFirstWrong I x Bs at lines l k → IsFirstWrong I x Bs at lines l' k' → (l ≡ l') × (k ≡ k')
-one_wrong I x [] at lines l l' k k' a b = absurd a
-one_wrong I x (B ∷ Bs) at [] l l' k k' a b = absurd a
-one_wrong I x (B ∷ Bs) at (Split v ∷ lines) l l' k k' a b = alone at l l' BadSplit k k' a b (one_wrong I x (with_inside B v ∷ with_outside B v ∷ Bs) (at + 1) lines l l' k k')
-one_wrong I x (B ∷ Bs) at (Close P ∷ lines) l l' k k' a b =
-    alone at l l' BadPacking k k' a b (λ c d. alone at l l' TooLight k k' c d (one_wrong I x Bs (at + 1 + length P.cuts) lines l l' k k'))
+one_wrong : (I : Network) (x : ℕ) (Bs : List Branch) (number : ℕ) (lines : List ProofLine) (l l' : ℕ) (k k' : Kind) → IsFirstWrong I x Bs number lines l k → IsFirstWrong I x Bs number lines l' k' → (l ≡ l') × (k ≡ k')
+one_wrong I x [] number lines l l' k k' a b = absurd a
+one_wrong I x (B ∷ Bs) number [] l l' k k' a b = absurd a
+one_wrong I x (B ∷ Bs) number (Split at ∷ lines) l l' k k' a b = alone number l l' BadSplit k k' a b (one_wrong I x (yes_half B at ∷ no_half B at ∷ Bs) (number + 1) lines l l' k k')
+one_wrong I x (B ∷ Bs) number (Close P ∷ lines) l l' k k' a b =
+    alone number l l' BadPacking k k' a b (λ c d. alone number l l' TooLight k k' c d (one_wrong I x Bs (number + 1 + length P.cuts) lines l l' k k'))
 
 -- what is wrong of one of two instances that agree is wrong of the other
-wrong_alike : (I J : Network) → Agree I J → (x : ℕ) (Bs : List Branch) (at : ℕ) (lines : List ProofLine) (l : ℕ) (k : Kind) → IsFirstWrong I x Bs at lines l k → IsFirstWrong J x Bs at lines l k
-wrong_alike I J same x [] at lines l k wrong = absurd wrong
-wrong_alike I J same x (B ∷ Bs) at [] l k wrong = absurd wrong
-wrong_alike I J same x (B ∷ Bs) at (Split v ∷ lines) l k wrong =
-    fails_alike at l BadSplit k (split_same I J same B v) (split_same J I (turned I J same) B v) (wrong_alike I J same x (with_inside B v ∷ with_outside B v ∷ Bs) (at + 1) lines l k) wrong
-wrong_alike I J same x (B ∷ Bs) at (Close P ∷ lines) l k wrong =
+wrong_alike : (I J : Network) → Agree I J → (x : ℕ) (Bs : List Branch) (number : ℕ) (lines : List ProofLine) (l : ℕ) (k : Kind) → IsFirstWrong I x Bs number lines l k → IsFirstWrong J x Bs number lines l k
+wrong_alike I J same x [] number lines l k wrong = absurd wrong
+wrong_alike I J same x (B ∷ Bs) number [] l k wrong = absurd wrong
+wrong_alike I J same x (B ∷ Bs) number (Split at ∷ lines) l k wrong =
+    fails_alike number l BadSplit k (split_same I J same B at) (split_same J I (turned I J same) B at) (wrong_alike I J same x (yes_half B at ∷ no_half B at ∷ Bs) (number + 1) lines l k) wrong
+wrong_alike I J same x (B ∷ Bs) number (Close P ∷ lines) l k wrong =
     let weighs = weight_same I J same B P in
-    fails_alike at l BadPacking k (fits_same I J same B P) (fits_same J I (turned I J same) B P) (λ light. fails_alike at l TooLight k (λ heavy. (omega arith)) (λ heavy. (omega arith)) (wrong_alike I J same x Bs (at + 1 + length P.cuts) lines l k) light) wrong
+    fails_alike number l BadPacking k (fits_same I J same B P) (fits_same J I (turned I J same) B P) (λ light. fails_alike number l TooLight k (λ heavy. (omega arith)) (λ heavy. (omega arith)) (wrong_alike I J same x Bs (number + 1 + length P.cuts) lines l k) light) wrong
 
 -- where no line of so many proofs is wrong, it can't be that they aren't right
-all_right : (I : Network) (x : ℕ) (Bs : List Branch) (at : ℕ) (lines : List ProofLine) → are_proofs (length Bs) lines ≡ true → ((l : ℕ) (k : Kind) → IsFirstWrong I x Bs at lines l k → ⊥) → (IsRight I x Bs lines → ⊥) → ⊥
-all_right I x [] at [] even none not_right = not_right tt
-all_right I x [] at (line ∷ lines) even none not_right = absurd cc
-all_right I x (B ∷ Bs) at [] even none not_right = absurd cc
-all_right I x (B ∷ Bs) at (Split v ∷ lines) even none not_right =
-    none at BadSplit (inl ((λ is_split. all_right I x (with_inside B v ∷ with_outside B v ∷ Bs) (at + 1) lines even (λ l k wrong. none l k (inr (is_split, wrong))) (λ right. not_right (is_split, right))), refl, refl))
-all_right I x (B ∷ Bs) at (Close P ∷ lines) even none not_right =
-    none at BadPacking (inl ((λ fits. none at TooLight (inr (fits, inl ((λ weighs. all_right I x Bs (at + 1 + length P.cuts) lines even (λ l k wrong. none l k (inr (fits, inr (weighs, wrong)))) (λ right. not_right (record { fits = fits; weighs = weighs }, right))), refl, refl)))), refl, refl))
+all_right : (I : Network) (x : ℕ) (Bs : List Branch) (number : ℕ) (lines : List ProofLine) → are_proofs (length Bs) lines ≡ true → ((l : ℕ) (k : Kind) → IsFirstWrong I x Bs number lines l k → ⊥) → (IsRight I x Bs lines → ⊥) → ⊥
+all_right I x [] number [] even none not_right = not_right tt
+all_right I x [] number (line ∷ lines) even none not_right = absurd cc
+all_right I x (B ∷ Bs) number [] even none not_right = absurd cc
+all_right I x (B ∷ Bs) number (Split at ∷ lines) even none not_right =
+    none number BadSplit (inl ((λ is_split. all_right I x (yes_half B at ∷ no_half B at ∷ Bs) (number + 1) lines even (λ l k wrong. none l k (inr (is_split, wrong))) (λ right. not_right (is_split, right))), refl, refl))
+all_right I x (B ∷ Bs) number (Close P ∷ lines) even none not_right =
+    none number BadPacking (inl ((λ fits. none number TooLight (inr (fits, inl ((λ weighs. all_right I x Bs (number + 1 + length P.cuts) lines even (λ l k wrong. none l k (inr (fits, inr (weighs, wrong)))) (λ right. not_right (record { fits = fits; weighs = weighs }, right))), refl, refl)))), refl, refl))
 
 -- ---- the first step that is bad
 
@@ -152,35 +153,35 @@ proves_in_alike s t x lines alike (p, e, proves) =
     (p, e, subst (λ (y : ℕ). Proves t.instance (left_over t) y p) (ap (λ (offset : ℕ). x - offset) alike.offset) (subst (λ (gone : List ℕ). Proves t.instance (avoiding gone) (left_of x s) p) alike.gone (proves_alike s.instance t.instance alike.instance (left_over s) (left_of x s) p proves)))
 
 -- what is wrong of one of them is wrong of the other
-wrong_in_alike : (s t : State) (x at : ℕ) (lines : List ProofLine) (l : ℕ) (k : Kind) → AreAlike s t → IsFirstWrongIn s x at lines l k → IsFirstWrongIn t x at lines l k
-wrong_in_alike s t x at lines l k alike wrong =
-    subst (λ (y : ℕ). IsFirstWrong t.instance y (left_over t ∷ []) at lines l k) (ap (λ (offset : ℕ). x - offset) alike.offset) (subst (λ (gone : List ℕ). IsFirstWrong t.instance (left_of x s) (avoiding gone ∷ []) at lines l k) alike.gone (wrong_alike s.instance t.instance alike.instance (left_of x s) (left_over s ∷ []) at lines l k wrong))
+wrong_in_alike : (s t : State) (x number : ℕ) (lines : List ProofLine) (l : ℕ) (k : Kind) → AreAlike s t → IsFirstWrongIn s x number lines l k → IsFirstWrongIn t x number lines l k
+wrong_in_alike s t x number lines l k alike wrong =
+    subst (λ (y : ℕ). IsFirstWrong t.instance y (left_over t ∷ []) number lines l k) (ap (λ (offset : ℕ). x - offset) alike.offset) (subst (λ (gone : List ℕ). IsFirstWrong t.instance (left_of x s) (avoiding gone ∷ []) number lines l k) alike.gone (wrong_alike s.instance t.instance alike.instance (left_of x s) (left_over s ∷ []) number lines l k wrong))
 
 -- no step is bad where all are taken, and the others fail of a state that is alike
-none_bad : (s t last : State) (at : ℕ) (steps : List Step) (l : ℕ) (k : Kind) (O : State → Type 0) → AreAlike s t → IsFirstBad s at steps l k O → Applies steps t last → ((u : State) → AreAlike u last → O u → ⊥) → ⊥
-none_bad s t last at [] l k O alike bad same none = none s (subst (AreAlike s) same alike) bad
-none_bad s t last at (step ∷ steps) l k O alike bad (next, is_next, takes, later) none =
-    passes at l BadStep k bad (may_take_alike step t s (alike-sym s t alike) (takes_may step t next takes)) (λ others.
+none_bad : (s t last : State) (number : ℕ) (steps : List Step) (l : ℕ) (k : Kind) (O : State → Type 0) → AreAlike s t → IsFirstBad s number steps l k O → Applies steps t last → ((u : State) → AreAlike u last → O u → ⊥) → ⊥
+none_bad s t last number [] l k O alike bad same none = none s (subst (AreAlike s) same alike) bad
+none_bad s t last number (step ∷ steps) l k O alike bad (next, is_next, takes, later) none =
+    passes number l BadStep k bad (may_take_alike step t s (alike-sym s t alike) (takes_may step t next takes)) (λ others.
     let (other, is_other, other_takes, rest) = others in
-    none_bad other next last (at + 1) steps l k O (takes_alike step s t other next alike is_other is_next other_takes takes) rest later none)
+    none_bad other next last (number + 1) steps l k O (takes_alike step s t other next alike is_other is_next other_takes takes) rest later none)
 
 -- one step is the first that is bad, or the others fail alike
-one_bad : (s t : State) (at : ℕ) (steps : List Step) (l l' : ℕ) (k k' : Kind) (O O' : State → Type 0) → AreAlike s t → IsFirstBad s at steps l k O → IsFirstBad t at steps l' k' O' → ((u v : State) → AreAlike u v → O u → O' v → (l ≡ l') × (k ≡ k')) → (l ≡ l') × (k ≡ k')
-one_bad s t at [] l l' k k' O O' alike a b others = others s t alike a b
-one_bad s t at (step ∷ steps) l l' k k' O O' alike a b others =
-    agree at l l' BadStep k k' (may_take_alike step s t alike) (may_take_alike step t s (alike-sym s t alike)) a b (λ c d.
+one_bad : (s t : State) (number : ℕ) (steps : List Step) (l l' : ℕ) (k k' : Kind) (O O' : State → Type 0) → AreAlike s t → IsFirstBad s number steps l k O → IsFirstBad t number steps l' k' O' → ((u v : State) → AreAlike u v → O u → O' v → (l ≡ l') × (k ≡ k')) → (l ≡ l') × (k ≡ k')
+one_bad s t number [] l l' k k' O O' alike a b others = others s t alike a b
+one_bad s t number (step ∷ steps) l l' k k' O O' alike a b others =
+    agree number l l' BadStep k k' (may_take_alike step s t alike) (may_take_alike step t s (alike-sym s t alike)) a b (λ c d.
     let (next, is_next, takes, rest) = c in
     let (other, is_other, other_takes, other_rest) = d in
-    one_bad next other (at + 1) steps l l' k k' O O' (takes_alike step s t next other alike is_next is_other takes other_takes) rest other_rest others)
+    one_bad next other (number + 1) steps l l' k k' O O' (takes_alike step s t next other alike is_next is_other takes other_takes) rest other_rest others)
 
 -- where no step is bad, it can't be that they lead nowhere
-all_taken : (s : State) (at : ℕ) (steps : List Step) (O : ℕ → Kind → State → Type 0) → IsState s → ((l : ℕ) (k : Kind) → IsFirstBad s at steps l k (O l k) → ⊥) → ((last : State) → Applies steps s last → ((l : ℕ) (k : Kind) → O l k last → ⊥) → ⊥) → ⊥
-all_taken s at [] O state none goes_on = goes_on s refl none
-all_taken s at (step ∷ steps) O state none goes_on =
-    none at BadStep (inl (
+all_taken : (s : State) (number : ℕ) (steps : List Step) (O : ℕ → Kind → State → Type 0) → IsState s → ((l : ℕ) (k : Kind) → IsFirstBad s number steps l k (O l k) → ⊥) → ((last : State) → Applies steps s last → ((l : ℕ) (k : Kind) → O l k last → ⊥) → ⊥) → ⊥
+all_taken s number [] O state none goes_on = goes_on s refl none
+all_taken s number (step ∷ steps) O state none goes_on =
+    none number BadStep (inl (
       (λ may.
           let (next, is_next, takes) = next_of step s state may in
-          all_taken next (at + 1) steps O is_next (λ l k bad. none l k (inr (may, (next, is_next, takes, bad)))) (λ last later. goes_on last (next, is_next, takes, later))),
+          all_taken next (number + 1) steps O is_next (λ l k bad. none l k (inr (may, (next, is_next, takes, bad)))) (λ last later. goes_on last (next, is_next, takes, later))),
       refl,
       refl,
     ))

@@ -5,6 +5,7 @@ use Rattle.std.specs.List.{flat_map, AllByRecursion}
 use Rattle.std.proofs.lemmas.Bool.Decides.{nat_tests}
 use Rattle.std.proofs.lemmas.List.{append-nil}
 use Rattle.std.proofs.lemmas.List.Elements.{recursion_from_All}
+use Rattle.st_model.specs.declared.split_at.SplitAt.TheVariants.{Vertex, Link}
 use Rattle.cut_packing.specs.declared.cut.Cut.{Cut}
 use Rattle.cut_packing.specs.declared.packing.Packing.{Packing}
 use Rattle.lift_back.specs.declared.step.Step.{Step}
@@ -126,7 +127,7 @@ close_again p P rest fits =
     ∙ cuts_again p P.root [] P.cuts rest (recursion_from_All IsWritableCut P.cuts fits.cuts)
 
 -- a split is taken where a half begins
-split_again : (p : Proving) (v : ℕ) → IsAnyVertex v → step (AtHalf p) (words (codes "S") (v ∷ [])) ≡ Some (split_at p v)
+split_again : (p : Proving) (v : ℕ) → IsAnyVertex v → step (AtHalf p) (words (codes "S") (v ∷ [])) ≡ Some (split_at p (Vertex v))
 unfolding step
 split_again p v fits = rw ((number_of_judges (codes "S") 1 1000000 (omega arith)).again v fits) refl
 
@@ -139,12 +140,13 @@ half a lines w = AtHalf (record { answer = a; lines = lines; waiting = w })
 proof_again : (a : Answer) (front lines : List ProofLine) (w : ℕ) (rest : List (List ℕ)) → are_proofs (suc w) lines ≡ true → AllByRecursion IsWritableLine lines
     → run (half a front w) (flat_map lines_of lines ++ rest) ≡ run (AtEnd (Found a.primal a.dual a.tree a.steps (front ++ lines))) rest
 proof_again a front [] w rest passes fits = absurd cc
-proof_again a front (Split v ∷ lines) w rest passes fits =
+proof_again a front (Split (Link _ _) ∷ lines) w rest passes fits = absurd fits.0
+proof_again a front (Split (Vertex v) ∷ lines) w rest passes fits =
     let more : suc w ≡ w + 1 = omega arith in
     let passes' : are_proofs (suc (w + 1)) lines ≡ true = subst (λ (k : ℕ). are_proofs (suc k) lines ≡ true) more passes in
     run-cons _ _ (words (codes "S") (v ∷ [])) (flat_map lines_of lines ++ rest) (split_again (record { answer = a; lines = front; waiting = w }) v fits.0)
-    ∙ (proof_again a (front ++ Split v ∷ []) lines (w + 1) rest passes' fits.1
-    ∙ ap (λ (r : List ProofLine). run (AtEnd (Found a.primal a.dual a.tree a.steps r)) rest) (append_assoc front (Split v ∷ []) lines))
+    ∙ (proof_again a (front ++ Split (Vertex v) ∷ []) lines (w + 1) rest passes' fits.1
+    ∙ ap (λ (r : List ProofLine). run (AtEnd (Found a.primal a.dual a.tree a.steps r)) rest) (append_assoc front (Split (Vertex v) ∷ []) lines))
 proof_again a front (Close P ∷ []) zero rest passes fits =
     ap (λ (r : List (List ℕ)). run (half a front 0) (r ++ rest)) (append-nil (lines_of (Close P))) ∙ close_again (record { answer = a; lines = front; waiting = 0 }) P rest fits.0
 proof_again a front (Close P ∷ line ∷ lines) zero rest passes fits = absurd cc

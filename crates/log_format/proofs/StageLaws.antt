@@ -9,6 +9,8 @@ use Rattle.std.proofs.lemmas.Grind.{flat_map-append}
 use Rattle.std.proofs.lemmas.List.{append-nil, map-append, length-append}
 use Rattle.std.proofs.lemmas.List.Elements.{All-from_recursion}
 use Rattle.std.proofs.lemmas.Option.{cond_some}
+use Rattle.st_model.specs.declared.split_at.SplitAt.{SplitAt}
+use Rattle.st_model.specs.declared.split_at.SplitAt.TheVariants.{Vertex}
 use Rattle.cut_packing.specs.declared.cut.Cut.{Cut}
 use Rattle.cut_packing.specs.declared.packing.Packing.{Packing}
 use Rattle.lift_back.specs.declared.step.Step.{Step}
@@ -232,14 +234,15 @@ close_lines-push root cuts c count = ap (λ (r : List (List ℕ)). close_lines r
 -- a split, or the head of a close
 half_takes : (p : Proving) (line : List ℕ) (t : Stage) (v : Option ℕ) → IsProving p → number_of (codes "S") 1 1000000 line ≡ v → half_at p v line ≡ Some t → Takes (proof_lines p) line t
 half_takes p line t (Some v) fits found e =
-    let same : split_at p v ≡ t = cc in
+    let at : SplitAt = Vertex v in
+    let same : split_at p at ≡ t = cc in
     let j = (number_of_judges (codes "S") 1 1000000 (omega arith)).takes line v found in
     let more : p.waiting + 1 ≡ suc p.waiting = omega arith in
     let more' : suc (suc p.waiting) ≡ p.waiting + 1 + 1 = omega arith in
-    let still = open-push p.lines (Split v) (suc p.waiting) (fits.halves.still ∙ ap (λ (k : ℕ). Some k) more) ∙ ap (λ (k : ℕ). Some k) more' in
+    let still = open-push p.lines (Split at) (suc p.waiting) (fits.halves.still ∙ ap (λ (k : ℕ). Some k) more) ∙ ap (λ (k : ℕ). Some k) more' in
     subst (λ (u : Stage). Takes (proof_lines p) line u) same (
-      record { answer_fits = fits.answer_fits; lines_fit = AllByRecursion-push IsWritableLine p.lines (Split v) fits.lines_fit j.0; halves = record { still = still; few = omega (arith, fits.halves.few, length-append p.lines (Split v ∷ [])) } },
-      proof_lines-push p.answer p.lines (Split v) (p.waiting + 1) p.waiting ∙ ap (λ (l : List ℕ). proof_lines p ++ l ∷ []) (sym j.1),
+      record { answer_fits = fits.answer_fits; lines_fit = AllByRecursion-push IsWritableLine p.lines (Split at) fits.lines_fit j.0; halves = record { still = still; few = omega (arith, fits.halves.few, length-append p.lines (Split at ∷ [])) } },
+      proof_lines-push p.answer p.lines (Split at) (p.waiting + 1) p.waiting ∙ ap (λ (l : List ℕ). proof_lines p ++ l ∷ []) (sym j.1),
     )
 half_takes p line t None fits found e =
     let head = step_some (pair_of (codes "C") 0 1000000 0 most line) _ t e in

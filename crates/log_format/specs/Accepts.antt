@@ -4,10 +4,10 @@ use Rattle.st_model.specs.declared.branch.Branch.{Branch}
 use Rattle.st_model.specs.declared.tree.Tree.{Tree}
 use Rattle.st_model.specs.Network.{Network, IsInstance}
 use Rattle.st_model.specs.Arborescence.{IsTree, IsBound, IsBest, cost}
-use Rattle.st_model.specs.Branch.{avoiding, with_inside, with_outside}
+use Rattle.st_model.specs.Branch.{avoiding, yes_half, no_half}
 use Rattle.st_model.specs.Wall.{IsWall}
 use Rattle.cut_packing.specs.Packing.{Fits, weight}
-use Rattle.cut_packing.specs.ProofTree.{ProofTree, IsSplit, Proves}
+use Rattle.cut_packing.specs.ProofTree.{ProofTree, IsSplitAt, Proves}
 use Rattle.lift_back.specs.declared.step.Step.{Step}
 use Rattle.lift_back.specs.State.{State, IsState, whole}
 use Rattle.lift_back.specs.Steps.{Takes, Applies, MayTake}
@@ -70,21 +70,21 @@ abbrev pub FailsFirst : Type 0 → ℕ → Kind → ℕ → Kind → Type 0 → 
 FailsFirst Check at is line kind Others = ((¬ Check) × (line ≡ at) × (kind ≡ is)) ⊎ (Check × Others)
 
 -- the first of the steps that may not be taken in the state that those before it lead to; or all may, and the others fail of the
--- state that they lead to; at is the number of the first step's line
+-- state that they lead to; number is that of the first step's line
 abbrev pub IsFirstBad : State → ℕ → List Step → ℕ → Kind → (State → Type 0) → Type 0
-IsFirstBad s at [] line kind Others = Others s
-IsFirstBad s at (step ∷ steps) line kind Others = FailsFirst (MayTake step s) at BadStep line kind ((next : State) × IsState next × Takes step s next × IsFirstBad next (at + 1) steps line kind Others)
+IsFirstBad s number [] line kind Others = Others s
+IsFirstBad s number (step ∷ steps) line kind Others = FailsFirst (MayTake step s) number BadStep line kind ((next : State) × IsState next × Takes step s next × IsFirstBad next (number + 1) steps line kind Others)
 
--- the first of the lines that is wrong, where these branches wait and x is to be proved; at is the number of the first line
+-- the first of the lines that is wrong, where these branches wait and x is to be proved; number is that of the first line
 abbrev pub IsFirstWrong : Network → ℕ → List Branch → ℕ → List ProofLine → ℕ → Kind → Type 0
-IsFirstWrong I x [] at lines line kind = ⊥
-IsFirstWrong I x (B ∷ Bs) at [] line kind = ⊥
-IsFirstWrong I x (B ∷ Bs) at (Split v ∷ lines) line kind = FailsFirst (IsSplit I B v) at BadSplit line kind (IsFirstWrong I x (with_inside B v ∷ with_outside B v ∷ Bs) (at + 1) lines line kind)
-IsFirstWrong I x (B ∷ Bs) at (Close P ∷ lines) line kind = FailsFirst (Fits I B P) at BadPacking line kind (FailsFirst (x ≤ weight I B P) at TooLight line kind (IsFirstWrong I x Bs (at + 1 + length P.cuts) lines line kind))
+IsFirstWrong I x [] number lines line kind = ⊥
+IsFirstWrong I x (B ∷ Bs) number [] line kind = ⊥
+IsFirstWrong I x (B ∷ Bs) number (Split at ∷ lines) line kind = FailsFirst (IsSplitAt I B at) number BadSplit line kind (IsFirstWrong I x (yes_half B at ∷ no_half B at ∷ Bs) (number + 1) lines line kind)
+IsFirstWrong I x (B ∷ Bs) number (Close P ∷ lines) line kind = FailsFirst (Fits I B P) number BadPacking line kind (FailsFirst (x ≤ weight I B P) number TooLight line kind (IsFirstWrong I x Bs (number + 1 + length P.cuts) lines line kind))
 
 -- the same of what is left, where x is to be proved of the whole
 abbrev pub IsFirstWrongIn : State → ℕ → ℕ → List ProofLine → ℕ → Kind → Type 0
-IsFirstWrongIn s x at lines line kind = IsFirstWrong s.instance (left_of x s) (left_over s ∷ []) at lines line kind
+IsFirstWrongIn s x number lines line kind = IsFirstWrong s.instance (left_of x s) (left_over s ∷ []) number lines line kind
 
 -- the line of the first step
 abbrev pub steps_line : Tree → ℕ

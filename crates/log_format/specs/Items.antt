@@ -2,13 +2,13 @@
 use Rattle.std.specs.Prelude.{◌≡◌, ℕ, ◌^◌, ◌<◌, List, [], ◌∷◌, ◌++◌, length, map, All, IfSome, codes}
 use Rattle.std.specs.List.{flat_map}
 use Rattle.log_format.specs.declared.item.Item.{Item}
-use Rattle.log_format.specs.declared.item.Item.TheVariants.{Header, ClaimTree, ClaimNone, Wall, TreeHead, Arc, StepsHead, OneStep, ProofHead, Split as SplitAt, CloseHead, OneCut, Last}
+use Rattle.log_format.specs.declared.item.Item.TheVariants.{Header, ClaimTree, ClaimNone, Wall, TreeHead, Arc, StepsHead, OneStep, ProofHead, Split as OneSplit, CloseHead, OneCut, Last}
 use Rattle.log_format.specs.declared.log.Log.{Log}
 use Rattle.log_format.specs.declared.log.Claim.{Claim}
 use Rattle.log_format.specs.declared.log.Claim.TheVariants.{Found, NoTree}
 use Rattle.log_format.specs.declared.proof_line.ProofLine.{ProofLine}
 use Rattle.log_format.specs.declared.proof_line.ProofLine.TheVariants.{Split, Close}
-use Rattle.log_format.specs.Text.{words, root_number, arc_line, cut_line, step_line, header, log_lines, IsAnyVertex, IsWritableSet, IsWritableCut, IsWritableStep, IsLog}
+use Rattle.log_format.specs.Text.{words, root_number, arc_line, cut_line, step_line, split_line, header, log_lines, IsAnyVertex, IsWritableSet, IsWritableCut, IsWritableStep, IsWritableSplit, IsLog}
 
 -- the line that says it
 abbrev pub item_line : Item → List ℕ
@@ -21,7 +21,7 @@ item_line (Arc tail head) = arc_line (tail, head)
 item_line (StepsHead count) = words (codes "STEPS") (count ∷ [])
 item_line (OneStep s) = step_line s
 item_line ProofHead = codes "PROOF"
-item_line (SplitAt v) = words (codes "S") (v ∷ [])
+item_line (OneSplit at) = split_line at
 item_line (CloseHead root count) = words (codes "C") (root_number root ∷ count ∷ [])
 item_line (OneCut c) = cut_line c
 item_line Last = codes "END"
@@ -37,14 +37,14 @@ IsItem (Arc tail head) = IsAnyVertex tail × IsAnyVertex head
 IsItem (StepsHead count) = count < 2 ^ 64
 IsItem (OneStep s) = IsWritableStep s
 IsItem ProofHead = Unit {0}
-IsItem (SplitAt v) = IsAnyVertex v
+IsItem (OneSplit at) = IsWritableSplit at
 IsItem (CloseHead root count) = IfSome root IsAnyVertex × (count < 2 ^ 64)
 IsItem (OneCut c) = IsWritableCut c
 IsItem Last = Unit {0}
 
 -- the items of a split, and of a close: its head and its cuts
 abbrev pub proof_items : ProofLine → List Item
-proof_items (Split v) = SplitAt v ∷ []
+proof_items (Split at) = OneSplit at ∷ []
 proof_items (Close P) = CloseHead P.root (length P.cuts) ∷ map (λ c. OneCut c) P.cuts
 
 -- the items of a claim

@@ -2,6 +2,7 @@
 use Rattle.std.specs.Prelude.{◌≡◌, ℕ, zero, suc, ◌+◌, ◌-◌, ◌≤◌, ◌==◌, List, [], ◌∷◌, ◌++◌, Option, Some, None, if◌then◌else◌, codes}
 use Rattle.std.specs.Str.{bytes_eq}
 use Rattle.plain_text.specs.Steps.{◌>>=◌}
+use Rattle.st_model.specs.declared.split_at.SplitAt.TheVariants.{Vertex}
 use Rattle.log_format.specs.declared.item.Item.{Item}
 use Rattle.log_format.specs.declared.item.Item.TheVariants.{Header, ClaimTree, ClaimNone, Wall, TreeHead, Arc, StepsHead, OneStep, ProofHead, Split, CloseHead, OneCut, Last}
 use Rattle.log_format.specs.declared.log.Claim.TheVariants.{NoTree}
@@ -25,7 +26,7 @@ after_cuts (suc left) waiting = AmongCuts (suc left) waiting
 
 -- a split, or else the head of a close
 abbrev pub half_said : Option ℕ → List ℕ → ℕ → Option (Item × Place)
-half_said (Some v) line waiting = Some (Split v, BeforeHalf (waiting + 1))
+half_said (Some v) line waiting = Some (Split (Vertex v), BeforeHalf (waiting + 1))
 half_said None line waiting = pair_of (codes "C") 0 1000000 0 most line >>= λ head. Some (CloseHead (root_of head.0) head.1, after_cuts head.1 waiting)
 
 -- what a line says where it stands, and what may follow, if it may stand there
@@ -65,7 +66,7 @@ taken (AtArcs primal dual start arcs left) (StepsHead count) = AtSteps (no_step_
 taken (AtArcs primal dual start arcs left) (Arc tail head) = AtArcs primal dual start (arcs ++ (tail, head) ∷ []) (left - 1)
 taken (AtSteps a left) ProofHead = AtHalf (record { answer = a; lines = []; waiting = 0 })
 taken (AtSteps a left) (OneStep s) = AtSteps (with_step a s) (left - 1)
-taken (AtHalf p) (Split v) = split_at p v
+taken (AtHalf p) (Split at) = split_at p at
 taken (AtHalf p) (CloseHead root count) = cuts_left p root [] count
 taken (AtCuts p root cuts left) (OneCut c) = cuts_left p root (cuts ++ c ∷ []) (left - 1)
 taken AtWall (Wall set) = AtEnd (NoTree set)

@@ -1,6 +1,8 @@
 -- Reading a log line by line. Helpers' clauses cite this, and no public one.
 use Rattle.std.specs.Prelude.{◌≡◌, ℕ, zero, suc, ◌+◌, ◌-◌, ◌≤◌, ◌==◌, ◌&&◌, Bool, true, nat_lt, List, [], ◌∷◌, ◌++◌, length, Option, Some, None, Result, Ok, Err, if◌then◌else◌, codes}
 use Rattle.std.specs.Str.{bytes_eq}
+use Rattle.st_model.specs.declared.split_at.SplitAt.{SplitAt}
+use Rattle.st_model.specs.declared.split_at.SplitAt.TheVariants.{Vertex}
 use Rattle.cut_packing.specs.declared.cut.Cut.{Cut}
 use Rattle.lift_back.specs.declared.step.Step.{Step}
 use Rattle.lift_back.specs.declared.step.Step.TheVariants.{Pendant, Through, Forced, Detour}
@@ -153,12 +155,12 @@ abbrev pub cuts_left : Proving → Option ℕ → List Cut → ℕ → Stage
 cuts_left p root cuts zero = closed p.answer (p.lines ++ Close (record { root = root; cuts = cuts }) ∷ []) p.waiting
 cuts_left p root cuts (suc left) = AtCuts p root cuts (suc left)
 
-abbrev pub split_at : Proving → ℕ → Stage
-split_at p v = AtHalf (record { answer = p.answer; lines = p.lines ++ Split v ∷ []; waiting = p.waiting + 1 })
+abbrev pub split_at : Proving → SplitAt → Stage
+split_at p at = AtHalf (record { answer = p.answer; lines = p.lines ++ Split at ∷ []; waiting = p.waiting + 1 })
 
 -- a split, or else the head of a close
 abbrev pub half_at : Proving → Option ℕ → List ℕ → Option Stage
-half_at p (Some v) line = Some (split_at p v)
+half_at p (Some v) line = Some (split_at p (Vertex v))
 half_at p None line = pair_of (codes "C") 0 1000000 0 most line >>= λ head. Some (cuts_left p (root_of head.0) [] head.1)
 
 -- the tree is read to its end, and no step yet
@@ -194,7 +196,7 @@ abbrev pub open_after : ℕ → List ProofLine → Option ℕ
 open_after count [] = Some count
 open_after zero (line ∷ lines) = None
 open_after (suc count) (Close P ∷ lines) = open_after count lines
-open_after (suc count) (Split v ∷ lines) = open_after (suc (suc count)) lines
+open_after (suc count) (Split at ∷ lines) = open_after (suc (suc count)) lines
 
 -- as many halves wait as the lines have left open, but for the one that comes
 pub record HalvesWait (p : Proving) : Type 0 where

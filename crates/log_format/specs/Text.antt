@@ -2,6 +2,8 @@
 use Rattle.std.specs.Prelude.{◌≡◌, ℕ, ◌^◌, ◌≤◌, ◌<◌, List, [], ◌∷◌, ◌++◌, ◌==◌, if◌then◌else◌, length, map, Option, None, Some, All, IfSome, codes}
 use Rattle.std.specs.List.{flat_map}
 use Rattle.std.specs.Fmt.{decimal}
+use Rattle.st_model.specs.declared.split_at.SplitAt.{SplitAt}
+use Rattle.st_model.specs.declared.split_at.SplitAt.TheVariants.{Vertex, Link}
 use Rattle.st_model.specs.declared.tree.Tree.{Tree}
 use Rattle.st_model.specs.Network.{IsVertex}
 use Rattle.st_model.specs.Branch.{IsVertexSet}
@@ -43,9 +45,14 @@ step_line (Through v) = words (codes "H") (v ∷ [])
 step_line (Forced v) = words (codes "F") (v ∷ [])
 step_line (Detour a b inner) = words (codes "D") (a ∷ b ∷ length inner ∷ inner)
 
+-- the line of a split: a letter for its kind, and the vertex, or the ends of the link
+abbrev pub split_line : SplitAt → List ℕ
+split_line (Vertex v) = words (codes "S") (v ∷ [])
+split_line (Link a b) = words (codes "L") (a ∷ b ∷ [])
+
 -- the lines of a split, and of a close
 abbrev pub lines_of : ProofLine → List (List ℕ)
-lines_of (Split v) = words (codes "S") (v ∷ []) ∷ []
+lines_of (Split at) = split_line at ∷ []
 lines_of (Close P) = words (codes "C") (root_number P.root ∷ length P.cuts ∷ []) ∷ map cut_line P.cuts
 
 abbrev pub header : List ℕ
@@ -84,8 +91,13 @@ pub record IsWritablePacking (P : Packing) : Type 0 where
   pub few_cuts : length P.cuts < 2 ^ 64
   pub cuts : All IsWritableCut P.cuts
 
+-- a split that can be written: no version of a log has the line of a split at a link so far
+abbrev pub IsWritableSplit : SplitAt → Type 0
+IsWritableSplit (Vertex v) = IsAnyVertex v
+IsWritableSplit (Link a b) = ⊥
+
 abbrev pub IsWritableLine : ProofLine → Type 0
-IsWritableLine (Split v) = IsAnyVertex v
+IsWritableLine (Split at) = IsWritableSplit at
 IsWritableLine (Close P) = IsWritablePacking P
 
 pub record IsWritableTree (tree : Tree) : Type 0 where

@@ -1,6 +1,6 @@
 use cut_packing::Cut;
 use lift_back::Step;
-use st_model::Listed;
+use st_model::{Listed, SplitAt};
 
 /// What one line of a log says.
 #[derive(Debug, Drop)]
@@ -14,7 +14,7 @@ pub enum Item {
     StepsHead(u64),
     OneStep(Step),
     ProofHead,
-    Split(u32),
+    Split(SplitAt),
     CloseHead { root: Option<u32>, count: u64 },
     OneCut(Cut),
     Last,

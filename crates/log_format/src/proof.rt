@@ -4,8 +4,8 @@ ghost use Rattle.log_format.specs.Preorder.{IsOneProof, are_proofs};
 use crate::ProofLine;
 use std::marker::Model;
 
-/// The lines of exactly one proof tree: a split before its two halves, the one with the vertex
-/// inside before the other.
+/// The lines of exactly one proof tree: a split before its two halves, the one that says yes before
+/// the other.
 #[derive(Debug, Drop)]
 pub struct Proof {
     lines: Vec<ProofLine>,

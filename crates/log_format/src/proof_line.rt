@@ -1,8 +1,9 @@
 use cut_packing::Packing;
+use st_model::SplitAt;
 
-/// A step of a proof: a branch is split at a vertex, or closed by a packing.
+/// A step of a proof: a branch is split, or closed by a packing.
 #[derive(Debug, Drop)]
 pub enum ProofLine {
-    Split(u32),
+    Split(SplitAt),
     Close(Packing),
 }

@@ -6,7 +6,7 @@ use crate::line::{MAX_VERTEX, cut_of, number_of, pair_of};
 use crate::stage::{Answer, Proving, Stage};
 use crate::{Claim, Proof, ProofLine};
 use cut_packing::{Cut, Packing};
-use st_model::Listed;
+use st_model::{Listed, SplitAt};
 use std::alloc::{AllocError, Global};
 
 // The lines with one more.
@@ -54,16 +54,16 @@ fn closed(proving: Proving, packing: Packing) -> Result<Stage, AllocError>
 }
 
 // What comes after a split: its two halves, one of which waits.
-fn split(proving: Proving, vertex: u32) -> Result<Stage, AllocError>
+fn split(proving: Proving, at: SplitAt) -> Result<Stage, AllocError>
     requires { HalvesWait proving }
-    ensures { IfOk result (λ stage. stage ≡ split_at proving vertex) }
+    ensures { IfOk result (λ stage. stage ≡ split_at proving at) }
 {
     let Proving {
         answer,
         lines,
         waiting,
     } = proving;
-    let lines = with_line(lines, ProofLine::Split(vertex))?;
+    let lines = with_line(lines, ProofLine::Split(at))?;
     Ok(Stage::AtHalf(Proving {
         answer,
         lines,
@@ -123,7 +123,7 @@ pub fn at_half(alloc: Global, proving: Proving, line: &[u8]) -> Result<Stage, Li
     match number_of(line, b"S", 1, MAX_VERTEX) {
         None => at_close(alloc, proving, line),
         Some(vertex) => {
-            let stage = split(proving, vertex as u32)?;
+            let stage = split(proving, SplitAt::Vertex(vertex as u32))?;
             Ok(stage)
         }
     }

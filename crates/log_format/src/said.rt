@@ -9,6 +9,7 @@ use crate::place::Place;
 use crate::proving::root_of;
 use crate::stage::{HEADER, arc_of};
 use crate::step_line::step_of;
+use st_model::SplitAt;
 use std::alloc::Global;
 
 // This item and this place, if the line is this one.
@@ -116,7 +117,8 @@ fn half_said(waiting: u64, line: &[u8]) -> Result<(Item, Place), LineError>
         None => close_said(waiting, line),
         Some(vertex) => {
             let waiting = waiting.checked_add(1).ok_or(LineError::NoMemory)?;
-            Ok((Item::Split(vertex as u32), Place::BeforeHalf { waiting }))
+            let item = Item::Split(SplitAt::Vertex(vertex as u32));
+            Ok((item, Place::BeforeHalf { waiting }))
         }
     }
 }

@@ -8,7 +8,7 @@ use crate::{Claim, Log, ProofLine};
 use cut_packing::{Cut, Packing};
 use itoa::Buffer;
 use lift_back::Step;
-use st_model::Tree;
+use st_model::{SplitAt, Tree};
 use std::alloc::{AllocError, Global};
 use std::mem;
 use std::thread::{Threads, join};
@@ -123,11 +123,14 @@ fn write_single(text: &mut Text, word: &[u8], number: u64) -> Result<(), AllocEr
 }
 
 // Writes the line of a split.
-fn write_split(text: &mut Text, vertex: u32) -> Result<(), AllocError>
+fn write_split(text: &mut Text, at: SplitAt) -> Result<(), AllocError>
     ensures { OnOk result (text.new.items
-        ≡ text.old.items ++ flat_map ended (lines_of (ProofLine.Split vertex))) }
+        ≡ text.old.items ++ flat_map ended (lines_of (ProofLine.Split at))) }
 {
-    write_single(text, b"S", u64::from(vertex))
+    match at {
+        SplitAt::Vertex(vertex) => write_single(text, b"S", u64::from(vertex)),
+        SplitAt::Link(a, b) => write_pair(text, b"L", u64::from(a), u64::from(b)),
+    }
 }
 
 // Writes the lines of splits and closes.
@@ -137,7 +140,7 @@ fn write_lines(text: &mut Text, lines: &[ProofLine]) -> Result<(), AllocError>
 {
     for line in lines {
         match line {
-            ProofLine::Split(vertex) => write_split(text, *vertex)?,
+            ProofLine::Split(at) => write_split(text, *at)?,
             ProofLine::Close(packing) => write_close(text, packing)?,
         }
     }
