@@ -234,6 +234,31 @@ fn the_largest_is_filled(alloc: Global) -> Result<bool, AllocError> {
     Ok(costs(alloc, &large, 33))
 }
 
+// Whether no tree is found where links join six of twelve terminals, and the other six.
+fn parts_have_no_tree(alloc: Global) -> Result<bool, AllocError> {
+    let links = [
+        link(1, 2, 3),
+        link(2, 3, 3),
+        link(3, 4, 3),
+        link(4, 5, 3),
+        link(5, 6, 3),
+        link(7, 8, 3),
+        link(8, 9, 3),
+        link(9, 10, 3),
+        link(10, 11, 3),
+        link(11, 12, 3),
+    ];
+    let parts = twelve_of(alloc, 16_384, &links)?;
+    Ok(costs(alloc, &parts, u64::MAX))
+}
+
+#[test]
+fn finds_no_tree_of_two_parts(rt: HostRuntime) -> Result<(), Fail> {
+    let none = parts_have_no_tree(rt.alloc())?;
+    assert!(rt; none);
+    Ok(())
+}
+
 #[test]
 fn fills_the_largest_table_of_twelve(rt: HostRuntime) -> Result<(), Fail> {
     let filled = the_largest_is_filled(rt.alloc())?;

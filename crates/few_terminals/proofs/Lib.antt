@@ -1,6 +1,8 @@
 pub mod Tables
 pub mod Bits
 pub mod Going
+pub mod Slots
+pub mod Reaching
 pub mod Counting
 pub mod Meanings
 pub mod Marking

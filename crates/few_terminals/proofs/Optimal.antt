@@ -1,5 +1,5 @@
 -- The table bounds each tree, and the tree to which its entry leads back is a best one.
-use Rattle.std.proofs.Common.{◌≡◌, ℕ, ◌+◌, ◌-◌, ◌^◌, ◌<◌, ◌≤◌, Bool, true, false, cond, eqb, List, [], ◌∷◌, length, get_or, Some, refl, sym, ap, subst, ◌∙◌, ◌⊎◌, inl, inr, arith, eq-eqb}
+use Rattle.std.proofs.Common.{◌≡◌, ℕ, ◌+◌, ◌-◌, ◌^◌, ◌<◌, ◌≤◌, Bool, true, false, cond, eqb, List, [], ◌∷◌, length, Some, refl, sym, ap, subst, ◌∙◌, ◌⊎◌, inl, inr, arith, eq-eqb}
 use Rattle.std.specs.Prelude.{◌==◌, IsTrue, bit_and}
 use Rattle.std.proofs.lemmas.Bool.{false≢true, cases_lt}
 use Rattle.std.proofs.Math.Nat.{pow-suc, one-le-pow}
@@ -22,75 +22,77 @@ use Rattle.few_terminals.specs.declared.row.Row.{Row}
 use Rattle.few_terminals.specs.declared.table.Table.{Table}
 use Rattle.few_terminals.specs.Back.{is_among, IsWayBack}
 use Rattle.few_terminals.specs.Entries.{at, meanings, Meaning, IsEntryAt}
-use Rattle.few_terminals.specs.Rows.{costs_of, places_of, cost_in, meanings_of, AreRows, IsTable}
+use Rattle.few_terminals.specs.Reach.{slot_of}
+use Rattle.few_terminals.specs.Rows.{costs_of, places_of, cost_in, place_in, meanings_of, AreRows, IsTable}
 use Rattle.few_terminals.specs.Terminals.{AreTerminals}
 use Rattle.few_terminals.specs.Under.{mask, IsUnder}
 use Rattle.few_terminals.proofs.Bits.{sum_below, mask_full, mask_below, mask_none, mask_some, mask_among}
 use Rattle.few_terminals.proofs.Finishing.{cost_past}
 use Rattle.few_terminals.proofs.Meanings.{length-meanings}
+use Rattle.few_terminals.proofs.Slots.{slot_within}
 use Rattle.few_terminals.proofs.Tables.{tables_bound}
 
 -- what the rows say, and nothing of the empty set
-abbrev pub said : List Row → ℕ → ℕ → ℕ
-said rows m v = cond (eqb m 0) 0 (cost_in rows m v)
+abbrev pub said : List ℕ → List Row → ℕ → ℕ → ℕ
+said vs rows m v = cond (eqb m 0) 0 (cost_in vs rows m v)
 
 some_set : (m : ℕ) → 1 ≤ m → eqb m 0 ≡ false
 some_set m low = grind (arith, nat_tests)
 
-said_of : (rows : List Row) (m v : ℕ) → 1 ≤ m → said rows m v ≡ cost_in rows m v
-said_of rows m v low = ap (λ b. cond b 0 (cost_in rows m v)) (some_set m low)
+said_of : (vs : List ℕ) (rows : List Row) (m v : ℕ) → 1 ≤ m → said vs rows m v ≡ cost_in vs rows m v
+said_of vs rows m v low = ap (λ b. cond b 0 (cost_in vs rows m v)) (some_set m low)
 
 -- the rows of all sets meet the three inequalities
-pub under_rows : (I : Network) (ks : List ℕ) (es : List Meaning) (rows : List Row) → AreRows I ks es rows → length rows ≡ 2 ^ length ks → IsUnder I ks (said rows)
-under_rows I ks es rows are whole = record { alone = alone; along = along; joined = joined }
+pub under_rows : (I : Network) (ks : List ℕ) (es : List Meaning) (vs : List ℕ) (rows : List Row) → AreRows I ks es vs rows → length rows ≡ 2 ^ length ks → IsUnder I ks (said vs rows)
+under_rows I ks es vs rows are whole = record { alone = alone; along = along; joined = joined }
   where
-    alone : (v : ℕ) → said rows (mask ks (v ∷ [])) v ≡ 0
+    alone : (v : ℕ) → said vs rows (mask ks (v ∷ [])) v ≡ 0
     alone v = by_case (has ks v) refl
       where
-        by_case : (b : Bool) → has ks v ≡ b → said rows (mask ks (v ∷ [])) v ≡ 0
+        by_case : (b : Bool) → has ks v ≡ b → said vs rows (mask ks (v ∷ [])) v ≡ 0
         by_case true known =
             let low = mask_some ks v known in
             let high = mask_below ks (v ∷ []) in
-            said_of rows (mask ks (v ∷ [])) v low ∙ are.alone v known (omega (arith, high, whole))
-        by_case false out = ap (λ (m : ℕ). said rows m v) (mask_none ks v out)
+            said_of vs rows (mask ks (v ∷ [])) v low ∙ are.alone v known (omega (arith, high, whole))
+        by_case false out = ap (λ (m : ℕ). said vs rows m v) (mask_none ks v out)
 
-    along : (m u v c : ℕ) → link I.links u v ≡ Some c → said rows m u ≤ said rows m v + c
+    along : (m u v c : ℕ) → link I.links u v ≡ Some c → said vs rows m u ≤ said vs rows m v + c
     along m u v c linked = by_case (eqb m 0)
       where
-        by_case : (b : Bool) → cond b 0 (cost_in rows m u) ≤ cond b 0 (cost_in rows m v) + c
+        by_case : (b : Bool) → cond b 0 (cost_in vs rows m u) ≤ cond b 0 (cost_in vs rows m v) + c
         by_case true = omega arith
         by_case false = are.along m u v c linked
 
-    joined : (v a b : ℕ) → bit_and a b ≡ 0 → said rows (a + b) v ≤ said rows a v + said rows b v
+    joined : (v a b : ℕ) → bit_and a b ≡ 0 → said vs rows (a + b) v ≤ said vs rows a v + said vs rows b v
     joined v a b apart = split (cases_lt 0 a) (cases_lt 0 b)
       where
-        many : 1 ≤ a → 1 ≤ b → (a + b < length rows) ⊎ (length rows ≤ a + b) → cost_in rows (a + b) v ≤ cost_in rows a v + cost_in rows b v
+        many : 1 ≤ a → 1 ≤ b → (a + b < length rows) ⊎ (length rows ≤ a + b) → cost_in vs rows (a + b) v ≤ cost_in vs rows a v + cost_in vs rows b v
         many low low_also (inl within) = are.joined v a b low low_also apart within
         many low low_also (inr past) = beyond (cases_lt a (length rows)) (cases_lt b (length rows))
           where
-            beyond : (a < length rows) ⊎ (length rows ≤ a) → (b < length rows) ⊎ (length rows ≤ b) → cost_in rows (a + b) v ≤ cost_in rows a v + cost_in rows b v
-            beyond (inr far) other = let most = are.most (a + b) v in let here = cost_past rows a v far in omega (arith, most, here)
-            beyond (inl near) (inr far) = let most = are.most (a + b) v in let here = cost_past rows b v far in omega (arith, most, here)
+            beyond : (a < length rows) ⊎ (length rows ≤ a) → (b < length rows) ⊎ (length rows ≤ b) → cost_in vs rows (a + b) v ≤ cost_in vs rows a v + cost_in vs rows b v
+            beyond (inr far) other = let most = are.most (a + b) v in let here = cost_past vs rows a v far in omega (arith, most, here)
+            beyond (inl near) (inr far) = let most = are.most (a + b) v in let here = cost_past vs rows b v far in omega (arith, most, here)
             beyond (inl near) (inl also) = let below = sum_below (length ks) a b apart (omega (arith, near, whole)) (omega (arith, also, whole)) in absurd (omega (arith, below, past, whole))
 
-        split : (0 < a) ⊎ (a ≤ 0) → (0 < b) ⊎ (b ≤ 0) → said rows (a + b) v ≤ said rows a v + said rows b v
+        split : (0 < a) ⊎ (a ≤ 0) → (0 < b) ⊎ (b ≤ 0) → said vs rows (a + b) v ≤ said vs rows a v + said vs rows b v
         split (inr none) other =
             let here : a ≡ 0 = omega (arith, none) in
             let sum : a + b ≡ b = omega (arith, here) in
-            let same : said rows (a + b) v ≡ said rows b v = ap (λ (m : ℕ). said rows m v) sum in
+            let same : said vs rows (a + b) v ≡ said vs rows b v = ap (λ (m : ℕ). said vs rows m v) sum in
             omega (arith, same)
         split (inl some) (inr none) =
             let sum : a + b ≡ a = omega (arith, none) in
-            let same : said rows (a + b) v ≡ said rows a v = ap (λ (m : ℕ). said rows m v) sum in
+            let same : said vs rows (a + b) v ≡ said vs rows a v = ap (λ (m : ℕ). said vs rows m v) sum in
             omega (arith, same)
         split (inl some) (inl also) =
-            let one = said_of rows a v some in
-            let other = said_of rows b v also in
-            let both = said_of rows (a + b) v (omega (arith, some)) in
+            let one = said_of vs rows a v some in
+            let other = said_of vs rows b v also in
+            let both = said_of vs rows (a + b) v (omega (arith, some)) in
             let less = many some also (cases_lt (a + b) (length rows)) in
             omega (arith, one, other, both, less)
 
-module _ (I : Network) (t : Terminals) (es : List Meaning) (rows : List Row) (instance : IsInstance I) (terminals : AreTerminals I t) (some : 0 < length t.others.items) (are : AreRows I t.others.items es rows) (whole : length rows ≡ 2 ^ length t.others.items) where
+module _ (I : Network) (t : Terminals) (es : List Meaning) (vs : List ℕ) (rows : List Row) (instance : IsInstance I) (terminals : AreTerminals I t) (some : 0 < length t.others.items) (are : AreRows I t.others.items es vs rows) (whole : length rows ≡ 2 ^ length t.others.items) where
   -- the root has to be reached
   root_is : IsTerminal I t.root
   root_is = first t.others.items some terminals.root
@@ -100,15 +102,15 @@ module _ (I : Network) (t : Terminals) (es : List Meaning) (rows : List Row) (in
       first (k ∷ ks) low all = all k (has-cons_head ks k k refl)
 
   -- the last row says no more than what the links of a tree cost that was regrown at the root
-  bounded : (s new : Tree) → IsTree I s → IsRegrown I s t.root new → cost_in rows (length rows - 1) t.root ≤ total (arc_cost I) new.arcs
+  bounded : (s new : Tree) → IsTree I s → IsRegrown I s t.root new → cost_in vs rows (length rows - 1) t.root ≤ total (arc_cost I) new.arcs
   bounded s new tree regrown =
       let there = tree.required t.root root_is.vertex root_is.required in
       let alike = regrown_is_alike I s t.root new tree.arborescence there regrown in
       let full : mask t.others.items (reached new) + 1 ≡ 2 ^ length t.others.items = mask_full t.others.items (reached new) (λ k known. alike.0 k ∙ tree.required k (terminals.others k known).vertex (terminals.others k known).required) in
       let last : mask t.others.items (reached new) ≡ length rows - 1 = omega (arith, full, whole) in
-      let law = tables_bound I t.others.items (said rows) new (under_rows I t.others.items es rows are whole) regrown.arborescence in
-      let here : said rows (mask t.others.items (reached new)) new.start ≡ said rows (length rows - 1) t.root = ap (λ (m : ℕ). said rows m new.start) last ∙ ap (λ (v : ℕ). said rows (length rows - 1) v) regrown.start in
-      let said_is = said_of rows (length rows - 1) t.root (omega (arith, two)) in
+      let law = tables_bound I t.others.items (said vs rows) new (under_rows I t.others.items es vs rows are whole) regrown.arborescence in
+      let here : said vs rows (mask t.others.items (reached new)) new.start ≡ said vs rows (length rows - 1) t.root = ap (λ (m : ℕ). said vs rows m new.start) last ∙ ap (λ (v : ℕ). said vs rows (length rows - 1) v) regrown.start in
+      let said_is = said_of vs rows (length rows - 1) t.root (omega (arith, two)) in
       omega (arith, law, here, said_is)
     where
       two : 2 ≤ length rows
@@ -119,17 +121,17 @@ module _ (I : Network) (t : Terminals) (es : List Meaning) (rows : List Row) (in
           many (k ∷ ks) low is = let double = pow-suc 2 (length ks) in let least = one-le-pow (length ks) 2 (omega arith) in omega (arith, is, double, least)
 
   -- so it bounds each tree
-  pub bounds : (s : Tree) → IsTree I s → cost_in rows (length rows - 1) t.root ≤ cost I s
+  pub bounds : (s : Tree) → IsTree I s → cost_in vs rows (length rows - 1) t.root ≤ cost I s
   bounds s tree = at (each_tree_regrows I s t.root instance tree.arborescence (tree.required t.root root_is.vertex root_is.required))
     where
-      at : ((new : Tree) × IsRegrown I s t.root new) → cost_in rows (length rows - 1) t.root ≤ cost I s
+      at : ((new : Tree) × IsRegrown I s t.root new) → cost_in vs rows (length rows - 1) t.root ≤ cost I s
       at (new, regrown) =
           let less = bounded s new tree regrown in
           let alike = (regrown_is_alike I s t.root new tree.arborescence (tree.required t.root root_is.vertex root_is.required) regrown).1 in
           omega (arith, less, alike)
 
   -- and where it says nothing there is no tree
-  pub none : 2 ^ 63 ≤ cost_in rows (length rows - 1) t.root → (s : Tree) → IsTree I s → ⊥
+  pub none : 2 ^ 63 ≤ cost_in vs rows (length rows - 1) t.root → (s : Tree) → IsTree I s → ⊥
   none far s tree = at (each_tree_regrows I s t.root instance tree.arborescence (tree.required t.root root_is.vertex root_is.required))
     where
       at : ((new : Tree) × IsRegrown I s t.root new) → ⊥
@@ -148,12 +150,12 @@ nothing_missed I r nobody = sum_to_same (missed I r) (λ _. 0) I.n (λ v low hig
     by_case false is = is
 
 -- the tree that an entry of all terminals leads back to is a best one
-pub best : (I : Network) (t : Terminals) (es : List Meaning) (rows : List Row) (top : ℕ) (l : Laid) (tree : Tree) → IsInstance I → AreTerminals I t → 0 < length t.others.items → NobodyPays I → AreRows I t.others.items es rows → length rows ≡ 2 ^ length t.others.items → IsEntryAt es top t.root (length rows - 1) (cost_in rows (length rows - 1) t.root) → IsWayBack I t.others.items es top l
+pub best : (I : Network) (t : Terminals) (es : List Meaning) (vs : List ℕ) (rows : List Row) (top : ℕ) (l : Laid) (tree : Tree) → IsInstance I → AreTerminals I t → 0 < length t.others.items → NobodyPays I → AreRows I t.others.items es vs rows → length rows ≡ 2 ^ length t.others.items → IsEntryAt es top t.root (length rows - 1) (cost_in vs rows (length rows - 1) t.root) → IsWayBack I t.others.items es top l
     → IsArborescence I tree → tree.start ≡ l.start → ((v : ℕ) → has (reached tree) v ≡ has l.reached.members v) → total (arc_cost I) tree.arcs ≡ spent I l → IsBest I tree
-best I t es rows top l tree instance terminals some nobody are whole entry back grows start same costs = record {
+best I t es vs rows top l tree instance terminals some nobody are whole entry back grows start same costs = record {
   tree = record { arborescence = grows; required = required };
   least = λ s other.
-      let bound = bounds I t es rows instance terminals some are whole s other in
+      let bound = bounds I t es vs rows instance terminals some are whole s other in
       let missed_is = nothing_missed I (reached tree) nobody in
       let spends = back.cost in
       let says = entry.cost_is in
@@ -196,8 +198,8 @@ module _ (I : Network) (t : Terminals) (table : Table) (instance : IsInstance I)
   abbrev es : List Meaning
   es = meanings I t.others.items table.entries.items
 
-  rows_are : AreRows I t.others.items es table.rows.items
-  rows_are = subst (λ (ks : List ℕ). AreRows I ks (meanings I ks table.entries.items) table.rows.items) same is.rows
+  rows_are : AreRows I t.others.items es table.reached.items table.rows.items
+  rows_are = subst (λ (ks : List ℕ). AreRows I ks (meanings I ks table.entries.items) table.reached.items table.rows.items) same is.rows
 
   pub two_rows : 1 < length table.rows.items
   two_rows = many t.others.items some whole
@@ -206,25 +208,25 @@ module _ (I : Network) (t : Terminals) (table : Table) (instance : IsInstance I)
       many [] none is = absurd (omega (arith, none))
       many (k ∷ ks) low is = let double = pow-suc 2 (length ks) in let least = one-le-pow (length ks) 2 (omega arith) in omega (arith, is, double, least)
 
-  pub root_within : t.root < length (costs_of table.rows.items (length table.rows.items - 1))
-  root_within = let long = rows_are.long_costs (length table.rows.items - 1) (omega (arith, two_rows)) (omega (arith, two_rows)) in let high = terminals.vertex.1 in omega (arith, long, high)
+  pub root_within : IsTrue (has table.reached.items t.root) → slot_of table.reached.items t.root < length (costs_of table.rows.items (length table.rows.items - 1))
+  root_within there = let long = rows_are.long_costs (length table.rows.items - 1) (omega (arith, two_rows)) (omega (arith, two_rows)) in let within = slot_within table.reached.items t.root there in omega (arith, long, within)
 
-  pub root_places : t.root < length (places_of table.rows.items (length table.rows.items - 1))
-  root_places = let long = rows_are.long_places (length table.rows.items - 1) (omega (arith, two_rows)) (omega (arith, two_rows)) in let high = terminals.vertex.1 in omega (arith, long, high)
+  pub root_places : IsTrue (has table.reached.items t.root) → slot_of table.reached.items t.root < length (places_of table.rows.items (length table.rows.items - 1))
+  root_places there = let long = rows_are.long_places (length table.rows.items - 1) (omega (arith, two_rows)) (omega (arith, two_rows)) in let within = slot_within table.reached.items t.root there in omega (arith, long, within)
 
-  top_within : (top : ℕ) → cost_in table.rows.items (length table.rows.items - 1) t.root < 2 ^ 63 → top ≡ get_or (places_of table.rows.items (length table.rows.items - 1)) t.root 0 → IsEntryAt es top t.root (length table.rows.items - 1) (cost_in table.rows.items (length table.rows.items - 1) t.root)
-  top_within top near here = subst (λ (p : ℕ). IsEntryAt es p t.root (length table.rows.items - 1) (cost_in table.rows.items (length table.rows.items - 1) t.root)) (sym here) (rows_are.placed (length table.rows.items - 1) t.root near)
+  top_within : (top : ℕ) → cost_in table.reached.items table.rows.items (length table.rows.items - 1) t.root < 2 ^ 63 → top ≡ place_in table.reached.items table.rows.items (length table.rows.items - 1) t.root → IsEntryAt es top t.root (length table.rows.items - 1) (cost_in table.reached.items table.rows.items (length table.rows.items - 1) t.root)
+  top_within top near here = subst (λ (p : ℕ). IsEntryAt es p t.root (length table.rows.items - 1) (cost_in table.reached.items table.rows.items (length table.rows.items - 1) t.root)) (sym here) (rows_are.placed (length table.rows.items - 1) t.root near)
 
-  pub top_stands : (top : ℕ) → cost_in table.rows.items (length table.rows.items - 1) t.root < 2 ^ 63 → top ≡ get_or (places_of table.rows.items (length table.rows.items - 1)) t.root 0 → top < length table.entries.items
+  pub top_stands : (top : ℕ) → cost_in table.reached.items table.rows.items (length table.rows.items - 1) t.root < 2 ^ 63 → top ≡ place_in table.reached.items table.rows.items (length table.rows.items - 1) t.root → top < length table.entries.items
   top_stands top near here =
       let within = (top_within top near here).within in
       let long = length-meanings I t.others.items table.entries.items in
       omega (arith, within, long)
 
-  pub best_of_table : (top : ℕ) (l : Laid) (tree : Tree) → NobodyPays I → cost_in table.rows.items (length table.rows.items - 1) t.root < 2 ^ 63 → top ≡ get_or (places_of table.rows.items (length table.rows.items - 1)) t.root 0 → IsWayBack I table.terminals.items (meanings_of I table) top l
+  pub best_of_table : (top : ℕ) (l : Laid) (tree : Tree) → NobodyPays I → cost_in table.reached.items table.rows.items (length table.rows.items - 1) t.root < 2 ^ 63 → top ≡ place_in table.reached.items table.rows.items (length table.rows.items - 1) t.root → IsWayBack I table.terminals.items (meanings_of I table) top l
       → IsArborescence I tree → tree.start ≡ l.start → ((v : ℕ) → has (reached tree) v ≡ has l.reached.members v) → total (arc_cost I) tree.arcs ≡ spent I l → IsBest I tree
   best_of_table top l tree nobody near here back grows start same_reached costs =
-      best I t es table.rows.items top l tree instance terminals some nobody rows_are whole (top_within top near here) (subst (λ (ks : List ℕ). IsWayBack I ks (meanings I ks table.entries.items) top l) same back) grows start same_reached costs
+      best I t es table.reached.items table.rows.items top l tree instance terminals some nobody rows_are whole (top_within top near here) (subst (λ (ks : List ℕ). IsWayBack I ks (meanings I ks table.entries.items) top l) same back) grows start same_reached costs
 
-  pub none_of_table : 2 ^ 63 ≤ cost_in table.rows.items (length table.rows.items - 1) t.root → (s : Tree) → IsTree I s → ⊥
-  none_of_table far = none I t es table.rows.items instance terminals some rows_are whole far
+  pub none_of_table : 2 ^ 63 ≤ cost_in table.reached.items table.rows.items (length table.rows.items - 1) t.root → (s : Tree) → IsTree I s → ⊥
+  none_of_table far = none I t es table.reached.items table.rows.items instance terminals some rows_are whole far

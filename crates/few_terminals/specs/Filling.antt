@@ -11,7 +11,8 @@ use Rattle.few_terminals.specs.declared.filling.Filling.{Filling}
 use Rattle.few_terminals.specs.declared.mark.Mark.{Mark}
 use Rattle.few_terminals.specs.declared.row.Row.{Row}
 use Rattle.few_terminals.specs.Entries.{meanings, Meaning, HasParts, HaveParts, IsEntryAt, GoesOn}
-use Rattle.few_terminals.specs.Rows.{cost_at, cost_in}
+use Rattle.few_terminals.specs.Reach.{slot_of}
+use Rattle.few_terminals.specs.Rows.{cost_at, cost_in, place_at}
 use Rattle.few_terminals.specs.Under.{mask}
 
 -- nothing is known
@@ -34,18 +35,19 @@ pub record IsBegun (I : Network) (ks : List ℕ) (es : List Meaning) (bits : ℕ
   pub alone : (k : ℕ) → IsTrue (has ks k) → mask ks (k ∷ []) ≡ bits → (mark_at marks k).cost ≡ 0
 
 -- and no more than two disjoint sets, of which the lesser is below a number
-pub record IsJoinedBelow (I : Network) (ks : List ℕ) (es : List Meaning) (rows : List Row) (bits part : ℕ) (marks : List Mark) : Type 0 where
+pub record IsJoinedBelow (I : Network) (ks : List ℕ) (es : List Meaning) (vs : List ℕ) (rows : List Row) (bits part : ℕ) (marks : List Mark) : Type 0 where
   pub begun : IsBegun I ks es bits marks
-  pub joined : (v a b : ℕ) → 1 ≤ a → a < part → a < b → bit_and a b ≡ 0 → a + b ≡ bits → (mark_at marks v).cost ≤ cost_in rows a v + cost_in rows b v
+  pub joined : (v a b : ℕ) → 1 ≤ a → a < part → a < b → bit_and a b ≡ 0 → a + b ≡ bits → (mark_at marks v).cost ≤ cost_in vs rows a v + cost_in vs rows b v
 
 -- what two rows make of a mark
 abbrev pub joined_mark : Mark → ℕ → ℕ → ℕ → ℕ → Mark
 joined_mark mark c d p q = if nat_lt (c + d) mark.cost then record { cost = c + d; way = Joined p q; place = 0 } else mark
 
--- two rows are joined at each vertex
-pub record Joins (old : List Mark) (first second : Row) (new : List Mark) : Type 0 where
+-- two rows are joined at the vertices of the first slots, and the others are as they were
+pub record Joins (vs : List ℕ) (slot : ℕ) (old : List Mark) (first second : Row) (new : List Mark) : Type 0 where
   pub long : length new ≡ length old
-  pub at : (v : ℕ) → v < length old → mark_at new v ≡ joined_mark (mark_at old v) (cost_at first.costs.items v) (cost_at second.costs.items v) (slice_index_or first.places.items v 0) (slice_index_or second.places.items v 0)
+  pub at : (v : ℕ) → slot_of vs v < slot → mark_at new v ≡ joined_mark (mark_at old v) (cost_at vs first.costs.items v) (cost_at vs second.costs.items v) (place_at vs first.places.items v) (place_at vs second.places.items v)
+  pub others : (v : ℕ) → slot ≤ slot_of vs v → mark_at new v ≡ mark_at old v
 
 -- what waits: a cost, and the vertex that is offered it
 abbrev pub offer_of : ℕ → ℕ → Reverse (ℕ × ℕ)

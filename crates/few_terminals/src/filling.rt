@@ -138,13 +138,21 @@ impl Filling {
         Ok(())
     }
 
-    // The row, as it is filled.
-    pub fn row(&self, alloc: Global) -> Result<Row, AllocError>
-        ensures costs { IfOk result (λ row. row.costs.items ≡ map (λ mark. mark.cost) self.now.marks.items) }
-        ensures places { IfOk result (λ row. row.places.items ≡ map (λ mark. mark.place) self.now.marks.items) }
+    // The row over these vertices, as it is filled.
+    pub fn row(&self, alloc: Global, reached: &[u32]) -> Result<Row, AllocError>
+        requires { All (λ v. v < length self.now.marks.items) reached.now }
+        ensures costs { IfOk result (λ row. row.costs.items
+            ≡ map (λ v. (mark_at self.now.marks.items v).cost) reached.now) }
+        ensures places { IfOk result (λ row. row.places.items
+            ≡ map (λ v. (mark_at self.now.marks.items v).place) reached.now) }
     {
-        let costs = self.marks.iter().map(|mark| mark.cost).collect(alloc)?;
-        let places = self.marks.iter().map(|mark| mark.place).collect(alloc)?;
+        let mut costs = Vec::with_capacity(alloc, reached.len())?;
+        let mut places = Vec::with_capacity(alloc, reached.len())?;
+        for &vertex in reached {
+            let mark = self.marks[vertex as usize];
+            costs.push(mark.cost)?;
+            places.push(mark.place)?;
+        }
         Ok(Row { costs, places })
     }
 }

@@ -16,6 +16,7 @@ mod judging;
 mod law;
 mod mark;
 mod optimum;
+mod reach;
 mod row;
 mod table;
 

@@ -12,6 +12,7 @@ use crate::FewFault;
 use crate::back::way_back;
 use crate::choice::{Terminals, choose};
 use crate::judging::judge;
+use crate::reach::{reach, unreached};
 use crate::table::fill;
 use graph_store::Store;
 use short_paths::Laid;
@@ -19,10 +20,10 @@ use st_model::{Instance, Tree};
 use std::alloc::{AllocError, Global};
 
 /// A tree of least cost of an instance with at most twelve terminals in which no other vertex
-/// pays, and None where no tree reaches them all. With n vertices, m links and t terminals it
-/// takes time in the order of n 3^t + m 2^t log n, and memory in that of n 2^t, at most; no more
-/// than 67,108,864 for n 2^t are allowed. (Dreyfus and Wagner 1972; Erickson, Monma and Veinott
-/// 1987.)
+/// pays, and None where no tree reaches them all. With n vertices and m links that links lead to
+/// from a terminal, and t terminals, it takes time in the order of n 3^t + m 2^t log n, and memory
+/// in that of n 2^t; no more than 67,108,864 are allowed for all vertices times 2^t. (Dreyfus and
+/// Wagner 1972; Erickson, Monma and Veinott 1987.)
 pub fn few(alloc: Global, instance: &Instance) -> Result<Option<Tree>, FewFault>
     ensures best { IfOk result (λ found. IfSome found (IsBest instance.now)) }
     ensures none { IfOk result (λ found. IfNone found ((t : Tree) → IsTree instance.now t → ⊥)) }
@@ -66,7 +67,12 @@ fn joined_tree(
     ensures none { IfOk result (λ found. IfNone found ((t : Tree) → IsTree store.now.network t → ⊥)) }
 {
     let root = terminals.root;
-    let table = fill(alloc, store, terminals.others)?;
+    let reached = reach(alloc, store, root)?;
+    if unreached(&reached, &terminals.others).is_some() {
+        return Ok(None);
+    }
+    let vertices = reached.ascending(alloc)?;
+    let table = fill(alloc, store, terminals.others, vertices)?;
     let Some(top) = table.top(root) else {
         return Ok(None);
     };

@@ -2,8 +2,8 @@ ghost use Rattle.std.specs.Prelude.{◌≡◌, []};
 
 use std::alloc::Global;
 
-// By vertex, the least that a tree from there costs that reaches the row's set, 2^63 where nothing
-// is known, and the place of its entry.
+// For each of the vertices that the table is over, in their order, the least that a tree from there
+// costs that reaches the row's set, 2^63 where nothing is known, and the place of its entry.
 #[derive(Drop)]
 pub struct Row {
     pub costs: Vec<u64>,

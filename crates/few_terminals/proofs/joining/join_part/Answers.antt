@@ -38,6 +38,6 @@ returns-clause-joined c I ks es rows before =
     let within_also : c.args.bits - c.args.part < length c.args.rows.now = omega (arith, part, high) in
     let sum : c.args.part + (c.args.bits - c.args.part) ≡ c.args.bits = omega (arith, part) in
     let costs = costs_read c.args.rows.now c.args.part c.index-rows-part.result within c.index-rows-part.is in
-    joined_more I ks es c.args.rows.now c.args.bits c.args.part (c.args.bits - c.args.part) rows sum c.if-part-rest-ne0.false c.args.marks.now.items c.join.new.marks.items c.index-rows-part.result c.index-rows-rest.result costs
+    joined_more I ks es c.args.reached.now c.args.rows.now c.args.bits c.args.part (c.args.bits - c.args.part) rows sum c.if-part-rest-ne0.false c.args.marks.now.items c.join.new.marks.items c.index-rows-part.result c.index-rows-rest.result costs
     (places_read c.args.rows.now c.args.part c.index-rows-part.result within c.index-rows-part.is) (costs_read c.args.rows.now (c.args.bits - c.args.part) c.index-rows-rest.result within_also c.index-rows-rest.is) (places_read c.args.rows.now (c.args.bits - c.args.part) c.index-rows-rest.result within_also c.index-rows-rest.is)
     (ap length costs ∙ c.requires.costs c.args.part part.0 within) c.join.ensures before

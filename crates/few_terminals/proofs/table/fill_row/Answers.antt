@@ -1,12 +1,13 @@
-use Rattle.std.proofs.Common.{◌≡◌, ◌^◌, ◌<◌, ◌≤◌, ℕ, List, [], ◌∷◌, arith, sym, ap, subst}
+use Rattle.std.proofs.Common.{◌≡◌, ◌^◌, ◌<◌, ◌≤◌, ◌+◌, ℕ, List, [], ◌∷◌, length, arith, sym, ap, subst, ◌∙◌}
 use Rattle.std.specs.Prelude.{All, Contains, IsPermutation}
+use Rattle.std.proofs.lemmas.List.Elements.{All-weaker}
 use Rattle.std.specs.BinaryHeap.{heap_items}
 use Rattle.st_model.specs.Network.{IsVertex}
 use Rattle.few_terminals.specs.declared.mark.Mark.{Mark}
 use Rattle.few_terminals.specs.Entries.{meanings}
 use Rattle.few_terminals.specs.Filling.{mark_at, Falls, IsFilling, IsBegun, IsJoinedBelow, offer_of}
 use Rattle.few_terminals.proofs.Marking.{Offer, goes_on_same, goes_on_then, filling_moved}
-use Rattle.few_terminals.proofs.Finishing.{filling_begun, row_is, at_none}
+use Rattle.few_terminals.proofs.Finishing.{filling_begun, row_is}
 use Rattle.few_terminals.proofs.table.fill_row.Goals as goal
 
 pub loop-cost-init : goal.loop-cost-init
@@ -73,8 +74,19 @@ returns-clause-row c =
     let marks = c.next.new.self.marks.items in
     let instance = c.vertices.ensures.graph.instance in
     let first = c.in_ok-filling.filling.marks.items in
-    let joined : IsJoinedBelow I ks old_es c.args.rows.now c.args.bits c.args.bits first = subst (IsJoinedBelow I ks old_es c.args.rows.now c.args.bits c.args.bits) (sym c.in_ok-filling.ensures.marks) (c.in_ok-marks.ensures I old_es (sym c.vertices.ensures.count) c.requires.rows) in
+    let joined : IsJoinedBelow I ks old_es c.args.reached.now c.args.rows.now c.args.bits c.args.bits first = subst (IsJoinedBelow I ks old_es c.args.reached.now c.args.rows.now c.args.bits c.args.bits) (sym c.in_ok-filling.ensures.marks) (c.in_ok-marks.ensures I old_es (sym c.vertices.ensures.count) c.requires.rows) in
     let falls : Falls first marks = subst (Falls first) (sym c.next.ensures.marks) before.falls in
     let filling : IsFilling I ks es c.args.bits marks [] = subst (λ (ms : List Mark). IsFilling I ks es c.args.bits ms []) (sym c.next.ensures.marks) (subst (λ (q : List Offer). IsFilling I ks es c.args.bits c.loop-cost.filling.marks.items q) c.in_default.ensures.none before.filling) in
-    row_is I ks es c.args.rows.now c.args.bits first old_es marks instance joined falls filling c.in_ok-row.row.costs.items c.in_ok-row.row.places.items c.in_ok-row.ensures.costs c.in_ok-row.ensures.places
-    (at_none I ks es c.args.bits (mark_at marks 0) instance before.parts c.requires.some c.requires.vertices (filling.sound 0))
+    row_is I ks es c.args.reached.now c.args.rows.now c.args.bits first old_es marks instance c.requires.reach c.requires.rows c.requires.place joined falls filling c.in_ok-row.row.costs.items c.in_ok-row.row.places.items c.in_ok-row.ensures.costs c.in_ok-row.ensures.places
+
+pub joined-requires-clause-range : goal.joined-requires-clause-range
+joined-requires-clause-range c =
+    let count = c.vertices.ensures.count in
+    All-weaker (IsVertex c.args.store.now.network.n) (λ v. v < c.vertices.result + 1) (λ v range. let high = range.1 in omega (arith, high, count)) c.args.reached.now c.requires.reach.vertices
+
+pub row-requires : goal.row-requires
+row-requires c =
+    let I = c.args.store.now.network in
+    let marks = c.next.new.self.marks.items in
+    let long : length marks ≡ I.n + 1 = ap length c.next.ensures.marks ∙ c.loop-cost.invariant.filling.long in
+    All-weaker (IsVertex I.n) (λ v. v < length marks) (λ v range. let high = range.1 in omega (arith, high, long)) c.args.reached.now c.requires.reach.vertices
