@@ -1,5 +1,5 @@
 -- How the stages of the reader stand for places, and what holds of what was read. Helpers' clauses cite this, and no public one.
-use Rattle.std.specs.Prelude.{◌≡◌, ℕ, ◌≤◌, ◌<◌, IsFalse, ◌&&◌, List, [], length, All, IfSome, Result, Ok, Err}
+use Rattle.std.specs.Prelude.{◌≡◌, ℕ, ◌≤◌, ◌<◌, IsFalse, Bool, true, ◌&&◌, List, [], length, All, IfSome, Result, Ok, Err}
 use Rattle.std.specs.List.{list_any}
 use Rattle.st_model.specs.declared.link.Link.{Link}
 use Rattle.st_model.specs.declared.need.Need.{Need}
@@ -93,6 +93,22 @@ place_of (AtLinks g m) = at_links g.vertices m g.links.items
 place_of (AtCount g roots) = at_count (graph_of g) (roots_of roots)
 place_of (AtNeeds p) = at_needs (graph_of p.graph) p.count p.needs.items (roots_of p.roots)
 place_of (AfterEnd f) = after_end (file_from f)
+
+-- all that a file states whose section Terminals ends
+abbrev pub file_part : NeedsPart → FilePart
+file_part p = record { vertices = p.graph.vertices; links = p.graph.links; needs = p.needs; seen = p.graph.seen }
+
+-- the stage after a line where links or needs are listed, which may have ended their section
+abbrev pub after_list : Bool → Stage → Stage
+after_list true (AtLinks g m) = Outside (OneGraph g)
+after_list true (AtNeeds p) = Outside (Whole (file_part p))
+after_list _ stage = stage
+
+-- no links or needs are listed here
+abbrev pub ListsNothing : Stage → Type 0
+ListsNothing (AtLinks g m) = ⊥
+ListsNothing (AtNeeds p) = ⊥
+ListsNothing _ = Unit {0}
 
 -- ---- what holds of what was read
 

@@ -1,7 +1,7 @@
 ghost use Rattle.std.specs.Prelude.{◌≡◌, ◌≤◌, IfOk};
-ghost use Rattle.stp_reader.specs.Forms.{edge_line, end_line};
+ghost use Rattle.stp_reader.specs.Forms.{edge_line};
 ghost use Rattle.stp_reader.specs.Judging.{reason_in_section, reason_in_graph, judge_nodes, judge_edges, link_of, judge_link};
-ghost use Rattle.stp_reader.specs.Reached.{Says, Gives, form_seen, place_of, IsStatedLink, IsCount, AreLinksReached, IsReached};
+ghost use Rattle.stp_reader.specs.Reached.{Says, Gives, form_seen, place_of, after_list, IsStatedLink, IsCount, AreLinksReached, IsReached};
 
 use crate::Reason;
 use crate::fault::LineError;
@@ -9,7 +9,7 @@ use crate::form::Form;
 use crate::numbers::{amount, count, nodes, vertex};
 use crate::reason::both;
 use crate::seen::Seen;
-use crate::stage::{Ended, GraphPart, Stage};
+use crate::stage::{GraphPart, Stage};
 use st_model::Link;
 use std::alloc::Global;
 
@@ -79,48 +79,39 @@ fn link_of(vertices: u32, first: &[u8], second: &[u8], cost: &[u8]) -> Result<Li
     Ok(Link { a, b, cost })
 }
 
-// The graph with the link of one more line.
-fn with_link(
-    mut graph: GraphPart,
+// Takes the link of one more line.
+fn add_link(
+    graph: &mut GraphPart,
     count: u64,
     first: &[u8],
     second: &[u8],
     cost: &[u8],
-) -> Result<Stage, LineError>
-    requires { AreLinksReached graph count }
-    ensures place { Gives place_of result
-        (judge_link graph.vertices count graph.links.items (edge_line first.now second.now cost.now)) }
-    ensures reached { IfOk result IsReached }
+) -> Result<(), LineError>
+    requires { AreLinksReached graph.old count }
+    ensures place { Gives (λ _. place_of (Stage.AtLinks graph.new count)) result
+        (judge_link graph.old.vertices count graph.old.links.items (edge_line first.now second.now cost.now)) }
+    ensures reached { IfOk result (λ _. AreLinksReached graph.new count) }
 {
     let link = link_of(graph.vertices, first, second, cost)?;
     graph.seen = graph.seen.with(link.cost)?;
     graph.links.push(link)?;
-    Ok(Stage::AtLinks(graph, count))
+    Ok(())
 }
 
-// After the END of Graph.
-fn graph_end(graph: GraphPart, count: u64) -> Result<Stage, Reason>
-    requires { AreLinksReached graph count }
-    ensures place { Says place_of result
-        (judge_link graph.vertices count graph.links.items end_line) }
-    ensures reached { IfOk result IsReached }
-{
-    if graph.links.len() as u64 != count {
-        return Err(Reason::CountMismatch);
-    }
-    Ok(Stage::Outside(Ended::OneGraph(graph)))
-}
-
-/// After a further line of Graph.
-pub fn link_line(graph: GraphPart, count: u64, form: Form) -> Result<Stage, LineError>
-    requires { AreLinksReached graph count }
-    ensures place { Gives place_of result
-        (judge_link graph.vertices count graph.links.items (form_seen form.entry)) }
-    ensures reached { IfOk result IsReached }
+/// Takes a further line of Graph, and answers whether it ends the section.
+pub fn link_line(graph: &mut GraphPart, count: u64, form: Form) -> Result<bool, LineError>
+    requires { AreLinksReached graph.old count }
+    ensures place { Gives (λ ends. place_of (after_list ends (Stage.AtLinks graph.new count))) result
+        (judge_link graph.old.vertices count graph.old.links.items (form_seen form.entry)) }
+    ensures reached { IfOk result (λ ends. IsReached (after_list ends (Stage.AtLinks graph.new count))) }
 {
     match form {
-        Form::Edge(first, second, cost) => with_link(graph, count, first, second, cost),
-        Form::End => Ok(graph_end(graph, count)?),
+        Form::Edge(first, second, cost) => {
+            add_link(graph, count, first, second, cost)?;
+            Ok(false)
+        }
+        Form::End if graph.links.len() as u64 == count => Ok(true),
+        Form::End => Err(LineError::Refused(Reason::CountMismatch)),
         _ => Err(LineError::Refused(misplaced_in_graph(form))),
     }
 }

@@ -4,7 +4,7 @@ ghost use Rattle.stp_reader.specs.Reached.{file_from, IsFile, IsFaultOf};
 
 use crate::fault::{LineError, ReadError};
 use crate::lines::{next_piece, without_cr};
-use crate::stage::{FilePart, Stage, after, at_end};
+use crate::stage::{FilePart, Stage, at_end, take_line};
 use std::alloc::Global;
 
 /// What all lines of a text state.
@@ -18,9 +18,8 @@ pub fn file_in(alloc: Global, bytes: &[u8]) -> Result<FilePart, ReadError>
     let mut rest = bytes;
     let mut number: u64 = 1;
     while let Some((piece, others)) = next_piece(rest) {
-        match after(alloc, stage, without_cr(piece)) {
-            Ok(next) => stage = next,
-            Err(e) => return Err(e.at(number)),
+        if let Err(e) = take_line(alloc, &mut stage, without_cr(piece)) {
+            return Err(e.at(number));
         }
         number += 1;
         rest = others;

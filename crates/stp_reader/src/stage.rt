@@ -1,9 +1,9 @@
-ghost use Rattle.std.specs.Prelude.{◌≡◌, ◌∷◌, IfOk};
+ghost use Rattle.std.specs.Prelude.{◌≡◌, ◌∷◌, true, IfOk};
 ghost use Rattle.stp_reader.specs.Lines.{words};
 ghost use Rattle.stp_reader.specs.Words.{keyword_of};
-ghost use Rattle.stp_reader.specs.Forms.{form_of};
+ghost use Rattle.stp_reader.specs.Forms.{form_of, form as form_said};
 ghost use Rattle.stp_reader.specs.Judging.{judge_opening, judge_outside, judge_no_header, judge_passed, file_of, judge, judge_line, at_end};
-ghost use Rattle.stp_reader.specs.Reached.{Says, Gives, form_seen, stated_of, place_of, file_from, IsEnded, IsFile, IsReached};
+ghost use Rattle.stp_reader.specs.Reached.{Says, Gives, form_seen, stated_of, place_of, file_part, after_list, ListsNothing, file_from, IsEnded, IsFile, IsReached};
 
 use crate::Reason;
 use crate::fault::LineError;
@@ -15,6 +15,7 @@ use crate::terminals::{count_line, need_line};
 use crate::words::{has_magic, is_remark, next_word};
 use st_model::{Link, Need, VertexSet};
 use std::alloc::Global;
+use std::mem;
 
 /// What a section Graph states, or has stated so far, costs in millionths.
 #[derive(Drop)]
@@ -153,21 +154,15 @@ fn passed_line(ended: Ended, form: Form) -> Stage
     }
 }
 
-// After a line that isn't skipped.
+// After a line that isn't skipped, where no links or needs are listed.
 #[tactic(auto, unfolding(crate::specs::Judging::judge_line))]
-fn after_said(
-    alloc: Global,
-    stage: Stage,
-    line: &[u8],
-    word: &[u8],
-    args: &[u8],
-) -> Result<Stage, LineError>
+fn next_stage(alloc: Global, stage: Stage, line: &[u8], form: Form) -> Result<Stage, LineError>
     requires reached { IsReached stage }
-    requires words { words line.now ≡ word.now ∷ words args.now }
+    requires apart { ListsNothing stage }
+    requires form { form_seen form ≡ form_said (words line.now) }
     ensures place { Gives place_of result (judge_line (place_of stage) (words line.now)) }
     ensures reached { IfOk result IsReached }
 {
-    let form = form_of(word, args);
     match stage {
         Stage::AtHeader if has_magic(line) => Ok(Stage::Outside(Ended::Nothing)),
         Stage::AtHeader => Ok(no_header(form)?),
@@ -175,27 +170,91 @@ fn after_said(
         Stage::PassedOver(ended) => Ok(passed_line(ended, form)),
         Stage::AtNodes => Ok(nodes_line(form)?),
         Stage::AtEdges(vertices) => Ok(edges_line(alloc, vertices, form)?),
-        Stage::AtLinks(graph, count) => link_line(graph, count, form),
         Stage::AtCount(graph, roots) => count_line(alloc, graph, roots, form),
-        Stage::AtNeeds(needs) => need_line(needs, form),
-        Stage::AfterEnd(file) => Ok(Stage::AfterEnd(file)),
+        Stage::AtLinks(..) | Stage::AtNeeds(_) | Stage::AfterEnd(_) => Ok(stage),
     }
 }
 
-/// What has been read with one more line.
+// All that a file states whose section Terminals ends.
+fn file_part(part: NeedsPart) -> FilePart
+    ensures { result ≡ file_part part }
+{
+    let NeedsPart { graph, needs, .. } = part;
+    let GraphPart {
+        vertices,
+        links,
+        seen,
+    } = graph;
+    FilePart {
+        vertices,
+        links,
+        needs,
+        seen,
+    }
+}
+
+// Ends the section whose links or needs are listed.
+fn end_section(stage: &mut Stage)
+    ensures { stage.new ≡ after_list true stage.old }
+{
+    match mem::replace(stage, Stage::AtHeader) {
+        Stage::AtLinks(graph, _) => *stage = Stage::Outside(Ended::OneGraph(graph)),
+        Stage::AtNeeds(needs) => *stage = Stage::Outside(Ended::Whole(file_part(needs))),
+        other => *stage = other,
+    }
+}
+
+// Takes a line that isn't skipped. Most lines list a link or a need: these are taken in place, and what the others move
+// stands in functions of its own, since a function pays for all of its locals at each call.
+#[tactic(auto, unfolding(crate::specs::Judging::judge_line))]
+fn take_said(
+    alloc: Global,
+    stage: &mut Stage,
+    line: &[u8],
+    word: &[u8],
+    args: &[u8],
+) -> Result<(), LineError>
+    requires reached { IsReached stage.old }
+    requires words { words line.now ≡ word.now ∷ words args.now }
+    ensures place { Gives (λ _. place_of stage.new) result (judge_line (place_of stage.old) (words line.now)) }
+    ensures reached { IfOk result (λ _. IsReached stage.new) }
+{
+    let form = form_of(word, args);
+    match stage {
+        Stage::AtLinks(graph, count) => {
+            if link_line(graph, *count, form)? {
+                end_section(stage);
+            }
+            Ok(())
+        }
+        Stage::AtNeeds(needs) => {
+            if need_line(needs, form)? {
+                end_section(stage);
+            }
+            Ok(())
+        }
+        _ => {
+            let before = mem::replace(stage, Stage::AtHeader);
+            *stage = next_stage(alloc, before, line, form)?;
+            Ok(())
+        }
+    }
+}
+
+/// Takes one more line.
 #[tactic(auto, unfolding(crate::specs::Judging::judge))]
-pub fn after(alloc: Global, stage: Stage, line: &[u8]) -> Result<Stage, LineError>
-    requires { IsReached stage }
-    ensures place { Gives place_of result (judge (place_of stage) (words line.now)) }
-    ensures reached { IfOk result IsReached }
+pub fn take_line(alloc: Global, stage: &mut Stage, line: &[u8]) -> Result<(), LineError>
+    requires { IsReached stage.old }
+    ensures place { Gives (λ _. place_of stage.new) result (judge (place_of stage.old) (words line.now)) }
+    ensures reached { IfOk result (λ _. IsReached stage.new) }
 {
     let Some((word, args)) = next_word(line) else {
-        return Ok(stage);
+        return Ok(());
     };
     if is_remark(word) {
-        return Ok(stage);
+        return Ok(());
     }
-    after_said(alloc, stage, line, word, args)
+    take_said(alloc, stage, line, word, args)
 }
 
 /// All that is stated, after the last line.

@@ -1,4 +1,4 @@
-ghost use Rattle.std.specs.Prelude.{◌≡◌, ◌≤◌, ◌++◌, false, IfOk, OnOk};
+ghost use Rattle.std.specs.Prelude.{◌≡◌, ◌≤◌, ◌++◌, true, false, IfOk, OnOk};
 ghost use Rattle.st_model.specs.Lists.{has};
 ghost use Rattle.st_model.specs.Network.{IsVertex};
 ghost use Rattle.st_model.specs.declared.need.Need.TheVariants.{Pays};
@@ -6,7 +6,7 @@ ghost use Rattle.stp_reader.specs.Forms.{count_line, terminal_line, prize_line, 
 ghost use Rattle.stp_reader.specs.Place.{pinned_need};
 ghost use Rattle.stp_reader.specs.Reasons.{has_terminal, is_pinned, is_count, is_stray};
 ghost use Rattle.stp_reader.specs.Judging.{root_of, judge_count, prize_of, end_fault, terminals_end, judge_need};
-ghost use Rattle.stp_reader.specs.Reached.{Says, Gives, form_seen, graph_of, roots_of, place_of, IsGraphPart, AreRoots, AreNeedsReached, IsReached};
+ghost use Rattle.stp_reader.specs.Reached.{Says, Gives, form_seen, graph_of, roots_of, place_of, after_list, IsGraphPart, AreRoots, AreNeedsReached, IsReached};
 
 use crate::Reason;
 use crate::fault::LineError;
@@ -14,7 +14,7 @@ use crate::form::Form;
 use crate::graph::misplaced;
 use crate::numbers::{amount, count, vertex};
 use crate::reason::both;
-use crate::stage::{Ended, FilePart, GraphPart, NeedsPart, RootsPart, Stage};
+use crate::stage::{GraphPart, NeedsPart, RootsPart, Stage};
 use st_model::{Need, VertexSet};
 use std::alloc::{AllocError, Global};
 
@@ -147,41 +147,16 @@ fn end_fault(part: &NeedsPart) -> Option<Reason>
     None
 }
 
-// After the END of Terminals.
-fn terminals_end(mut part: NeedsPart) -> Result<Stage, LineError>
-    requires { AreNeedsReached part }
-    ensures place { Gives place_of result
-        (terminals_end (graph_of part.graph) part.count part.needs.items (roots_of part.roots)) }
-    ensures reached { IfOk result IsReached }
-{
-    if let Some(reason) = end_fault(&part) {
-        return Err(LineError::Refused(reason));
-    }
-    with_pinned(&mut part.needs, part.roots.pinned)?;
-    let NeedsPart { graph, needs, .. } = part;
-    let GraphPart {
-        vertices,
-        links,
-        seen,
-    } = graph;
-    Ok(Stage::Outside(Ended::Whole(FilePart {
-        vertices,
-        links,
-        needs,
-        seen,
-    })))
-}
-
-// The part with a line `T v`.
-fn with_terminal(mut part: NeedsPart, word: &[u8]) -> Result<Stage, LineError>
-    requires { AreNeedsReached part }
-    ensures place { Gives place_of result
-        (judge_need (graph_of part.graph) part.count part.needs.items (roots_of part.roots) (terminal_line word.now)) }
-    ensures reached { IfOk result IsReached }
+// Takes a line `T v`.
+fn add_terminal(part: &mut NeedsPart, word: &[u8]) -> Result<(), LineError>
+    requires { AreNeedsReached part.old }
+    ensures place { Gives (λ _. place_of (Stage.AtNeeds part.new)) result
+        (judge_need (graph_of part.old.graph) part.old.count part.old.needs.items (roots_of part.old.roots) (terminal_line word.now)) }
+    ensures reached { IfOk result (λ _. AreNeedsReached part.new) }
 {
     let vertex = vertex(word, part.graph.vertices)?;
     part.needs.push((vertex, Need::Required))?;
-    Ok(Stage::AtNeeds(part))
+    Ok(())
 }
 
 // What two words say of a vertex and its first prize.
@@ -200,57 +175,75 @@ fn prize_of(part: &NeedsPart, name: &[u8], prize: &[u8]) -> Result<(u32, u64), R
     Ok((vertex, prize))
 }
 
-// The part with a line `TP v p`.
-fn with_prize(mut part: NeedsPart, name: &[u8], prize: &[u8]) -> Result<Stage, LineError>
-    requires { AreNeedsReached part }
-    ensures place { Gives place_of result
-        (judge_need (graph_of part.graph) part.count part.needs.items (roots_of part.roots) (prize_line name.now prize.now)) }
-    ensures reached { IfOk result IsReached }
+// Takes a line `TP v p`.
+fn add_prize(part: &mut NeedsPart, name: &[u8], prize: &[u8]) -> Result<(), LineError>
+    requires { AreNeedsReached part.old }
+    ensures place { Gives (λ _. place_of (Stage.AtNeeds part.new)) result
+        (judge_need (graph_of part.old.graph) part.old.count part.old.needs.items (roots_of part.old.roots) (prize_line name.now prize.now)) }
+    ensures reached { IfOk result (λ _. AreNeedsReached part.new) }
 {
-    let (vertex, prize) = prize_of(&part, name, prize)?;
+    let (vertex, prize) = prize_of(part, name, prize)?;
     part.graph.seen = part.graph.seen.with(prize)?;
     part.paid.insert(vertex)?;
     part.needs.push((vertex, Need::Pays(prize)))?;
-    Ok(Stage::AtNeeds(part))
+    Ok(())
 }
 
-// The part with a line `Root r`.
-fn with_root(mut part: NeedsPart, word: &[u8]) -> Result<Stage, Reason>
-    requires { AreNeedsReached part }
-    ensures place { Says place_of result
-        (judge_need (graph_of part.graph) part.count part.needs.items (roots_of part.roots) (root_line word.now)) }
-    ensures reached { IfOk result IsReached }
+// Takes a line `Root r`.
+fn add_root(part: &mut NeedsPart, word: &[u8]) -> Result<(), Reason>
+    requires { AreNeedsReached part.old }
+    ensures place { Says (λ _. place_of (Stage.AtNeeds part.new)) result
+        (judge_need (graph_of part.old.graph) part.old.count part.old.needs.items (roots_of part.old.roots) (root_line word.now)) }
+    ensures reached { IfOk result (λ _. AreNeedsReached part.new) }
 {
     let root = root_of(part.graph.vertices, part.roots.root, word)?;
     part.roots.root = Some(root);
-    Ok(Stage::AtNeeds(part))
+    Ok(())
 }
 
-// The part with a line `RootP v`.
-fn with_pinned_line(mut part: NeedsPart, word: &[u8]) -> Result<Stage, Reason>
-    requires { AreNeedsReached part }
-    ensures place { Says place_of result
-        (judge_need (graph_of part.graph) part.count part.needs.items (roots_of part.roots) (pinned_line word.now)) }
-    ensures reached { IfOk result IsReached }
+// Takes a line `RootP v`.
+fn add_pinned(part: &mut NeedsPart, word: &[u8]) -> Result<(), Reason>
+    requires { AreNeedsReached part.old }
+    ensures place { Says (λ _. place_of (Stage.AtNeeds part.new)) result
+        (judge_need (graph_of part.old.graph) part.old.count part.old.needs.items (roots_of part.old.roots) (pinned_line word.now)) }
+    ensures reached { IfOk result (λ _. AreNeedsReached part.new) }
 {
     let vertex = root_of(part.graph.vertices, part.roots.pinned, word)?;
     part.roots.pinned = Some(vertex);
-    Ok(Stage::AtNeeds(part))
+    Ok(())
 }
 
-/// After a further line of Terminals.
-pub fn need_line(part: NeedsPart, form: Form) -> Result<Stage, LineError>
-    requires { AreNeedsReached part }
-    ensures place { Gives place_of result
-        (judge_need (graph_of part.graph) part.count part.needs.items (roots_of part.roots) (form_seen form.entry)) }
-    ensures reached { IfOk result IsReached }
+// Takes the END of Terminals.
+fn end_terminals(part: &mut NeedsPart) -> Result<(), LineError>
+    requires { AreNeedsReached part.old }
+    ensures place { Gives (λ _. place_of (after_list true (Stage.AtNeeds part.new))) result
+        (terminals_end (graph_of part.old.graph) part.old.count part.old.needs.items (roots_of part.old.roots)) }
+    ensures reached { IfOk result (λ _. IsReached (after_list true (Stage.AtNeeds part.new))) }
+{
+    if let Some(reason) = end_fault(part) {
+        return Err(LineError::Refused(reason));
+    }
+    with_pinned(&mut part.needs, part.roots.pinned)?;
+    Ok(())
+}
+
+/// Takes a further line of Terminals, and answers whether it ends the section.
+pub fn need_line(part: &mut NeedsPart, form: Form) -> Result<bool, LineError>
+    requires { AreNeedsReached part.old }
+    ensures place { Gives (λ ends. place_of (after_list ends (Stage.AtNeeds part.new))) result
+        (judge_need (graph_of part.old.graph) part.old.count part.old.needs.items (roots_of part.old.roots) (form_seen form.entry)) }
+    ensures reached { IfOk result (λ ends. IsReached (after_list ends (Stage.AtNeeds part.new))) }
 {
     match form {
-        Form::Terminal(word) => with_terminal(part, word),
-        Form::Prize(name, prize) => with_prize(part, name, prize),
-        Form::Root(word) => Ok(with_root(part, word)?),
-        Form::Pinned(word) => Ok(with_pinned_line(part, word)?),
-        Form::End => terminals_end(part),
-        _ => Err(LineError::Refused(misplaced(form))),
+        Form::Terminal(word) => add_terminal(part, word)?,
+        Form::Prize(name, prize) => add_prize(part, name, prize)?,
+        Form::Root(word) => add_root(part, word)?,
+        Form::Pinned(word) => add_pinned(part, word)?,
+        Form::End => {
+            end_terminals(part)?;
+            return Ok(true);
+        }
+        _ => return Err(LineError::Refused(misplaced(form))),
     }
+    Ok(false)
 }

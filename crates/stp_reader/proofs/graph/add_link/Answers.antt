@@ -3,11 +3,11 @@ use Rattle.std.proofs.lemmas.List.Elements.{All-append}
 use Rattle.stp_reader.specs.Reached.{IsStatedLink}
 use Rattle.stp_reader.specs.Unit.{amounts_of}
 use Rattle.stp_reader.proofs.Seeing.{seen_link}
-use Rattle.stp_reader.proofs.graph.with_link.Goals as goal
+use Rattle.stp_reader.proofs.graph.add_link.Goals as goal
 
 pub returns-clause-reached : goal.returns-clause-reached
 returns-clause-reached c =
-    let graph = c.args.graph in
+    let graph = c.args.graph.now in
     record {
       links = record {
         count = c.requires.links.count;

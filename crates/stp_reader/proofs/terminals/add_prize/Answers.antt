@@ -5,11 +5,11 @@ use Rattle.st_model.specs.declared.need.Need.TheVariants.{Pays}
 use Rattle.stp_reader.specs.Reached.{IsStatedNeed}
 use Rattle.stp_reader.specs.Unit.{amounts_of}
 use Rattle.stp_reader.proofs.Seeing.{seen_need, one_stated, more_paid}
-use Rattle.stp_reader.proofs.terminals.with_prize.Goals as goal
+use Rattle.stp_reader.proofs.terminals.add_prize.Goals as goal
 
 pub returns-clause-reached : goal.returns-clause-reached
 returns-clause-reached c =
-    let part = c.args.part in
+    let part = c.args.part.now in
     let stated : ℕ × Need = (c.in_ok-vertex.vertex, Pays c.in_ok-vertex.prize) in
     let range = c.in_ok-vertex.ensures.in_range in
     record {
