@@ -12,7 +12,8 @@ use Rattle.graph_store.specs.Graph.{Graph, IsGraph, is_in}
 abbrev pub all_present : Network → Graph
 all_present I = record { network = I; present = replicate I.n true }
 
-present_in : (I : Network) (v : ℕ) → IsVertex I.n v → IsTrue (is_in (all_present I) v)
+-- and who is present there
+pub present_in : (I : Network) (v : ℕ) → IsVertex I.n v → IsTrue (is_in (all_present I) v)
 present_in I v vertex =
     let low = vertex.0 in
     let high = vertex.1 in

@@ -52,26 +52,29 @@ sum_to_set f g v (suc n) others = let rest = sum_to_set f g v n others in (by_ca
         let before : sum_to g n + f v ≡ sum_to f n + g v = rest.0 (omega arith) some in
         omega arith
 
--- a graph in which a vertex needs something else
-pub needs_put : (x : Linked) (needs : List Need) (present : List Bool) (v : ℕ) (need : Need) → IsVertex x.n v → IsGraph (graph_of x needs present)
-    → amount (graph_of x needs present).network + prize need < 2 ^ 63 + pays (graph_of x needs present).network v → IsGraph (graph_of x (set needs (v - 1) need) present)
-needs_put x needs present v need in_range graph fits = record {
-  instance = record {
-    some_vertex = graph.instance.some_vertex;
-    few_vertices = graph.instance.few_vertices;
-    ends = graph.instance.ends;
-    one_each = graph.instance.one_each;
-    needs = length-set needs (v - 1) need ∙ graph.instance.needs;
-    amount =
-        let sums : sum_to (pays (graph_of x (set needs (v - 1) need) present).network) x.n + prize (get_or needs (v - 1) Required) ≡ sum_to (pays (graph_of x needs present).network) x.n + prize (get_or (set needs (v - 1) need) (v - 1) Required) = (sum_to_set (λ w. prize (get_or needs (w - 1) Required)) (λ w. prize (get_or (set needs (v - 1) need) (w - 1) Required)) v x.n others).0 in_range.1 in_range.0 in
-        let inside : v - 1 < length needs = (let long = graph.instance.needs in omega (arith, in_range.0, in_range.1)) in
-        let here : prize (get_or (set needs (v - 1) need) (v - 1) Required) ≡ prize need = ap prize (get_or-set_same needs (v - 1) need Required inside) in
-        let bound : total (λ l. l.cost) x.links + sum_to (pays (graph_of x needs present).network) x.n + prize need < 2 ^ 63 + prize (get_or needs (v - 1) Required) = fits in
-        omega arith;
-  };
-  here = graph.here;
-  ends = graph.ends;
-}
-  where
-    others : (w : ℕ) → 1 ≤ w → (w ≡ v → ⊥) → prize (get_or (set needs (v - 1) need) (w - 1) Required) ≡ prize (get_or needs (w - 1) Required)
-    others w some other = ap prize (get_or-set_other needs (v - 1) (w - 1) need Required (λ e. omega (arith, in_range.0)))
+module _ (x : Linked) (needs : List Need) (present : List Bool) (v : ℕ) (need : Need) (vertex : IsVertex x.n v) (graph : IsGraph (graph_of x needs present)) where
+  -- what can be paid where a vertex needs something else
+  pub amount_put : amount (graph_of x (set needs (v - 1) need) present).network + pays (graph_of x needs present).network v ≡ amount (graph_of x needs present).network + prize need
+  amount_put =
+      let sums : sum_to (pays (graph_of x (set needs (v - 1) need) present).network) x.n + prize (get_or needs (v - 1) Required) ≡ sum_to (pays (graph_of x needs present).network) x.n + prize (get_or (set needs (v - 1) need) (v - 1) Required) = (sum_to_set (λ w. prize (get_or needs (w - 1) Required)) (λ w. prize (get_or (set needs (v - 1) need) (w - 1) Required)) v x.n others).0 vertex.1 vertex.0 in
+      let inside : v - 1 < length needs = (let long = graph.instance.needs in omega (arith, vertex.0, vertex.1)) in
+      let here : prize (get_or (set needs (v - 1) need) (v - 1) Required) ≡ prize need = ap prize (get_or-set_same needs (v - 1) need Required inside) in
+      omega arith
+    where
+      others : (w : ℕ) → 1 ≤ w → (w ≡ v → ⊥) → prize (get_or (set needs (v - 1) need) (w - 1) Required) ≡ prize (get_or needs (w - 1) Required)
+      others w some other = ap prize (get_or-set_other needs (v - 1) (w - 1) need Required (λ e. omega (arith, vertex.0)))
+
+  -- the graph then
+  pub needs_put : amount (graph_of x needs present).network + prize need < 2 ^ 63 + pays (graph_of x needs present).network v → IsGraph (graph_of x (set needs (v - 1) need) present)
+  needs_put fits = record {
+    instance = record {
+      some_vertex = graph.instance.some_vertex;
+      few_vertices = graph.instance.few_vertices;
+      ends = graph.instance.ends;
+      one_each = graph.instance.one_each;
+      needs = length-set needs (v - 1) need ∙ graph.instance.needs;
+      amount = let all = amount_put in omega arith;
+    };
+    here = graph.here;
+    ends = graph.ends;
+  }

@@ -8,5 +8,6 @@ pub mod Joining
 pub mod Keeping
 pub mod Reading
 pub mod PutLinks
+pub mod Costs
 pub mod Vertices
 pub mod AllPresent

@@ -65,22 +65,6 @@ put_link-kept (m ∷ ms) l was some less = by_case (joins m l.a l.b) refl some (
     by_case true is some rest = let value : m.cost ≡ was = cc in let cost : min m.cost l.cost ≡ m.cost = omega arith in λ j. record { a = m.a; b = m.b; cost = cost j } ∷ ms
     by_case false is some rest = ap (λ x. m ∷ x) (rest some less)
 
--- where it costs more, its entry has the new cost
-pub put_link-entry : (es : List Entry) (low high : ℕ) (was joint : Joint) → low < high → All IsOrdered (keys_of es) → lookup (is_pair low high) es ≡ Some was → joint.cost < was.cost → links_of (set_value (is_pair low high) es joint) ≡ put_link (links_of es) (record { a = low; b = high; cost = joint.cost })
-put_link-entry es low high was joint before all at less = by_recursion es (recursion_from_All IsOrdered (keys_of es) all) at
-  where
-    by_recursion : (es : List Entry) → AllByRecursion IsOrdered (keys_of es) → lookup (is_pair low high) es ≡ Some was → links_of (set_value (is_pair low high) es joint) ≡ put_link (links_of es) (record { a = low; b = high; cost = joint.cost })
-    by_recursion [] h at = absurd (let clash : ⊥ = cc in clash)
-    by_recursion (e ∷ es) h at =
-        let first : e.0.0 < e.0.1 = h.0 in
-        let same : joins (link_of e) low high ≡ is_pair low high e.0 = grind (arith, nat_tests) in
-        rw same (by_case (is_pair low high e.0) at (by_recursion es h.1))
-      where
-        by_case : (b : Bool) → cond b (Some e.1) (lookup (is_pair low high) es) ≡ Some was → (lookup (is_pair low high) es ≡ Some was → links_of (set_value (is_pair low high) es joint) ≡ put_link (links_of es) (record { a = low; b = high; cost = joint.cost }))
-            → links_of (cond b ((e.0, joint) ∷ es) (e ∷ set_value (is_pair low high) es joint)) ≡ cond b (cheaper (link_of e) (record { a = low; b = high; cost = joint.cost }) ∷ links_of es) (link_of e ∷ put_link (links_of es) (record { a = low; b = high; cost = joint.cost }))
-        by_case true at rest = let value : e.1 ≡ was = cc in let known = ap (λ (j : Joint). j.cost) value in let cost : joint.cost ≡ min e.1.cost joint.cost = omega arith in λ j. record { a = e.0.0; b = e.0.1; cost = cost j } ∷ links_of es
-        by_case false at rest = ap (λ x. link_of e ∷ x) (rest at)
-
 -- all links cost at most the new cost more
 pub total-put_link : (ls : List Link) (l : Link) → total (λ m. m.cost) (put_link ls l) ≤ total (λ m. m.cost) ls + l.cost
 total-put_link [] l = omega arith

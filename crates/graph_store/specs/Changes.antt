@@ -1,7 +1,8 @@
 -- What each change does to a graph, and what it leaves.
-use Rattle.std.specs.Prelude.{◌≡◌, ℕ, ◌-◌, Bool, false, ◌&&◌, ◌||◌, ◌==◌, if◌then◌else◌, slice_set, None}
+use Rattle.std.specs.Prelude.{◌≡◌, ℕ, ◌-◌, Bool, false, ◌&&◌, ◌||◌, ◌==◌, if◌then◌else◌, slice_set, List, [], ◌∷◌, None}
 use Rattle.st_model.specs.declared.need.Need.{Need}
-use Rattle.st_model.specs.Network.{link}
+use Rattle.st_model.specs.declared.link.Link.{Link}
+use Rattle.st_model.specs.Network.{joins, link}
 use Rattle.st_model.specs.Steps.{put_link}
 use Rattle.graph_store.specs.Graph.{Graph}
 
@@ -27,6 +28,15 @@ pub record RemovesLink (old new : Graph) (a b : ℕ) : Type 0 where
 -- and costs this from now on, and one that costs no more stays as it is
 abbrev pub with_link : Graph → ℕ → ℕ → ℕ → Graph
 with_link g a b cost = record g { network = record g.network { links = put_link g.network.links (record { a = a; b = b; cost = cost }) } }
+
+-- the links, of which that between a and b costs this
+abbrev pub set_cost : List Link → ℕ → ℕ → ℕ → List Link
+set_cost [] a b cost = []
+set_cost (l ∷ ls) a b cost = if joins l a b then record l { cost = cost } ∷ ls else l ∷ set_cost ls a b cost
+
+-- the graph, in which the link between a and b costs this
+abbrev pub with_link_cost : Graph → ℕ → ℕ → ℕ → Graph
+with_link_cost g a b cost = record g { network = record g.network { links = set_cost g.network.links a b cost } }
 
 -- the graph, in which v needs this
 abbrev pub with_need : Graph → ℕ → Need → Graph

@@ -3,6 +3,7 @@ ghost use Rattle.std.specs.Bool.{OnTrue, OnFalse};
 ghost use Rattle.st_model.specs.declared.need.Need.{Need};
 ghost use Rattle.st_model.specs.Network.{IsVertex, IsLinkBetween, link};
 ghost use Rattle.st_model.specs.Steps.{put_link};
+ghost use Rattle.graph_store.specs.Changes.{set_cost};
 ghost use Rattle.graph_store.specs.Joined.{place_of, halves_at, links_of, AreHalves, AreHalvesBut, ArePairs};
 
 use crate::Half;
@@ -59,7 +60,8 @@ impl Links {
 
     // What the link between two vertices costs, if there is one.
     pub fn cost(&self, a: u32, b: u32) -> Option<u64>
-        ensures { result ≡ link self.now.links a b }
+        ensures cost { result ≡ link self.now.links a b }
+        ensures once { AreOnce self.now.links }
     {
         Some(joint_between(&self.joints, a, b)?.cost)
     }
@@ -131,15 +133,27 @@ impl Links {
         ensures no { OnFalse result ((self.new ≡ self.old) × (link self.old.links low high ≡ None)) }
         ensures once { AreOnce self.new.links }
     {
-        let Some(joint) = joint_between(&self.joints, low, high) else {
+        let Some(known) = self.cost(low, high) else {
             return false;
         };
-        if cost < joint.cost {
+        if cost < known {
+            self.set_cost(low, high, cost);
+        }
+        true
+    }
+
+    // Says that the link between two vertices, if there is one, has this cost now.
+    pub fn set_cost(&mut self, low: u32, high: u32, cost: u64)
+        requires ordered { low < high }
+        requires high { high ≤ self.old.n }
+        ensures cost { self.new ≡ record self.old { links = set_cost self.old.links low high cost } }
+        ensures once { AreOnce self.new.links }
+    {
+        if let Some(joint) = joint_between(&self.joints, low, high) {
             put_half_cost(&mut self.lists, low, joint.low, cost);
             put_half_cost(&mut self.lists, high, joint.high, cost);
             put_cost(&mut self.joints, low, high, joint, cost);
         }
-        true
     }
 }
 

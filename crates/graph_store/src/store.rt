@@ -1,13 +1,13 @@
 ghost use Rattle.std.specs.Prelude.{◌≡◌, ◌≢◌, ℕ, ◌+◌, ◌^◌, ◌<◌, ◌≤◌, ◌↔◌, true, IsTrue, IsSome, None, IfOk, IfSome, IfNone, OnOk, OnErr, length, replicate, unwrap_or};
 ghost use Rattle.st_model.specs.Network.{IsVertex, amount, link, need_of, pays, prize};
 ghost use Rattle.graph_store.specs.Graph.{is_in, IsGraph};
-ghost use Rattle.graph_store.specs.Changes.{RemovesVertex, RemovesLink, with_link, with_need};
+ghost use Rattle.graph_store.specs.Changes.{RemovesVertex, RemovesLink, with_link, with_link_cost, with_need};
 ghost use Rattle.graph_store.specs.Neighbours.{AreNeighbours, IsDegree};
 
 use crate::Half;
 use crate::building::{link_all, present_all};
 use crate::links::Links;
-use st_model::{Instance, Need};
+use st_model::{Instance, Link, Need};
 use std::alloc::{AllocError, Global};
 use std::marker::Model;
 
@@ -105,12 +105,19 @@ impl Store {
         self.links.halves(vertex)
     }
 
+    /// All links, in time linear in their number.
+    pub fn links(&self, alloc: Global) -> Result<Vec<Link>, AllocError>
+        ensures { IfOk result (λ links. links.items ≡ self.now.network.links) }
+    {
+        self.links.all(alloc)
+    }
+
     /// The graph as an instance; of its vertices none is missing, but those that aren't present
     /// have no links.
     pub fn instance(&self, alloc: Global) -> Result<Instance, AllocError>
         ensures { IfOk result (λ instance. instance ≡ self.now.network) }
     {
-        let links = self.links.all(alloc)?;
+        let links = self.links(alloc)?;
         let needs = Vec::from_slice(alloc, &self.needs)?;
         Instance::from_parts(alloc, self.links.vertices(), links, needs)
     }
@@ -119,6 +126,7 @@ impl Store {
     pub fn remove_vertex(&mut self, vertex: u32)
         requires { IsVertex self.old.network.n vertex }
         ensures removes { RemovesVertex self.old self.new vertex }
+        ensures graph { IsGraph self.new }
         ensures amount { amount self.new.network ≤ amount self.old.network }
     {
         while let Some(other) = self.last_neighbour(vertex) {
@@ -142,6 +150,7 @@ impl Store {
         requires a { IsVertex self.old.network.n a }
         requires b { IsVertex self.old.network.n b }
         ensures removes { RemovesLink self.old self.new a b }
+        ensures graph { IsGraph self.new }
         ensures fewer { IsSome (link self.old.network.links a b) →
             length self.new.network.links + 1 ≡ length self.old.network.links }
         ensures unchanged { link self.old.network.links a b ≡ None → self.new ≡ self.old }
@@ -169,11 +178,27 @@ impl Store {
         self.links.attach(low, high, cost)
     }
 
+    /// Says what the link between two vertices costs from now on, in constant expected time.
+    pub fn set_cost(&mut self, a: u32, b: u32, cost: u64)
+        requires linked { IsSome (link self.old.network.links a b) }
+        requires amount { amount self.old.network + cost
+            < 2 ^ 63 + unwrap_or (link self.old.network.links a b) 0 }
+        ensures cost { self.new ≡ with_link_cost self.old a b cost }
+        ensures graph { IsGraph self.new }
+        ensures amount { amount self.new.network + unwrap_or (link self.old.network.links a b) 0
+            ≡ amount self.old.network + cost }
+    {
+        self.links.set_cost(a.min(b), a.max(b), cost);
+    }
+
     /// Says what a vertex needs from now on.
     pub fn set_need(&mut self, vertex: u32, need: Need)
         requires vertex { IsVertex self.old.network.n vertex }
         requires amount { amount self.old.network + prize need < 2 ^ 63 + pays self.old.network vertex }
-        ensures { self.new ≡ with_need self.old vertex need }
+        ensures need { self.new ≡ with_need self.old vertex need }
+        ensures graph { IsGraph self.new }
+        ensures amount { amount self.new.network + pays self.old.network vertex
+            ≡ amount self.old.network + prize need }
     {
         self.needs[vertex as usize - 1] = need;
     }

@@ -1,10 +1,10 @@
--- Marked vertices as a set, and how many pass a test.
-use Rattle.std.proofs.Common.{◌≡◌, ◌≢◌, ℕ, zero, suc, ◌+◌, ◌<◌, ◌≤◌, Bool, true, false, cond, not, ◌&&◌, ◌||◌, List, [], ◌∷◌, ◌++◌, length, get_or, refl, sym, ap, ◌∙◌, arith, inl, inr, eq-eqb, ◌-◌, replicate}
+-- The vertices that pass a test, and how many they are.
+use Rattle.std.proofs.Common.{◌≡◌, ◌≢◌, ℕ, zero, suc, ◌+◌, ◌<◌, ◌≤◌, Bool, true, false, cond, not, ◌&&◌, ◌||◌, [], ◌∷◌, ◌++◌, length, get_or, refl, sym, ap, ◌∙◌, arith, inl, inr, eq-eqb, ◌-◌, filter}
 use Rattle.std.specs.Prelude.{IsTrue, ◌==◌, slice_index}
 use Rattle.std.specs.List.{AllByRecursion}
 use Rattle.std.specs.List.Sorted.{IsStrictlyIncreasing}
 use Rattle.std.proofs.lemmas.Bool.{cases_lt, eqb-true, false≢true, ne_eqb}
-use Rattle.std.proofs.lemmas.List.{get_or_append_left, get_or-replicate, get_or_past, length-replicate}
+use Rattle.std.proofs.lemmas.List.{get_or_append_left}
 use Rattle.std.proofs.Math.Seq.{get_or-append_right}
 use Rattle.std.proofs.lemmas.List.Elements.{All-from_recursion, filter-append}
 use Rattle.std.proofs.lemmas.List.Kept.{IsStrictlyIncreasing-filter}
@@ -14,7 +14,7 @@ use Rattle.st_model.specs.Lists.{has, sum_to, up_to}
 use Rattle.st_model.specs.Network.{IsVertex}
 use Rattle.st_model.specs.Branch.{IsVertexSet}
 use Rattle.st_model.proofs.Sums.{length-up_to, sum_to_same}
-use Rattle.lift_back.specs.Keeping.{members_of, count_to}
+use Rattle.lift_back.specs.Keeping.{count_to}
 use Rattle.lift_back.proofs.Trees.{all_append, all_then, all_kept}
 
 -- the numbers from 1 on, by their places
@@ -55,22 +55,44 @@ has-up_to (suc n) v h = list_any-append (λ x. x == v) (up_to n) (suc n ∷ []) 
     last true b e = refl
     last false b e = e
 
--- whether a vertex is among those that are marked
-pub has_members : (n v : ℕ) (marks : List Bool) → IsVertex n v → has (members_of n marks) v ≡ get_or marks v false
-has_members n v marks vertex =
-    any-filter_same (λ x. x == v) (λ x. get_or marks x false) (get_or marks v false) (λ k same. ap (λ (x : ℕ). get_or marks x false) (eqb-true k v same)) (up_to n)
-    ∙ (ap (λ b. get_or marks v false && b) (has-up_to n v vertex) ∙ and_true (get_or marks v false))
+-- whether a vertex is among those that pass a test
+pub has_passing : (p : ℕ → Bool) (n v : ℕ) → IsVertex n v → has (filter p (up_to n)) v ≡ p v
+has_passing p n v vertex =
+    any-filter_same (λ x. x == v) p (p v) (λ k same. ap p (eqb-true k v same)) (up_to n)
+    ∙ (ap (λ b. p v && b) (has-up_to n v vertex) ∙ and_true (p v))
   where
     and_true : (b : Bool) → (b && true) ≡ b
     and_true true = refl
     and_true false = refl
 
--- a member is a vertex
-pub members_set : (n : ℕ) (marks : List Bool) → IsVertexSet n (members_of n marks)
-members_set n marks = record {
-  ascending = IsStrictlyIncreasing-filter (λ x. get_or marks x false) (up_to n) (up_to_rises n);
-  in_range = All-from_recursion (IsVertex n) (members_of n marks) (all_then (λ x. IsVertex n x × IsTrue (get_or marks x false)) (IsVertex n) (members_of n marks) (λ x h. h.0) (all_kept (IsVertex n) (λ x. get_or marks x false) (up_to n) (vertices_up_to n)));
+-- they are vertices
+pub passing_set : (p : ℕ → Bool) (n : ℕ) → IsVertexSet n (filter p (up_to n))
+passing_set p n = record {
+  ascending = IsStrictlyIncreasing-filter p (up_to n) (up_to_rises n);
+  in_range = All-from_recursion (IsVertex n) (filter p (up_to n)) (all_then (λ x. IsVertex n x × IsTrue (p x)) (IsVertex n) (filter p (up_to n)) (λ x h. h.0) (all_kept (IsVertex n) p (up_to n) (vertices_up_to n)));
 }
+
+-- those up to one vertex more
+pub passing_more : (p : ℕ → Bool) (k : ℕ) → filter p (up_to (k + 1)) ≡ filter p (up_to k) ++ cond (p (k + 1)) ((k + 1) ∷ []) []
+passing_more p k =
+    let next : k + 1 ≡ suc k = omega arith in
+    rw next (filter-append p (up_to k) (suc k ∷ []) ∙ refl)
+
+-- where no vertex passes there are none
+pub none_pass : (p : ℕ → Bool) (n : ℕ) → ((v : ℕ) → IsVertex n v → p v ≡ false) → filter p (up_to n) ≡ []
+none_pass p zero none = refl
+none_pass p (suc n) none =
+    let rest = none_pass p n (λ v vertex. none v (vertex.0, (let high = vertex.1 in omega arith))) in
+    let last = none (suc n) (omega arith, omega arith) in
+    filter-append p (up_to n) (suc n ∷ []) ∙ rw (rest, last) refl
+
+-- and where each does, all are counted
+pub all_counted : (p : ℕ → Bool) (n : ℕ) → ((v : ℕ) → IsVertex n v → p v ≡ true) → count_to p n ≡ n
+all_counted p zero all = refl
+all_counted p (suc n) all =
+    let rest = all_counted p n (λ v vertex. all v (vertex.0, (let high = vertex.1 in omega arith))) in
+    let here : ◌≡◌ {A = ℕ} (cond (p (suc n)) 1 0) 1 = ap (λ b. cond b 1 0) (all (suc n) (omega arith, omega arith)) in
+    omega arith
 
 -- sums that differ in one term
 pub sum_to_but : (f g : ℕ → ℕ) (v n : ℕ) → IsVertex n v → ((w : ℕ) → IsVertex n w → w ≢ v → f w ≡ g w) → sum_to f n + g v ≡ sum_to g n + f v
@@ -163,28 +185,4 @@ pub two_counted : (p : ℕ → Bool) (n v w : ℕ) → IsVertex n v → IsTrue (
 two_counted p n v w vertex there w_vertex w_there other =
     let less = count_less p (but_v p v) n v vertex there (but_at p v) (λ x is apart. but_others p v x apart) in
     let one = some_counted (but_v p v) n w w_vertex (but_others p v w other ∙ w_there) in
-    omega arith
-
--- the members up to one vertex more
-pub members_more : (k : ℕ) (marks : List Bool) → members_of (k + 1) marks ≡ members_of k marks ++ cond (get_or marks (k + 1) false) ((k + 1) ∷ []) []
-members_more k marks =
-    let next : k + 1 ≡ suc k = omega arith in
-    rw next (filter-append (λ x. get_or marks x false) (up_to k) (suc k ∷ []) ∙ refl)
-
--- nobody is marked at first
-unmarked : (m k : ℕ) → get_or (replicate m false) k false ≡ false
-unmarked m k = elim (cases_lt k m) [
-  | inl less ↦ get_or-replicate m k false false less
-  | inr more ↦ get_or_past (replicate m false) k false (let len = length-replicate m false in omega arith)
-]
-
-pub no_members : (n m : ℕ) → members_of n (replicate m false) ≡ []
-no_members zero m = refl
-no_members (suc n) m = filter-append (λ x. get_or (replicate m false) x false) (up_to n) (suc n ∷ []) ∙ rw (no_members n m, unmarked m (suc n)) refl
-
-pub all_left : (n m : ℕ) → count_to (λ v. not (get_or (replicate m false) v false)) n ≡ n
-all_left zero m = refl
-all_left (suc n) m =
-    let rest = all_left n m in
-    let here : ◌≡◌ {A = ℕ} (cond (not (get_or (replicate m false) (suc n) false)) 1 0) 1 = ap (λ b. cond (not b) 1 0) (unmarked m (suc n)) in
     omega arith

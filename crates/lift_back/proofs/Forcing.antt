@@ -1,24 +1,23 @@
 -- A required vertex goes with its only link: what is kept then.
-use Rattle.std.proofs.Common.{◌≡◌, ◌≢◌, ℕ, ◌+◌, ◌<◌, ◌≤◌, ◌-◌, Bool, true, false, cond, List, length, get_or, set, IsSome, refl, sym, ap, subst, ◌∙◌, arith, inl, inr, ◌⊎◌, eq-eqb}
-use Rattle.std.specs.Prelude.{IsTrue, IsFalse, ◌==◌}
+use Rattle.std.proofs.Common.{◌≡◌, ◌≢◌, ℕ, ◌+◌, ◌<◌, ◌≤◌, ◌-◌, Bool, true, false, cond, ◌||◌, None, List, length, get_or, set, IsSome, refl, sym, ap, subst, ◌∙◌, arith, inl, inr, ◌⊎◌, eq-eqb}
+use Rattle.std.specs.Prelude.{IsTrue, IsFalse, ◌==◌, unwrap_or}
 use Rattle.std.proofs.lemmas.Bool.{or_cases, eqb-true, false≢true, ne_eqb, false_from_ne_true}
 use Rattle.std.proofs.lemmas.Bool.Decides.{eqb_tells}
 use Rattle.std.proofs.lemmas.List.{get_or-set_same, get_or-set_other, length-set}
 use Rattle.st_model.specs.declared.need.Need.{Need}
 use Rattle.st_model.specs.declared.need.Need.TheVariants.{Pays, Required}
-use Rattle.st_model.specs.Lists.{has, total}
-use Rattle.st_model.specs.Network.{IsVertex, link, need_of, is_needed, is_required, pays, prize}
-use Rattle.st_model.proofs.Sums.{sum_to_le}
+use Rattle.st_model.specs.Lists.{has}
+use Rattle.st_model.specs.Network.{IsVertex, amount, link, need_of, is_needed, is_required, pays}
 use Rattle.st_model.proofs.Branches.{IsVertexSet-member}
 use Rattle.st_model.proofs.ThinGrowth.{linked-vertices}
+use Rattle.graph_store.specs.Changes.{RemovesVertex, with_need}
+use Rattle.graph_store.specs.Graph.{Graph, IsGraph}
 use Rattle.lift_back.specs.declared.rest.Rest.{Rest}
 use Rattle.lift_back.specs.State.{State, IsState}
 use Rattle.lift_back.specs.Steps.{IsForced, TakesForced}
-use Rattle.lift_back.specs.Kept.{links_of}
 use Rattle.lift_back.specs.Keeping.{count_to, state_of, IsKept}
 use Rattle.lift_back.proofs.Counting.{count_less, sum_to_but, another_counted, two_counted, some_counted, but_v, but_at, but_others}
 use Rattle.lift_back.proofs.KeptAfter.{Leaves, gone_after}
-use Rattle.lift_back.proofs.Idle.{CutsOff, plain_cut}
 use Rattle.lift_back.proofs.ThroughTrees.{neighbour_stays}
 
 -- the neighbour is another vertex, and isn't gone
@@ -72,63 +71,81 @@ count_forced p q n v u v_vertex u_vertex apart was now there same =
     by_v w is other (inl e) = (ap q e.1 ∙ now) ∙ sym (ap (but_v p v) e.1 ∙ but_at p v)
     by_v w is other (inr e) = same w is e.1 other ∙ sym (but_others p v w e.1)
 
--- what is kept then
+-- v went with its link to u, which has to be reached then
 pub record Forces (old new : Rest) (v u c : ℕ) : Type 0 where
-  pub cuts : CutsOff old new v
-  pub needs : new.needs.items ≡ set (set old.needs.items (v - 1) (Pays 0)) (u - 1) Required
-  pub required : new.required + cond (is_required (state_of old).instance u) 1 0 ≡ old.required
+  pub graph : IsGraph new.store
+  pub count : new.store.network.n ≡ old.store.network.n
+  pub links : (x w : ℕ) → link new.store.network.links x w ≡ cond ((x == v) || (w == v)) None (link old.store.network.links x w)
+  pub needs : new.store.network.needs ≡ set (set old.store.network.needs (v - 1) (Pays 0)) (u - 1) Required
+  pub present : new.store.present ≡ set old.store.present (v - 1) false
+  pub left : new.left + 1 ≡ old.left
+  pub required : new.required + cond (is_required old.store.network u) 1 0 ≡ old.required
   pub offset : new.offset ≡ old.offset + c
-  pub total : total (λ l. l.cost) (links_of new.links.entries) + c ≡ total (λ l. l.cost) (links_of old.links.entries)
+  pub amount : amount new.store.network + c ≤ amount old.store.network
+
+-- the same by what was done: v is removed (g), needs nothing (h), and u is required then
+pub record Hands (old new : Rest) (g h : Graph) (v u c : ℕ) : Type 0 where
+  pub removes : RemovesVertex old.store g v
+  pub removed_amount : amount g.network + unwrap_or (link old.store.network.links v u) 0 ≤ amount old.store.network
+  pub frees : h ≡ with_need g v (Pays 0)
+  pub freed_amount : amount h.network + pays g.network v ≡ amount g.network + 0
+  pub needs : new.store ≡ with_need h u Required
+  pub needs_amount : amount new.store.network + pays h.network u ≡ amount h.network + 0
+  pub graph : IsGraph new.store
+  pub left : new.left + 1 ≡ old.left
+  pub required : new.required + cond (is_required old.store.network u) 1 0 ≡ old.required
+  pub offset : new.offset ≡ old.offset + c
+
+pub forces_by : (old new : Rest) (g h : Graph) (v u c : ℕ) → IsForced (state_of old) v u c → Hands old new g h v u c → Forces old new v u c
+forces_by old new g h v u c forced hands = record {
+  graph = hands.graph;
+  count = ap (λ (k : Graph). k.network.n) hands.needs ∙ (ap (λ (k : Graph). k.network.n) hands.frees ∙ hands.removes.count);
+  links = λ x w. ap (λ (k : Graph). link k.network.links x w) hands.needs ∙ (ap (λ (k : Graph). link k.network.links x w) hands.frees ∙ hands.removes.links x w);
+  needs = ap (λ (k : Graph). k.network.needs) hands.needs ∙ (ap (λ (k : Graph). set k.network.needs (u - 1) Required) hands.frees ∙ ap (λ (l : List Need). set (set l (v - 1) (Pays 0)) (u - 1) Required) hands.removes.needs);
+  present = ap (λ (k : Graph). k.present) hands.needs ∙ (ap (λ (k : Graph). k.present) hands.frees ∙ hands.removes.present);
+  left = hands.left;
+  required = hands.required;
+  offset = hands.offset;
+  amount =
+      let cost : unwrap_or (link old.store.network.links v u) 0 ≡ c = ap (λ o. unwrap_or o 0) forced.linked in
+      let one = hands.removed_amount in
+      let two = hands.freed_amount in
+      let three = hands.needs_amount in
+      omega arith;
+}
 
 pub leaves_forced : (old new : Rest) (v u c : ℕ) → IsKept old → IsForced (state_of old) v u c → Forces old new v u c → Leaves old new v
-leaves_forced old new v u c kept forced forces =
-    let cut = plain_cut old new v kept forces.cuts in
-    record {
-      count = cut.count;
-      vertex = forced.vertex;
-      present = forced_present (state_of old) v u c kept.state forced;
-      pairs = cut.pairs;
-      ends = cut.ends;
-      cut = cut.cut;
-      rows = cut.rows;
-      covered = cut.covered;
-      marks = cut.marks;
-      left = cut.left;
-      needs = ap length forces.needs ∙ (length-set (set old.needs.items (v - 1) (Pays 0)) (u - 1) Required ∙ (length-set old.needs.items (v - 1) (Pays 0) ∙ kept.state.instance.needs));
-      idle = λ w gone. elim (or_cases (v == w) (has (state_of old).gone w) gone) [
-        | inl same ↦ let e = eqb-true v w same in subst (λ (x : ℕ). need_of (state_of new).instance x ≡ Pays 0) e (needed v forced.vertex ∙ rw (eq-eqb v v refl) refl)
-        | inr before ↦
-            let vertex = IsVertexSet-member old.vertices (state_of old).gone w kept.state.gone before in
-            let not_v : (w == v) ≡ false = ne_eqb w v (λ e. false≢true (sym (forced_present (state_of old) v u c kept.state forced) ∙ (ap (has (state_of old).gone) (sym e) ∙ before))) in
-            let not_u : (w == u) ≡ false = ne_eqb w u (λ e. false≢true (sym neighbour.1 ∙ (ap (has (state_of old).gone) (sym e) ∙ before))) in
-            (let same_need : need_of (state_of new).instance w ≡ need_of (state_of old).instance w = needed w vertex ∙ rw (not_v, not_u) refl in same_need ∙ kept.state.idle w before)
-      ];
-      required =
-          let counted = count_forced (is_required (state_of old).instance) (is_required (state_of new).instance) old.vertices v u forced.vertex neighbour.2 neighbour.0 forced.required
-          (let at_v : need_of (state_of new).instance v ≡ Pays 0 = needed v forced.vertex ∙ rw (eq-eqb v v refl) refl in ap is_needed at_v)
-          (let at_u : need_of (state_of new).instance u ≡ Required = needed u neighbour.2 ∙ rw (neighbour.0, eq-eqb u u refl) refl in ap is_needed at_u)
-          (λ w is not_v not_u. (let first = ne_eqb w v not_v in let second = ne_eqb w u not_u in let kept_need : need_of (state_of new).instance w ≡ need_of (state_of old).instance w = needed w is ∙ rw (first, second) refl in ap is_needed kept_need)) in
-          let before = kept.required in
-          let now = forces.required in
-          omega arith;
-      amount =
-          let pay = sum_to_le (pays (state_of new).instance) (pays (state_of old).instance) old.vertices (λ w low high. paid w (low, high) (w == v) (w == u) refl refl) in
-          let all = kept.state.amount in
-          let sum = forces.total in
-          let more = forces.offset in
-          omega arith;
-    }
+leaves_forced old new v u c kept forced forces = record {
+  vertex = forced.vertex;
+  here = forced_present (state_of old) v u c kept.state forced;
+  graph = forces.graph;
+  count = forces.count;
+  present = forces.present;
+  left = forces.left;
+  idle = λ w gone. elim (or_cases (v == w) (has (state_of old).gone w) gone) [
+    | inl same ↦ let e = eqb-true v w same in subst (λ (x : ℕ). need_of new.store.network x ≡ Pays 0) e (needed v forced.vertex ∙ rw (eq-eqb v v refl) refl)
+    | inr before ↦
+        let vertex = IsVertexSet-member old.store.network.n (state_of old).gone w kept.state.gone before in
+        let not_v : (w == v) ≡ false = ne_eqb w v (λ e. false≢true (sym (forced_present (state_of old) v u c kept.state forced) ∙ (ap (has (state_of old).gone) (sym e) ∙ before))) in
+        let not_u : (w == u) ≡ false = ne_eqb w u (λ e. false≢true (sym neighbour.1 ∙ (ap (has (state_of old).gone) (sym e) ∙ before))) in
+        (let same_need : need_of new.store.network w ≡ need_of old.store.network w = needed w vertex ∙ rw (not_v, not_u) refl in same_need ∙ kept.state.idle w before)
+  ];
+  required =
+      let counted = count_forced (is_required old.store.network) (is_required new.store.network) old.store.network.n v u forced.vertex neighbour.2 neighbour.0 forced.required
+      (let at_v : need_of new.store.network v ≡ Pays 0 = needed v forced.vertex ∙ rw (eq-eqb v v refl) refl in ap is_needed at_v)
+      (let at_u : need_of new.store.network u ≡ Required = needed u neighbour.2 ∙ rw (neighbour.0, eq-eqb u u refl) refl in ap is_needed at_u)
+      (λ w is not_v not_u. (let first = ne_eqb w v not_v in let second = ne_eqb w u not_u in let kept_need : need_of new.store.network w ≡ need_of old.store.network w = needed w is ∙ rw (first, second) refl in ap is_needed kept_need)) in
+      let before = kept.required in
+      let now = forces.required in
+      omega arith;
+  amount = let all = kept.state.amount in let less = forces.amount in let more = forces.offset in omega arith;
+}
   where
-    neighbour : ((u == v) ≡ false) × IsFalse (has (state_of old).gone u) × IsVertex old.vertices u
+    neighbour : ((u == v) ≡ false) × IsFalse (has (state_of old).gone u) × IsVertex old.store.network.n u
     neighbour = forced_neighbour (state_of old) v u c kept.state forced
 
-    needed : (w : ℕ) → IsVertex old.vertices w → need_of (state_of new).instance w ≡ cond (w == v) (Pays 0) (cond (w == u) Required (need_of (state_of old).instance w))
-    needed w vertex = ap (λ l. get_or l (w - 1) Required) forces.needs ∙ needs_written old.vertices v u w old.needs.items kept.state.instance.needs forced.vertex neighbour.2 vertex neighbour.0
-
-    paid : (w : ℕ) → IsVertex old.vertices w → (p q : Bool) → (w == v) ≡ p → (w == u) ≡ q → pays (state_of new).instance w ≤ pays (state_of old).instance w
-    paid w vertex true q p_is q_is = let now : need_of (state_of new).instance w ≡ Pays 0 = needed w vertex ∙ rw p_is refl in let e : pays (state_of new).instance w ≡ 0 = ap prize now in omega arith
-    paid w vertex false true p_is q_is = let now : need_of (state_of new).instance w ≡ Required = needed w vertex ∙ rw (p_is, q_is) refl in let e : pays (state_of new).instance w ≡ 0 = ap prize now in omega arith
-    paid w vertex false false p_is q_is = let now : need_of (state_of new).instance w ≡ need_of (state_of old).instance w = needed w vertex ∙ rw (p_is, q_is) refl in let e : pays (state_of new).instance w ≡ pays (state_of old).instance w = ap prize now in omega arith
+    needed : (w : ℕ) → IsVertex old.store.network.n w → need_of new.store.network w ≡ cond (w == v) (Pays 0) (cond (w == u) Required (need_of old.store.network w))
+    needed w vertex = ap (λ (l : List Need). get_or l (w - 1) Required) forces.needs ∙ needs_written old.store.network.n v u w old.store.network.needs kept.state.instance.needs forced.vertex neighbour.2 vertex neighbour.0
 
 pub takes_forced : (old new : Rest) (v u c : ℕ) → IsKept old → IsForced (state_of old) v u c → Forces old new v u c → TakesForced (state_of old) (state_of new) v u c
 takes_forced old new v u c kept forced forces =
@@ -138,23 +155,23 @@ takes_forced old new v u c kept forced forces =
       allowed = forced;
       becomes = record {
         count = leaves.count;
-        linked = forces.cuts.others;
-        needed = λ w vertex. ap (λ l. get_or l (w - 1) Required) forces.needs ∙ needs_written old.vertices v u w old.needs.items kept.state.instance.needs forced.vertex neighbour.2 vertex neighbour.0;
-        left_out = λ w. gone_after old new v w kept leaves;
+        linked = forces.links;
+        needed = λ w vertex. ap (λ (l : List Need). get_or l (w - 1) Required) forces.needs ∙ needs_written old.store.network.n v u w old.store.network.needs kept.state.instance.needs forced.vertex neighbour.2 vertex neighbour.0;
+        left_out = λ w. gone_after old new v w leaves;
         paid = forces.offset;
       };
     }
 
 -- another one is required just where two are
-pub some_required : (r : Rest) (v : ℕ) → IsKept r → IsVertex r.vertices v → IsTrue (is_required (state_of r).instance v) → 2 ≤ r.required → (w : ℕ) × IsVertex r.vertices w × IsTrue (is_required (state_of r).instance w) × (w ≢ v)
-some_required r v kept vertex needed two = let count = kept.required in another_counted (is_required (state_of r).instance) r.vertices v vertex needed (omega arith)
+pub some_required : (r : Rest) (v : ℕ) → IsKept r → IsVertex r.store.network.n v → IsTrue (is_required r.store.network v) → 2 ≤ r.required → (w : ℕ) × IsVertex r.store.network.n w × IsTrue (is_required r.store.network w) × (w ≢ v)
+some_required r v kept vertex needed two = let count = kept.required in another_counted (is_required r.store.network) r.store.network.n v vertex needed (omega arith)
 
 pub two_required : (r : Rest) (v u c : ℕ) → IsKept r → r.required < 2 → IsForced (state_of r) v u c → ⊥
 two_required r v u c kept few forced =
     let (w, vertex, needed, apart) = forced.other in
-    let two = two_counted (is_required (state_of r).instance) r.vertices v w forced.vertex forced.required vertex needed apart in
+    let two = two_counted (is_required r.store.network) r.store.network.n v w forced.vertex forced.required vertex needed apart in
     let count = kept.required in
     omega arith
 
-pub one_required : (r : Rest) (v : ℕ) → IsKept r → IsVertex r.vertices v → IsTrue (is_required (state_of r).instance v) → 1 ≤ r.required
-one_required r v kept vertex needed = let one = some_counted (is_required (state_of r).instance) r.vertices v vertex needed in let count = kept.required in omega arith
+pub one_required : (r : Rest) (v : ℕ) → IsKept r → IsVertex r.store.network.n v → IsTrue (is_required r.store.network v) → 1 ≤ r.required
+one_required r v kept vertex needed = let one = some_counted (is_required r.store.network) r.store.network.n v vertex needed in let count = kept.required in omega arith

@@ -1,35 +1,23 @@
--- A vertex between two others goes, and they are linked: what is kept then.
-use Rattle.std.proofs.Common.{◌≡◌, ◌≢◌, ℕ, ◌+◌, ◌≤◌, Bool, true, false, cond, min, ◌||◌, List, [], ◌∷◌, length, set, Option, Some, None, IsSome, refl, sym, ap, subst, ◌∙◌, arith, inl, inr, ◌⊎◌}
-use Rattle.std.specs.Prelude.{All, IsTrue, IsFalse, ◌==◌, unwrap_or}
+-- A vertex between two others goes, and they are linked.
+use Rattle.std.proofs.Common.{◌≡◌, ◌≢◌, ℕ, ◌+◌, ◌≤◌, Bool, true, false, cond, min, ◌-◌, ◌||◌, List, [], ◌∷◌, set, is_some, Option, Some, None, refl, sym, ap, ◌∙◌, arith, inl, inr}
+use Rattle.std.specs.Prelude.{◌==◌, unwrap_or}
 use Rattle.std.proofs.lemmas.Bool.Decides.{nat_tests}
 use Rattle.st_model.specs.declared.link.Link.{Link}
-use Rattle.st_model.specs.Lists.{has, total}
+use Rattle.st_model.specs.Lists.{total}
 use Rattle.st_model.specs.Made.{is_between}
-use Rattle.st_model.specs.Network.{IsLinkBetween, joins, link}
-use Rattle.st_model.proofs.Distinct.{between-ends, joins-ends}
+use Rattle.st_model.specs.Network.{amount, joins, link}
+use Rattle.st_model.proofs.Distinct.{joins-ends}
+use Rattle.graph_store.specs.Changes.{RemovesVertex, are_ends, with_link, with_link_cost}
+use Rattle.graph_store.specs.Graph.{Graph, IsGraph}
+use Rattle.graph_store.proofs.Costs.{link-put_link, link-set_cost}
 use Rattle.lift_back.specs.declared.rest.Rest.{Rest}
 use Rattle.lift_back.specs.State.{State, IsState}
-use Rattle.lift_back.specs.Steps.{IsThrough, gone_with, links_past, least}
-use Rattle.lift_back.specs.Ends.{HasEnds, ends_cost}
-use Rattle.lift_back.specs.declared.ends.Ends.TheVariants.{Two}
-use Rattle.lift_back.specs.Kept.{links_of, row_at, ArePairs}
-use Rattle.lift_back.specs.Keeping.{state_of, IsKept}
-use Rattle.lift_back.proofs.Skipping.{stays}
+use Rattle.lift_back.specs.Steps.{IsThrough, links_past, least}
+use Rattle.lift_back.specs.Keeping.{state_of}
+use Rattle.lift_back.proofs.Along.{itself}
+use Rattle.lift_back.proofs.Idle.{GoesIdle}
+use Rattle.lift_back.proofs.PairLinks.{between_are}
 use Rattle.lift_back.proofs.ThroughTrees.{neighbour_stays}
-use Rattle.lift_back.proofs.DetourTrees.{linked_stays}
-use Rattle.lift_back.proofs.Idle.{IsCut}
-
--- more that is listed does no harm
-pub more_rows : (old new : Rest) → IsKept old → new ≡ record old { rows = new.rows } → length new.rows.items ≡ length old.rows.items → ((v w : ℕ) → IsTrue (has (row_at old.rows.items v) w) → IsTrue (has (row_at new.rows.items v) w)) → IsKept new
-more_rows old new kept same long more = subst IsKept (sym same) (record {
-  state = kept.state;
-  pairs = kept.pairs;
-  rows = long ∙ kept.rows;
-  covered = λ v within w linked. more v w (kept.covered v within w linked);
-  marks = kept.marks;
-  left = kept.left;
-  required = kept.required;
-})
 
 -- a link costs no more than all links
 link_fits : (ls : List Link) (u w x : ℕ) → link ls u w ≡ Some x → x ≤ total (λ l. l.cost) ls
@@ -61,88 +49,82 @@ two_fit (l ∷ ls) v a b x y apart first second = by_test (joins l v a) (joins l
 pub through_apart : (s : State) (v a b x y : ℕ) → IsState s → IsThrough s v a b x y → ((a == v) ≡ false) × ((b == v) ≡ false)
 through_apart s v a b x y state through = ((neighbour_stays s v a state (rw through.first refl)).0, (neighbour_stays s v b state (rw through.second refl)).0)
 
--- a pair of a and b doesn't touch v
-untouched : (v a b u w : ℕ) → (a == v) ≡ false → (b == v) ≡ false → is_between (a, b) u w ≡ true → ((u == v) || (w == v)) ≡ false
-untouched v a b u w a_other b_other h = grind (arith, nat_tests)
-
--- nor is v an end of it
+-- v is no end of a pair of a and b
 not_between : (v a b w : ℕ) → (a == v) ≡ false → (b == v) ≡ false → is_between (a, b) v w ≡ false
 not_between v a b w a_other b_other = grind (arith, nat_tests)
 
--- the links of v are as they were once a and b are linked
-pub ends_still : (ls middle : List Link) (s : State) (v a b x y : ℕ) (o : Option ℕ) → s.instance.links ≡ ls → IsState s → IsThrough s v a b x y → ((u w : ℕ) → link middle u w ≡ cond (is_between (a, b) u w) o (link ls u w)) → HasEnds middle v (Two a b)
-ends_still ls middle s v a b x y o same state through put = (through.different, subst (λ (p : Option ℕ). IsSome p) (sym (at_v a)) (rw (through.first) refl), subst (λ (p : Option ℕ). IsSome p) (sym (at_v b)) (rw through.second refl), λ w linked. through.only w (subst (λ (p : Option ℕ). IsSome p) (at_v w) linked))
-  where
-    at_v : (w : ℕ) → link middle v w ≡ link s.instance.links v w
-    at_v w = let apart = through_apart s v a b x y state through in put v w ∙ (rw (not_between v a b w apart.0 apart.1) refl ∙ ap (λ l. link l v w) (sym same))
+-- v goes once a and b are linked at no cost, and they are linked at this cost then
+module _ (old : Rest) (g h : Graph) (v a b x y : ℕ) (state : IsState (state_of old)) (through : IsThrough (state_of old) v a b x y) (put : g ≡ with_link old.store a b 0) (removes : RemovesVertex g h v) where
+  -- the links once a and b are linked
+  put_at : (u w : ℕ) → link g.network.links u w ≡ cond (is_between (a, b) u w) (Some 0) (link old.store.network.links u w)
+  put_at u w =
+      let free : min (unwrap_or (link old.store.network.links a b) 0) 0 ≡ 0 = omega arith in
+      ap (λ (k : Graph). link k.network.links u w) put ∙ (link-put_link old.store.network.links a b 0 u w ∙ (λ j. cond (between_are a b u w j) (Some (free j)) (link old.store.network.links u w)))
 
--- the links once v is out too
-pub past_links : (ls middle new : List Link) (s : State) (v a b x y : ℕ) → s.instance.links ≡ ls → IsState s → IsThrough s v a b x y → ((u w : ℕ) → link middle u w ≡ cond (is_between (a, b) u w) (Some (min (x + y) (unwrap_or (link ls a b) (x + y)))) (link ls u w)) → ((u w : ℕ) → link new u w ≡ cond ((u == v) || (w == v)) None (link middle u w)) → (u w : ℕ) → link new u w ≡ links_past s v a b (x + y) u w
-past_links ls middle new s v a b x y same state through put cut u w =
-    cut u w ∙ (ap (cond ((u == v) || (w == v)) None) (put u w) ∙ (ap (λ l. cond ((u == v) || (w == v)) None (cond (is_between (a, b) u w) (Some (min (x + y) (unwrap_or (link l a b) (x + y)))) (link l u w))) (sym same)
-    ∙ by_test (is_between (a, b) u w) refl))
-  where
-    by_test : (p : Bool) → is_between (a, b) u w ≡ p → cond ((u == v) || (w == v)) None (cond p (Some (least s a b (x + y))) (link s.instance.links u w)) ≡ cond p (Some (least s a b (x + y))) (cond ((u == v) || (w == v)) None (link s.instance.links u w))
-    by_test true is = let apart = through_apart s v a b x y state through in rw (untouched v a b u w apart.0 apart.1 is) refl
-    by_test false is = refl
+  -- those of v are as they were
+  pub first_still : link g.network.links v a ≡ Some x
+  first_still = let apart = through_apart (state_of old) v a b x y state through in put_at v a ∙ (rw (not_between v a b a apart.0 apart.1) refl ∙ through.first)
 
--- what is kept then
-pub record Joins (old new : Rest) (v a b x y : ℕ) : Type 0 where
-  pub count : new.vertices ≡ old.vertices
-  pub rows : new.rows.items ≡ old.rows.items
-  pub pairs : ArePairs new.links.entries
-  pub ends : All (IsLinkBetween old.vertices) (links_of new.links.entries)
-  pub linked : (u w : ℕ) → link (links_of new.links.entries) u w ≡ links_past (state_of old) v a b (x + y) u w
-  pub marks : new.gone.items ≡ set old.gone.items v true
+  pub second_still : link g.network.links v b ≡ Some y
+  second_still = let apart = through_apart (state_of old) v a b x y state through in put_at v b ∙ (rw (not_between v a b b apart.0 apart.1) refl ∙ through.second)
+
+  -- once v is out the new link is still there
+  pub free_link : link h.network.links a b ≡ Some 0
+  free_link =
+      let apart = through_apart (state_of old) v a b x y state through in
+      removes.links a b ∙ (rw (apart.0, apart.1) refl ∙ (put_at a b ∙ ap (λ p. cond p (Some 0) (link old.store.network.links a b)) (itself (a, b))))
+
+  -- and once it has its cost all are as they should be
+  pub past_links : (cost u w : ℕ) → cost ≡ least (state_of old) a b (x + y) → cond (are_ends a b u w) (Some cost) (link h.network.links u w) ≡ links_past (state_of old) v a b (x + y) u w
+  past_links cost u w is =
+      ap (λ p. cond p (Some cost) (link h.network.links u w)) (between_are a b u w)
+      ∙ (ap (λ c. cond (is_between (a, b) u w) (Some c) (link h.network.links u w)) is
+      ∙ (ap (cond (is_between (a, b) u w) (Some (least (state_of old) a b (x + y)))) (removes.links u w ∙ ap (cond ((u == v) || (w == v)) None) (put_at u w))
+      ∙ hidden (is_between (a, b) u w) ((u == v) || (w == v)) (Some (least (state_of old) a b (x + y))) (Some 0) (link old.store.network.links u w)))
+    where
+      hidden : (p q : Bool) (new middle before : Option ℕ) → cond p new (cond q None (cond p middle before)) ≡ cond p new (cond q None before)
+      hidden true q new middle before = refl
+      hidden false q new middle before = refl
+
+-- v went between a and b: they are linked at no cost (g), it is removed (h), and they are linked at this cost
+pub record Passes (old new : Rest) (g h : Graph) (v a b x y cost : ℕ) : Type 0 where
+  pub put : g ≡ with_link old.store a b 0
+  pub put_amount : amount g.network ≤ amount old.store.network + 0
+  pub removes : RemovesVertex g h v
+  pub removed_amount : amount h.network + unwrap_or (link g.network.links v a) 0 + unwrap_or (link g.network.links v b) 0 ≤ amount g.network
+  pub costs : cost ≡ least (state_of old) a b (x + y)
+  pub linked : new.store ≡ with_link_cost h a b cost
+  pub graph : IsGraph new.store
+  pub amount : amount new.store.network + unwrap_or (link h.network.links a b) 0 ≡ amount h.network + cost
   pub left : new.left + 1 ≡ old.left
+  pub required : new.required ≡ old.required
+  pub offset : new.offset ≡ old.offset
 
--- a link then is the new one or one as before
-past_cases : (s : State) (v a b x y u w : ℕ) → IsSome (links_past s v a b (x + y) u w) → (is_between (a, b) u w ≡ true) ⊎ (((u == v) ≡ false) × IsSome (link s.instance.links u w))
-past_cases s v a b x y u w there = by_test (is_between (a, b) u w) (u == v) (w == v) refl refl there
-  where
-    none : false ≡ true → ⊥
-    none h = cc
+-- the cost has room before the link has it
+pub cost_fits : (old : Rest) (g h : Graph) (v a b x y cost : ℕ) → IsState (state_of old) → IsThrough (state_of old) v a b x y → g ≡ with_link old.store a b 0 → amount g.network ≤ amount old.store.network + 0 → RemovesVertex g h v
+    → amount h.network + unwrap_or (link g.network.links v a) 0 + unwrap_or (link g.network.links v b) 0 ≤ amount g.network → cost ≡ least (state_of old) a b (x + y) → amount h.network + cost ≤ amount old.store.network
+cost_fits old g h v a b x y cost state through put put_amount removes removed_amount costs =
+    let first : unwrap_or (link g.network.links v a) 0 ≡ x = ap (λ o. unwrap_or o 0) (first_still old g h v a b x y state through put removes) in
+    let second : unwrap_or (link g.network.links v b) 0 ≡ y = ap (λ o. unwrap_or o 0) (second_still old g h v a b x y state through put removes) in
+    omega arith
 
-    by_test : (p q r : Bool) → is_between (a, b) u w ≡ p → (u == v) ≡ q → IsSome (cond p (Some (least s a b (x + y))) (cond (q || r) None (link s.instance.links u w))) → (is_between (a, b) u w ≡ true) ⊎ (((u == v) ≡ false) × IsSome (link s.instance.links u w))
-    by_test true q r p_is q_is h = inl p_is
-    by_test false false false p_is q_is h = inr (q_is, h)
-    by_test false true r p_is q_is h = absurd (none h)
-    by_test false false true p_is q_is h = absurd (none h)
-
-pub joins_cut : (old new : Rest) (v a b x y : ℕ) → IsKept old → IsThrough (state_of old) v a b x y → IsTrue (has (row_at old.rows.items a) b) × IsTrue (has (row_at old.rows.items b) a) → Joins old new v a b x y → IsCut old new v
-joins_cut old new v a b x y kept through listed joins = record {
-  count = joins.count;
-  pairs = joins.pairs;
-  ends = joins.ends;
-  cut = λ u w there. elim (past_cases (state_of old) v a b x y u w (subst (λ (o : Option ℕ). IsSome o) (joins.linked u w) there)) [
-    | inl new_one ↦ elim (between-ends (a, b) u w new_one) [
-      | inl e ↦ subst (λ (z : ℕ). IsFalse (gone_with (state_of old) v z)) e.0 a_stays
-      | inr e ↦ subst (λ (z : ℕ). IsFalse (gone_with (state_of old) v z)) e.1 b_stays
-    ]
-    | inr before ↦ stays (state_of old) v u before.0 (linked_stays (state_of old) u w kept.state before.1).0
-  ];
-  rows = ap length joins.rows ∙ kept.rows;
-  covered = λ u within w there. subst (λ (l : List ℕ). IsTrue (has l w)) (sym (ap (λ rows. row_at rows u) joins.rows)) (elim (past_cases (state_of old) v a b x y u w (subst (λ (o : Option ℕ). IsSome o) (joins.linked u w) there)) [
-    | inl new_one ↦ elim (between-ends (a, b) u w new_one) [
-      | inl e ↦ subst (λ (z : ℕ). IsTrue (has (row_at old.rows.items z) w)) e.0 (subst (λ (z : ℕ). IsTrue (has (row_at old.rows.items a) z)) e.1 listed.0)
-      | inr e ↦ subst (λ (z : ℕ). IsTrue (has (row_at old.rows.items z) w)) e.1 (subst (λ (z : ℕ). IsTrue (has (row_at old.rows.items b) z)) e.0 listed.1)
-    ]
-    | inr before ↦ kept.covered u within w before.1
-  ]);
-  marks = joins.marks;
-  left = joins.left;
+pub passes_idle : (old new : Rest) (g h : Graph) (v a b x y cost : ℕ) → IsState (state_of old) → IsThrough (state_of old) v a b x y → Passes old new g h v a b x y cost → GoesIdle old new v
+passes_idle old new g h v a b x y cost state through passes = record {
+  graph = passes.graph;
+  count = ap (λ (k : Graph). k.network.n) passes.linked ∙ (passes.removes.count ∙ ap (λ (k : Graph). k.network.n) passes.put);
+  needs = ap (λ (k : Graph). k.network.needs) passes.linked ∙ (passes.removes.needs ∙ ap (λ (k : Graph). k.network.needs) passes.put);
+  present = ap (λ (k : Graph). k.present) passes.linked ∙ (passes.removes.present ∙ ap (λ (k : Graph). set k.present (v - 1) false) passes.put);
+  left = passes.left;
+  required = passes.required;
+  offset = passes.offset;
+  amount =
+      let fits = cost_fits old g h v a b x y cost state through passes.put passes.put_amount passes.removes passes.removed_amount passes.costs in
+      let all = passes.amount in
+      omega arith;
 }
-  where
-    a_stays : IsFalse (gone_with (state_of old) v a)
-    a_stays = let other = neighbour_stays (state_of old) v a kept.state (rw through.first refl) in stays (state_of old) v a other.0 other.1
 
-    b_stays : IsFalse (gone_with (state_of old) v b)
-    b_stays = let other = neighbour_stays (state_of old) v b kept.state (rw through.second refl) in stays (state_of old) v b other.0 other.1
-
--- the links of v cost what they did
-pub ends_cost_still : (ls middle : List Link) (s : State) (v a b x y : ℕ) (o : Option ℕ) → s.instance.links ≡ ls → IsState s → IsThrough s v a b x y → ((u w : ℕ) → link middle u w ≡ cond (is_between (a, b) u w) o (link ls u w)) → ends_cost middle v (Two a b) ≡ x + y
-ends_cost_still ls middle s v a b x y o same state through put =
-    let apart = through_apart s v a b x y state through in
-    let first : link middle v a ≡ Some x = put v a ∙ (rw (not_between v a b a apart.0 apart.1) refl ∙ (ap (λ l. link l v a) (sym same) ∙ through.first)) in
-    let second : link middle v b ≡ Some y = put v b ∙ (rw (not_between v a b b apart.0 apart.1) refl ∙ (ap (λ l. link l v b) (sym same) ∙ through.second)) in
-    rw (first, second) refl
+pub passes_links : (old new : Rest) (g h : Graph) (v a b x y cost u w : ℕ) → IsState (state_of old) → IsThrough (state_of old) v a b x y → Passes old new g h v a b x y cost → link new.store.network.links u w ≡ links_past (state_of old) v a b (x + y) u w
+passes_links old new g h v a b x y cost u w state through passes =
+    ap (λ (k : Graph). link k.network.links u w) passes.linked
+    ∙ (link-set_cost h.network.links a b cost u w (ap is_some (free_link old g h v a b x y state through passes.put passes.removes))
+    ∙ past_links old g h v a b x y state through passes.put passes.removes cost u w passes.costs)

@@ -1,105 +1,132 @@
 -- A vertex that goes: what is kept afterwards stands for a state again.
-use Rattle.std.proofs.Common.{◌≡◌, ℕ, ◌+◌, ◌<◌, ◌≤◌, ◌^◌, Bool, true, false, not, ◌||◌, List, length, get_or, set, Option, Some, None, IsSome, refl, sym, ap, subst, ◌∙◌, arith, inl, inr, eq-eqb, is_some}
-use Rattle.std.specs.Prelude.{All, IsTrue, IsFalse, ◌==◌}
-use Rattle.std.proofs.lemmas.Bool.{or_cases, or_left, eqb-true, false≢true, ne_eqb}
-use Rattle.std.proofs.lemmas.Bool.Decides.{eqb_tells}
-use Rattle.std.proofs.lemmas.List.{get_or-set_same, get_or-set_other, length-set}
-use Rattle.st_model.specs.declared.link.Link.{Link}
+use Rattle.std.proofs.Common.{◌≡◌, ℕ, ◌+◌, ◌-◌, ◌<◌, ◌≤◌, ◌^◌, Bool, true, false, cond, eqb, not, ◌||◌, length, get_or, set, filter, Option, Some, None, refl, sym, ap, subst, ◌∙◌, arith, inl, inr, eq-eqb, is_some}
+use Rattle.std.specs.Prelude.{IsTrue, IsFalse, ◌==◌}
+use Rattle.std.proofs.lemmas.Bool.{or_cases, cases_lt, eqb-true, false≢true, ne_eqb}
+use Rattle.std.proofs.lemmas.Bool.Decides.{nat_tests}
+use Rattle.std.proofs.lemmas.List.{get_or-set_same, get_or-set_other, get_or_past, length-set}
+use Rattle.std.proofs.lemmas.List.Elements.{recursion_from_All}
 use Rattle.st_model.specs.declared.need.Need.TheVariants.{Pays}
-use Rattle.st_model.specs.Lists.{has, sum_to, total}
-use Rattle.st_model.specs.Network.{IsVertex, IsLinkBetween, link, need_of, is_required, pays}
+use Rattle.st_model.specs.Branch.{IsVertexSet}
+use Rattle.st_model.specs.Lists.{has, up_to}
+use Rattle.st_model.specs.Network.{IsVertex, amount, link, need_of, is_required}
 use Rattle.st_model.proofs.Booleans.{same_test}
 use Rattle.st_model.proofs.Branches.{IsVertexSet-member}
+use Rattle.st_model.proofs.Links.{linked_ends}
+use Rattle.graph_store.specs.Graph.{Graph, IsGraph, is_in}
 use Rattle.lift_back.specs.declared.rest.Rest.{Rest}
+use Rattle.lift_back.specs.State.{IsState}
 use Rattle.lift_back.specs.Steps.{gone_with}
-use Rattle.lift_back.specs.Ends.{AreCovered}
-use Rattle.lift_back.specs.Kept.{links_of, row_at, ArePairs}
-use Rattle.lift_back.specs.Keeping.{members_of, count_to, state_of, IsKept}
-use Rattle.lift_back.proofs.PairLinks.{one_each}
-use Rattle.lift_back.proofs.Counting.{has_members, members_set, count_less}
+use Rattle.lift_back.specs.Keeping.{absent, count_to, state_of, IsKept}
+use Rattle.lift_back.proofs.Counting.{has_passing, passing_set, count_less}
+
+-- whoever isn't present is gone
+pub has_absent : (g : Graph) (v : ℕ) → IsVertex g.network.n v → has (absent g) v ≡ not (is_in g v)
+has_absent g v vertex = has_passing (λ x. not (is_in g x)) g.network.n v vertex
+
+pub absent_set : (g : Graph) → IsVertexSet g.network.n (absent g)
+absent_set g = passing_set (λ x. not (is_in g x)) g.network.n
+
+absent_vertex : (g : Graph) (v : ℕ) → IsTrue (has (absent g) v) → IsVertex g.network.n v
+absent_vertex g v gone = IsVertexSet-member g.network.n (absent g) v (absent_set g) gone
+
+-- and whoever isn't gone is present
+pub not_gone : (g : Graph) (v : ℕ) → IsVertex g.network.n v → is_in g v ≡ not (has (absent g) v)
+not_gone g v vertex = sym (ap not (has_absent g v vertex) ∙ twice (is_in g v))
+  where
+    twice : (b : Bool) → not (not b) ≡ b
+    twice true = refl
+    twice false = refl
+
+pub present_in : (g : Graph) (v : ℕ) → IsVertex g.network.n v → IsFalse (has (absent g) v) → IsTrue (is_in g v)
+present_in g v vertex here = not_gone g v vertex ∙ ap not here
+
+-- the same vertices are gone where the same are present
+pub absent_same : (g h : Graph) → h.network.n ≡ g.network.n → h.present ≡ g.present → absent h ≡ absent g
+absent_same g h count same j = filter (λ v. not (cond (eqb v 0) false (get_or (same j) (v - 1) false))) (up_to (count j))
+
+-- what the graph says of what is kept
+pub state_kept : (r : Rest) → IsGraph r.store → ((w : ℕ) → IsTrue (has (absent r.store) w) → need_of r.store.network w ≡ Pays 0) → amount r.store.network + r.offset < 2 ^ 63 → IsState (state_of r)
+state_kept r graph idle fits = record {
+  instance = graph.instance;
+  gone = absent_set r.store;
+  alone = λ u w gone. alone u w gone (link r.store.network.links u w) refl;
+  idle = idle;
+  amount = fits;
+}
+  where
+    alone : (u w : ℕ) → IsTrue (has (absent r.store) u) → (o : Option ℕ) → link r.store.network.links u w ≡ o → link r.store.network.links u w ≡ None
+    alone u w gone None is = is
+    alone u w gone (Some c) is =
+        let out : not (is_in r.store u) ≡ true = sym (has_absent r.store u (absent_vertex r.store u gone)) ∙ gone in
+        let here : is_in r.store u ≡ true = (linked_ends (λ v. IsTrue (is_in r.store v)) r.store.network.links u w (recursion_from_All (λ l. IsTrue (is_in r.store l.a) × IsTrue (is_in r.store l.b)) r.store.network.links graph.ends) (ap is_some is)).0 in
+        absurd (false≢true (ap not (sym here) ∙ out))
 
 -- v went, and what is kept of the rest fits
 pub record Leaves (old new : Rest) (v : ℕ) : Type 0 where
-  pub count : new.vertices ≡ old.vertices
-  pub vertex : IsVertex old.vertices v
-  pub present : IsFalse (has (state_of old).gone v)
-  pub pairs : ArePairs new.links.entries
-  pub ends : All (IsLinkBetween old.vertices) (links_of new.links.entries)
-  pub cut : (u w : ℕ) → IsSome (link (links_of new.links.entries) u w) → IsFalse (gone_with (state_of old) v u)
-  pub rows : length new.rows.items ≡ old.vertices + 1
-  pub covered : (u : ℕ) → u ≤ old.vertices → AreCovered (links_of new.links.entries) u (row_at new.rows.items u)
-  pub marks : new.gone.items ≡ set old.gone.items v true
+  pub vertex : IsVertex old.store.network.n v
+  pub here : IsFalse (has (state_of old).gone v)
+  pub graph : IsGraph new.store
+  pub count : new.store.network.n ≡ old.store.network.n
+  pub present : new.store.present ≡ set old.store.present (v - 1) false
   pub left : new.left + 1 ≡ old.left
-  pub needs : length new.needs.items ≡ old.vertices
-  pub idle : (w : ℕ) → IsTrue (gone_with (state_of old) v w) → need_of (state_of new).instance w ≡ Pays 0
-  pub required : new.required ≡ count_to (is_required (state_of new).instance) old.vertices
-  pub amount : total (λ l. l.cost) (links_of new.links.entries) + sum_to (pays (state_of new).instance) old.vertices + new.offset < 2 ^ 63
+  pub idle : (w : ℕ) → IsTrue (gone_with (state_of old) v w) → need_of new.store.network w ≡ Pays 0
+  pub required : new.required ≡ count_to (is_required new.store.network) old.store.network.n
+  pub amount : amount new.store.network + new.offset < 2 ^ 63
 
--- the marks of one vertex more
-marked_more : (n v w : ℕ) (marks new : List Bool) → length marks ≡ n + 1 → IsVertex n v → new ≡ set marks v true → get_or new w false ≡ ((v == w) || get_or marks w false)
-marked_more n v w marks new long vertex is = ap (λ l. get_or l w false) is ∙ elim (eqb_tells v w) [
-  | inl e ↦ subst (λ (x : ℕ). get_or (set marks v true) x false ≡ ((v == x) || get_or marks x false)) e.1 (get_or-set_same marks v true false (let high = vertex.1 in omega arith) ∙ sym (or_left (v == v) (get_or marks v false) (eq-eqb v v refl)))
-  | inr e ↦ get_or-set_other marks v w true false (λ same. e.1 (sym same)) ∙ rw e.0 refl
-]
-
--- who is gone then
-pub gone_more : (n v w : ℕ) (marks new : List Bool) → length marks ≡ n + 1 → IsVertex n v → new ≡ set marks v true → has (members_of n new) w ≡ ((v == w) || has (members_of n marks) w)
-gone_more n v w marks new long vertex is = same_test (has (members_of n new) w) ((v == w) || has (members_of n marks) w) there back
+-- who is present then
+pub in_without : (g h : Graph) (v w : ℕ) → 1 ≤ v → h.present ≡ set g.present (v - 1) false → is_in h w ≡ cond (v == w) false (is_in g w)
+in_without g h v w some is = ap (λ l. cond (eqb w 0) false (get_or l (w - 1) false)) is ∙ by_case (eqb w 0) (v == w) refl refl
   where
-    there : IsTrue (has (members_of n new) w) → IsTrue ((v == w) || has (members_of n marks) w)
-    there h =
-        let w_vertex = IsVertexSet-member n (members_of n new) w (members_set n new) h in
-        (ap (λ b. (v == w) || b) (has_members n w marks w_vertex) ∙ sym (marked_more n v w marks new long vertex is)) ∙ (sym (has_members n w new w_vertex) ∙ h)
-
-    w_is : IsTrue ((v == w) || has (members_of n marks) w) → IsVertex n w
-    w_is h = elim (or_cases (v == w) (has (members_of n marks) w) h) [
-      | inl same ↦ subst (IsVertex n) (eqb-true v w same) vertex
-      | inr member ↦ IsVertexSet-member n (members_of n marks) w (members_set n marks) member
+    out : get_or (set g.present (v - 1) false) (v - 1) false ≡ false
+    out = elim (cases_lt (v - 1) (length g.present)) [
+      | inl less ↦ get_or-set_same g.present (v - 1) false false less
+      | inr more ↦ get_or_past (set g.present (v - 1) false) (v - 1) false (let len = length-set g.present (v - 1) false in omega arith)
     ]
 
-    back : IsTrue ((v == w) || has (members_of n marks) w) → IsTrue (has (members_of n new) w)
-    back h = has_members n w new (w_is h) ∙ (marked_more n v w marks new long vertex is ∙ (ap (λ b. (v == w) || b) (sym (has_members n w marks (w_is h))) ∙ h))
+    by_case : (p q : Bool) → eqb w 0 ≡ p → (v == w) ≡ q → cond p false (get_or (set g.present (v - 1) false) (w - 1) false) ≡ cond q false (cond p false (get_or g.present (w - 1) false))
+    by_case true true p_is q_is = refl
+    by_case true false p_is q_is = refl
+    by_case false true p_is q_is = ap (λ k. get_or (set g.present (v - 1) false) (k - 1) false) (sym (eqb-true v w q_is)) ∙ out
+    by_case false false p_is q_is = get_or-set_other g.present (v - 1) (w - 1) false false (λ e. (let positive : 1 ≤ w = grind (arith, nat_tests) in let same : v ≡ w = omega arith in false≢true (sym q_is ∙ eq-eqb v w same)))
 
-pub gone_after : (old new : Rest) (v w : ℕ) → IsKept old → Leaves old new v → has (state_of new).gone w ≡ gone_with (state_of old) v w
-gone_after old new v w kept leaves = ap (λ n. has (members_of n new.gone.items) w) leaves.count ∙ gone_more old.vertices v w old.gone.items new.gone.items kept.marks leaves.vertex leaves.marks
+-- who is gone then
+pub gone_after : (old new : Rest) (v w : ℕ) → Leaves old new v → has (state_of new).gone w ≡ gone_with (state_of old) v w
+gone_after old new v w leaves = same_test (has (absent new.store) w) ((v == w) || has (absent old.store) w) there back
+  where
+    test : IsVertex old.store.network.n w → has (absent new.store) w ≡ ((v == w) || has (absent old.store) w)
+    test vertex =
+        has_absent new.store w (subst (λ (n : ℕ). IsVertex n w) (sym leaves.count) vertex)
+        ∙ (ap not (in_without old.store new.store v w leaves.vertex.0 leaves.present) ∙ (turned (v == w) (is_in old.store w) ∙ ap (λ b. (v == w) || b) (sym (has_absent old.store w vertex))))
+      where
+        turned : (p q : Bool) → not (cond p false q) ≡ (p || not q)
+        turned true q = refl
+        turned false q = refl
+
+    there : IsTrue (has (absent new.store) w) → IsTrue ((v == w) || has (absent old.store) w)
+    there h = sym (test (subst (λ (n : ℕ). IsVertex n w) leaves.count (absent_vertex new.store w h))) ∙ h
+
+    w_is : IsTrue ((v == w) || has (absent old.store) w) → IsVertex old.store.network.n w
+    w_is h = elim (or_cases (v == w) (has (absent old.store) w) h) [
+      | inl same ↦ subst (IsVertex old.store.network.n) (eqb-true v w same) leaves.vertex
+      | inr member ↦ absent_vertex old.store w member
+    ]
+
+    back : IsTrue ((v == w) || has (absent old.store) w) → IsTrue (has (absent new.store) w)
+    back h = test (w_is h) ∙ h
 
 pub kept_without : (old new : Rest) (v : ℕ) → IsKept old → Leaves old new v → IsKept new
 kept_without old new v kept leaves = record {
-  state = record {
-    instance = record {
-      some_vertex = subst (λ (n : ℕ). 1 ≤ n) (sym leaves.count) kept.state.instance.some_vertex;
-      few_vertices = subst (λ (n : ℕ). n ≤ 1000000) (sym leaves.count) kept.state.instance.few_vertices;
-      ends = subst (λ (n : ℕ). All (IsLinkBetween n) (links_of new.links.entries)) (sym leaves.count) leaves.ends;
-      one_each = one_each new.links.entries leaves.pairs;
-      needs = leaves.needs ∙ sym leaves.count;
-      amount = let all = amount_now in omega arith;
-    };
-    gone = members_set new.vertices new.gone.items;
-    alone = λ u w gone. alone u w (link (links_of new.links.entries) u w) refl (sym (gone_after old new v u kept leaves) ∙ gone);
-    idle = λ w gone. leaves.idle w (sym (gone_after old new v w kept leaves) ∙ gone);
-    amount = let all = amount_now in omega arith;
-  };
-  pairs = leaves.pairs;
-  rows = leaves.rows ∙ ap (λ n. n + 1) (sym leaves.count);
-  covered = λ u within. leaves.covered u (subst (λ (n : ℕ). u ≤ n) leaves.count within);
-  marks = ap length leaves.marks ∙ (length-set old.gone.items v true ∙ (kept.marks ∙ ap (λ n. n + 1) (sym leaves.count)));
+  state = state_kept new leaves.graph (λ w gone. leaves.idle w (sym (gone_after old new v w leaves) ∙ gone)) leaves.amount;
   left = left_is;
-  required = leaves.required ∙ ap (count_to (is_required (state_of new).instance)) (sym leaves.count);
+  required = leaves.required ∙ ap (count_to (is_required new.store.network)) (sym leaves.count);
 }
   where
-    amount_now : total (λ (l : Link). l.cost) (links_of new.links.entries) + sum_to (pays (state_of new).instance) new.vertices + new.offset < 2 ^ 63
-    amount_now = subst (λ (n : ℕ). total (λ (l : Link). l.cost) (links_of new.links.entries) + sum_to (pays (state_of new).instance) n + new.offset < 2 ^ 63) (sym leaves.count) leaves.amount
-
-    alone : (u w : ℕ) (o : Option ℕ) → link (links_of new.links.entries) u w ≡ o → IsTrue (gone_with (state_of old) v u) → link (links_of new.links.entries) u w ≡ None
-    alone u w None is gone = is
-    alone u w (Some c) is gone = absurd (false≢true (sym (leaves.cut u w (ap is_some is)) ∙ gone))
-
-    left_is : new.left ≡ count_to (λ x. not (get_or new.gone.items x false)) new.vertices
+    left_is : new.left ≡ count_to (is_in new.store) new.store.network.n
     left_is =
-        let less = count_less (λ x. not (get_or old.gone.items x false)) (λ x. not (get_or new.gone.items x false)) old.vertices v leaves.vertex (ap not (sym (has_members old.vertices v old.gone.items leaves.vertex) ∙ leaves.present))
-        (ap not (marked_more old.vertices v v old.gone.items new.gone.items kept.marks leaves.vertex leaves.marks ∙ or_left (v == v) (get_or old.gone.items v false) (eq-eqb v v refl)))
-        (λ w there other. ap not (marked_more old.vertices v w old.gone.items new.gone.items kept.marks leaves.vertex leaves.marks ∙ ap (λ b. b || get_or old.gone.items w false) (ne_eqb v w (λ same. other (sym same))))) in
+        let less = count_less (is_in old.store) (is_in new.store) old.store.network.n v leaves.vertex (present_in old.store v leaves.vertex leaves.here)
+        (in_without old.store new.store v v leaves.vertex.0 leaves.present ∙ ap (λ b. cond b false (is_in old.store v)) (eq-eqb v v refl))
+        (λ w there other. in_without old.store new.store v w leaves.vertex.0 leaves.present ∙ ap (λ b. cond b false (is_in old.store w)) (ne_eqb v w (λ same. other (sym same)))) in
         let fewer = leaves.left in
         let before = kept.left in
-        let now : new.left ≡ count_to (λ x. not (get_or new.gone.items x false)) old.vertices = omega arith in
-        now ∙ ap (count_to (λ x. not (get_or new.gone.items x false))) (sym leaves.count)
+        let now : new.left ≡ count_to (is_in new.store) old.store.network.n = omega arith in
+        now ∙ ap (count_to (is_in new.store)) (sym leaves.count)

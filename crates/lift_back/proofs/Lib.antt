@@ -11,8 +11,7 @@ pub mod ForcedBack
 pub mod ThroughBack
 pub mod Stepwise
 pub mod PairLinks
-pub mod Rows
-pub mod Cutting
+pub mod Halves
 pub mod Counting
 pub mod KeptAfter
 pub mod Idle

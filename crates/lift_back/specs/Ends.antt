@@ -1,9 +1,8 @@
 -- Where the links of a vertex lead.
-use Rattle.std.specs.Prelude.{◌≢◌, ℕ, ◌≤◌, IsTrue, IsSome, List, [], ◌∷◌, length, take, All, ⊤, ◌+◌, unwrap_or}
+use Rattle.std.specs.Prelude.{◌≢◌, ℕ, IsTrue, IsSome, List, [], ◌∷◌}
 use Rattle.st_model.specs.declared.link.Link.{Link}
 use Rattle.st_model.specs.Lists.{has}
 use Rattle.st_model.specs.Network.{link}
-use Rattle.st_model.specs.VertexSet.{AllApart}
 use Rattle.lift_back.specs.declared.ends.Ends.{Ends}
 use Rattle.lift_back.specs.declared.ends.Ends.TheVariants.{Nobody, One, Two, More}
 
@@ -18,28 +17,9 @@ pub record HasThree (links : List Link) (v a b c : ℕ) : Type 0 where
   pub third : IsSome (link links v c)
   pub apart : (a ≢ b) × (a ≢ c) × (b ≢ c)
 
--- the first vertices of a row are linked with v, each once, and all that are linked are in the row
-pub record IsTidy (links : List Link) (v next : ℕ) (row : List ℕ) : Type 0 where
-  pub few : next ≤ 3
-  pub within : next ≤ length row
-  pub covered : AreCovered links v row
-  pub linked : All (λ w. IsSome (link links v w)) (take next row)
-  pub apart : AllApart (take next row)
-
 -- these are the ends of the links of v, each once
 abbrev pub HasEnds : List Link → ℕ → Ends → Type 0
 HasEnds links v Nobody = AreCovered links v []
 HasEnds links v (One u) = IsSome (link links v u) × AreCovered links v (u ∷ [])
 HasEnds links v (Two a b) = (a ≢ b) × IsSome (link links v a) × IsSome (link links v b) × AreCovered links v (a ∷ b ∷ [])
 HasEnds links v More = (a : ℕ) × (b : ℕ) × (c : ℕ) × HasThree links v a b c
-
--- not more than two
-abbrev pub AreFew : Ends → Type 0
-AreFew More = ⊥
-AreFew _ = ⊤
-
--- what the links to them cost
-abbrev pub ends_cost : List Link → ℕ → Ends → ℕ
-ends_cost links v (One u) = unwrap_or (link links v u) 0
-ends_cost links v (Two a b) = unwrap_or (link links v a) 0 + unwrap_or (link links v b) 0
-ends_cost links v _ = 0

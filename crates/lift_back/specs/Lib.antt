@@ -2,7 +2,6 @@ pub mod State
 pub mod Detours
 pub mod Steps
 pub mod Laws
-pub mod Kept
 pub mod Ends
 pub mod Undoing
 pub mod Chains

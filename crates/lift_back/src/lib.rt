@@ -5,13 +5,12 @@
 //! that are gone, and the offset.
 #![tactic(auto)]
 
-mod building;
 mod chain;
 mod ends;
 mod law;
 mod lifting;
-mod links;
 mod reduced;
+mod removing;
 mod rest;
 mod step;
 mod undo;

@@ -1,16 +1,20 @@
-ghost use Rattle.std.specs.Prelude.{◌≡◌, ℕ, [], ◌∷◌, ◌++◌, IfOk, IfErr, IsErrOf, OnOk, OnErr, Some};
+ghost use Rattle.std.specs.Prelude.{◌≡◌, ℕ, [], ◌∷◌, ◌++◌, IfOk, IfErr, IsErrOf, OnOk, OnErr, Some, not};
 ghost use Rattle.st_model.specs.Arborescence.{IsTree, cost};
 ghost use Rattle.lift_back.specs.State.{IsState, IsTreeOf, whole, worth};
 ghost use Rattle.lift_back.specs.Steps.{IsForced, IsPendant, IsThrough, MayTake, Takes, TakesDetour, TakesPendant};
 ghost use Rattle.lift_back.specs.Detours.{IsDetour};
 ghost use Rattle.lift_back.specs.Ends.{HasEnds};
+ghost use Rattle.st_model.specs.Lists.{has};
 ghost use Rattle.st_model.specs.Network.{IsVertex};
+ghost use Rattle.graph_store.specs.Graph.{is_in};
 ghost use Rattle.lift_back.specs.declared.reduced.ApplyError.TheVariants.{NoMemory};
 
+use crate::ends::ends_of;
 use crate::lifting::lifted;
 use crate::rest::Rest;
 use crate::undo::Undo;
 use crate::{Ends, Step};
+use graph_store::Store;
 use st_model::{Instance, Listed, Tree};
 use std::alloc::{AllocError, Global};
 use std::error::Error;
@@ -74,9 +78,8 @@ impl Reduced {
         ensures { IfOk result (λ reduced. reduced ≡ record { first = instance.now; state = whole instance.now }) }
     {
         let rest = Rest::of(alloc, instance)?;
-        let first = rest.instance(alloc)?;
         Ok(Reduced {
-            first,
+            first: instance.copied(alloc)?,
             rest,
             undos: Vec::new(alloc),
         })
@@ -86,7 +89,7 @@ impl Reduced {
     pub fn instance(&self, alloc: Global) -> Result<Instance, AllocError>
         ensures instance { IfOk result (λ instance. instance ≡ self.now.state.instance) }
     {
-        self.rest.instance(alloc)
+        self.rest.store.instance(alloc)
     }
 
     /// What is paid besides what is left.
@@ -104,14 +107,22 @@ impl Reduced {
         self.rest.gone_vertices(alloc)
     }
 
-    /// Where the links of a vertex lead. Over many calls this takes a time that is linear in the
-    /// calls and the steps.
+    /// What is left as a graph under change, of which those who are gone aren't present.
+    pub fn store(&self) -> &Store
+        ensures network { result.now.network ≡ self.now.state.instance }
+        ensures present { (v : ℕ) → IsVertex self.now.state.instance.n v
+            → is_in result.now v ≡ not (has self.now.state.gone v) }
+    {
+        &self.rest.store
+    }
+
+    /// Where the links of a vertex lead.
     pub fn ends(&mut self, vertex: u32) -> Ends
         requires { IsVertex self.old.state.instance.n vertex }
         ensures ends { HasEnds self.old.state.instance.links vertex result }
         ensures same { self.new ≡ self.old }
     {
-        self.rest.ends(vertex)
+        ends_of(&self.rest.store, vertex)
     }
 
     /// Takes a step. StepFault comes where the step may not be taken; then, and where memory is

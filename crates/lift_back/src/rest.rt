@@ -1,35 +1,29 @@
-ghost use Rattle.std.specs.Prelude.{◌≡◌, ◌↔◌, ◌+◌, ◌≤◌, ℕ, if◌then◌else◌, IsTrue, IfSome, IfNone, IfOk, OnOk, OnErr, ◌<◌, ◌++◌, ◌∷◌, [], length, slice_index_or, false};
+ghost use Rattle.std.specs.Prelude.{◌≡◌, ◌↔◌, ◌+◌, ◌-◌, ◌^◌, ◌≤◌, ℕ, if◌then◌else◌, IsTrue, IfSome, IfNone, IfOk, OnOk, OnErr, ◌<◌, ◌++◌, ◌∷◌, [], length, slice_index_or};
 ghost use Rattle.std.specs.Bool.{OnTrue, OnFalse};
-ghost use Rattle.st_model.specs.declared.need.Need.TheVariants.{Pays};
+ghost use Rattle.st_model.specs.declared.need.Need.TheVariants.{Pays, Required};
 ghost use Rattle.st_model.specs.Lists.{has};
-ghost use Rattle.st_model.specs.Network.{IsVertex, is_needed, is_required, need_of};
-ghost use Rattle.lift_back.specs.Steps.{Becomes, IsForced, IsIdle, IsPendant, IsThrough, TakesDetour, TakesForced, TakesPendant, TakesThrough, gone_with, links_without};
+ghost use Rattle.st_model.specs.Network.{IsVertex, is_needed, is_required};
 ghost use Rattle.st_model.specs.Arborescence.{arc_cost};
 ghost use Rattle.st_model.specs.Made.{is_between};
+ghost use Rattle.graph_store.specs.Graph.{is_in};
+ghost use Rattle.lift_back.specs.Steps.{IsForced, IsIdle, IsPendant, IsThrough, TakesDetour, TakesForced, TakesPendant, TakesThrough, least};
 ghost use Rattle.lift_back.specs.Detours.{IsDetour, MayGo};
 ghost use Rattle.lift_back.specs.State.{whole};
 ghost use Rattle.lift_back.specs.Undoing.{FitsThrough};
-ghost use Rattle.lift_back.specs.Ends.{HasEnds, AreFew};
-ghost use Rattle.lift_back.specs.Kept.{links_of, row_at};
-ghost use Rattle.lift_back.specs.Keeping.{state_of, IsKept};
+ghost use Rattle.lift_back.specs.Keeping.{count_to, state_of, IsKept};
 
-use crate::building::{count_required, no_marks, rows_of};
-use crate::ends::{Ends, ends_of, list_for};
-use crate::links::{Links, cost_between, links_by_pair, list_of, put_link, take_all, take_link};
+use crate::ends::{Ends, ends_of};
+use crate::removing::{remove_leaf, remove_middle};
 use crate::undo::Undo;
+use graph_store::Store;
 use st_model::{Instance, Need};
 use std::alloc::{AllocError, Global};
 
 // What is left of an instance under reduction.
 #[derive(Drop)]
 pub struct Rest {
-    pub vertices: u32,
-    pub links: Links,
-    // For each vertex from 0 on those that it may be linked with.
-    pub rows: Vec<Vec<u32>>,
-    pub needs: Vec<Need>,
-    // Whether each vertex from 0 on is gone.
-    pub gone: Vec<bool>,
+    // Of its vertices those who are gone aren't present.
+    pub store: Store,
     // How many vertices aren't gone, and how many are required.
     pub left: u32,
     pub required: u32,
@@ -42,41 +36,21 @@ impl Rest {
         ensures kept { IfOk result IsKept }
         ensures all { IfOk result (λ rest. state_of rest ≡ whole instance.now) }
     {
-        let vertices = instance.vertices();
-        let links = links_by_pair(alloc, instance)?;
-        let rows = rows_of(alloc, instance)?;
-        let needs = Vec::from_slice(alloc, instance.needs())?;
-        let gone = no_marks(alloc, vertices)?;
-        let required = count_required(&needs);
+        let store = Store::of(alloc, instance)?;
         Ok(Rest {
-            vertices,
-            links,
-            rows,
-            needs,
-            gone,
-            left: vertices,
-            required,
+            store,
+            left: instance.vertices(),
+            required: count_required(instance.needs()),
             offset: 0,
         })
     }
 
-    // What is left as an instance.
-    pub fn instance(&self, alloc: Global) -> Result<Instance, AllocError>
-        requires { IsKept self.now }
-        ensures { IfOk result (λ instance. instance ≡ (state_of self.now).instance) }
-    {
-        let links = list_of(alloc, &self.links)?;
-        let needs = Vec::from_slice(alloc, &self.needs)?;
-        Instance::from_parts(alloc, self.vertices, links, needs)
-    }
-
     // The vertices that are gone, ascending.
     pub fn gone_vertices(&self, alloc: Global) -> Result<Vec<u32>, AllocError>
-        requires { IsKept self.now }
         ensures { IfOk result (λ gone. gone.items ≡ (state_of self.now).gone) }
     {
         let mut gone = Vec::new(alloc);
-        for before in 0..self.vertices {
+        for before in 0..self.store.vertices() {
             self.push_gone(&mut gone, before + 1)?;
         }
         Ok(gone)
@@ -84,31 +58,19 @@ impl Rest {
 
     // Puts a vertex after the others if it is gone.
     fn push_gone(&self, gone: &mut Vec<u32>, vertex: u32) -> Result<(), AllocError>
-        requires marks { vertex < length self.now.gone.items }
+        requires { IsVertex self.now.store.network.n vertex }
         ensures { OnOk result (gone.new.items ≡ gone.old.items
-            ++ (if slice_index_or self.now.gone.items vertex false then vertex ∷ [] else [])) }
+            ++ (if is_in self.now.store vertex then [] else vertex ∷ [])) }
     {
-        if self.gone[vertex as usize] {
-            gone.push(vertex)?;
+        if self.store.is_present(vertex) {
+            return Ok(());
         }
+        gone.push(vertex)?;
         Ok(())
-    }
-
-    // What leads trees back over a step that takes the vertex between two others.
-    pub fn undo_through(&self, vertex: u32, a: u32, b: u32, first: u64, second: u64) -> Undo
-        requires kept { IsKept self.now }
-        requires through { IsThrough (state_of self.now) vertex a b first second }
-        ensures { FitsThrough (state_of self.now) vertex a b (first + second) result }
-    {
-        match cost_between(&self.links, a, b) {
-            Some(known) if known <= first + second => Undo::Keep,
-            _ => Undo::Past { vertex, a, b },
-        }
     }
 
     // Whether a vertex isn't gone, isn't required and pays nothing.
     fn is_idle(&self, vertex: u32) -> bool
-        requires { IsKept self.now }
         ensures { IsTrue result ↔ IsIdle (state_of self.now) vertex }
     {
         if !self.is_vertex(vertex) {
@@ -117,42 +79,28 @@ impl Rest {
         if self.is_gone(vertex) {
             return false;
         }
-        pays_nothing(self.need(vertex))
+        pays_nothing(self.store.need(vertex))
     }
 
     fn is_gone(&self, vertex: u32) -> bool
-        requires kept { IsKept self.now }
-        requires vertex { IsVertex self.now.vertices vertex }
+        requires { IsVertex self.now.store.network.n vertex }
         ensures { result ≡ has (state_of self.now).gone vertex }
     {
-        self.gone[vertex as usize]
-    }
-
-    fn need(&self, vertex: u32) -> Need
-        requires kept { IsKept self.now }
-        requires vertex { IsVertex self.now.vertices vertex }
-        ensures { result ≡ need_of (state_of self.now).instance vertex }
-    {
-        self.needs[vertex as usize - 1]
+        !self.store.is_present(vertex)
     }
 
     // Whether this is the number of a vertex, gone or not.
     fn is_vertex(&self, vertex: u32) -> bool
-        ensures { IsTrue result ↔ IsVertex self.now.vertices vertex }
+        ensures { IsTrue result ↔ IsVertex self.now.store.network.n vertex }
     {
-        vertex >= 1 && vertex <= self.vertices
+        vertex >= 1 && vertex <= self.store.vertices()
     }
 
-    // Where the links of a vertex lead.
-    pub fn ends(&mut self, vertex: u32) -> Ends
-        requires kept { IsKept self.old }
-        requires vertex { IsVertex self.old.vertices vertex }
-        ensures kept { IsKept self.new }
-        ensures same { state_of self.new ≡ state_of self.old }
-        ensures ends { HasEnds (links_of self.old.links.entries) vertex result }
-        ensures few { (self.new.left ≡ self.old.left) × (self.new.required ≡ self.old.required) }
+    fn is_needed(&self, vertex: u32) -> bool
+        requires { IsVertex self.now.store.network.n vertex }
+        ensures { result ≡ is_required self.now.store.network vertex }
     {
-        ends_of(&mut self.rows, &self.links, vertex)
+        must_be_reached(self.store.need(vertex))
     }
 
     // Takes a vertex with one link at most that needs nothing, where another vertex is left.
@@ -161,75 +109,66 @@ impl Rest {
         ensures kept { IsKept self.new }
         ensures taken { OnTrue result (TakesPendant (state_of self.old) (state_of self.new) vertex) }
         ensures refused { OnFalse result (¬ IsPendant (state_of self.old) vertex) }
-        ensures same { OnFalse result (state_of self.new ≡ state_of self.old) }
+        ensures same { OnFalse result (self.new ≡ self.old) }
     {
-        let Some(ends) = self.pendant_ends(vertex) else {
+        if !self.is_pendant(vertex) {
             return false;
-        };
-        self.take_idle(vertex, ends);
+        }
+        self.store.remove_vertex(vertex);
+        self.left -= 1;
         true
     }
 
-    // Where the links of such a vertex lead.
-    fn pendant_ends(&mut self, vertex: u32) -> Option<Ends>
-        requires { IsKept self.old }
-        ensures kept { IsKept self.new }
-        ensures same { state_of self.new ≡ state_of self.old }
-        ensures found { IfSome result (λ ends. IsPendant (state_of self.old) vertex
-            × HasEnds (links_of self.new.links.entries) vertex ends × AreFew ends) }
-        ensures none { IfNone result (¬ IsPendant (state_of self.old) vertex) }
+    // Whether there is such a vertex.
+    fn is_pendant(&self, vertex: u32) -> bool
+        requires { IsKept self.now }
+        ensures { IsTrue result ↔ IsPendant (state_of self.now) vertex }
     {
         if self.left < 2 {
-            return None;
+            return false;
         }
         if !self.is_idle(vertex) {
-            return None;
+            return false;
         }
-        let ends = self.ends(vertex);
-        match ends {
-            Ends::Nobody => Some(ends),
-            Ends::One(_) => Some(ends),
-            Ends::Two(_, _) => None,
-            Ends::More => None,
+        match ends_of(&self.store, vertex) {
+            Ends::Nobody => true,
+            Ends::One(_) => true,
+            Ends::Two(_, _) => false,
+            Ends::More => false,
         }
-    }
-
-    // A vertex that needs nothing goes with its links.
-    fn take_idle(&mut self, vertex: u32, ends: Ends)
-        requires kept { IsKept self.old }
-        requires idle { IsIdle (state_of self.old) vertex }
-        requires ends { HasEnds (links_of self.old.links.entries) vertex ends }
-        requires few { AreFew ends }
-        ensures kept { IsKept self.new }
-        ensures becomes { let s = state_of self.old in
-            Becomes s (state_of self.new) (links_without s vertex) (need_of s.instance) (gone_with s vertex) s.offset }
-    {
-        take_all(&mut self.links, vertex, ends);
-        self.gone[vertex as usize] = true;
-        self.left -= 1;
     }
 
     // The two links of a vertex that needs nothing, if there are just two: where they lead, and
     // what they cost.
-    pub fn through_at(&mut self, vertex: u32) -> Option<(u32, u32, u64, u64)>
-        requires { IsKept self.old }
-        ensures kept { IsKept self.new }
-        ensures same { state_of self.new ≡ state_of self.old }
-        ensures found { IfSome result (λ links. IsThrough (state_of self.old) vertex links.0 links.1 links.2 links.3) }
-        ensures none { IfNone result ((a b x y : ℕ) → ¬ IsThrough (state_of self.old) vertex a b x y) }
+    pub fn through_at(&self, vertex: u32) -> Option<(u32, u32, u64, u64)>
+        ensures found { IfSome result (λ links. IsThrough (state_of self.now) vertex links.0 links.1 links.2 links.3) }
+        ensures none { IfNone result ((a b x y : ℕ) → ¬ IsThrough (state_of self.now) vertex a b x y) }
     {
         if !self.is_idle(vertex) {
             return None;
         }
-        let Ends::Two(a, b) = self.ends(vertex) else {
+        let Ends::Two(a, b) = ends_of(&self.store, vertex) else {
             return None;
         };
-        let first = cost_between(&self.links, vertex, a)?;
-        let second = cost_between(&self.links, vertex, b)?;
+        let first = self.store.link_cost(vertex, a)?;
+        let second = self.store.link_cost(vertex, b)?;
         Some((a, b, first, second))
     }
 
+    // What leads trees back over a step that takes the vertex between two others.
+    pub fn undo_through(&self, vertex: u32, a: u32, b: u32, first: u64, second: u64) -> Undo
+        requires kept { IsKept self.now }
+        requires through { IsThrough (state_of self.now) vertex a b first second }
+        ensures { FitsThrough (state_of self.now) vertex a b (first + second) result }
+    {
+        match self.store.link_cost(a, b) {
+            Some(known) if known <= first + second => Undo::Keep,
+            _ => Undo::Past { vertex, a, b },
+        }
+    }
+
     // The vertex between two others goes, and they are linked for what its links cost together.
+    // Until these are removed that link costs nothing, so that all costs together stay within their bound.
     pub fn take_through(
         &mut self,
         vertex: u32,
@@ -242,59 +181,32 @@ impl Rest {
         requires through { IsThrough (state_of self.old) vertex a b first second }
         ensures kept { IsKept self.new }
         ensures ok { OnOk result (TakesThrough (state_of self.old) (state_of self.new) vertex a b first second) }
-        ensures err { OnErr result (state_of self.new ≡ state_of self.old) }
+        ensures err { OnErr result (self.new ≡ self.old) }
     {
-        self.list_both(a, b)?;
-        self.take_between(vertex, a, b, first, second)
-    }
-
-    // The same where the two are listed for each other.
-    fn take_between(
-        &mut self,
-        vertex: u32,
-        a: u32,
-        b: u32,
-        first: u64,
-        second: u64,
-    ) -> Result<(), AllocError>
-        requires kept { IsKept self.old }
-        requires through { IsThrough (state_of self.old) vertex a b first second }
-        requires listed { IsTrue (has (row_at self.old.rows.items a) b)
-            × IsTrue (has (row_at self.old.rows.items b) a) }
-        ensures kept { IsKept self.new }
-        ensures ok { OnOk result (TakesThrough (state_of self.old) (state_of self.new) vertex a b first second) }
-        ensures err { OnErr result (state_of self.new ≡ state_of self.old) }
-    {
-        put_link(&mut self.links, a, b, first + second)?;
-        take_all(&mut self.links, vertex, Ends::Two(a, b));
-        self.gone[vertex as usize] = true;
+        let cost = self.cost_within(a, b, first + second);
+        self.store.put_link(a, b, 0)?;
+        remove_middle(&mut self.store, vertex, a, b);
+        self.store.set_cost(a, b, cost);
         self.left -= 1;
         Ok(())
     }
 
-    // Lists two vertices for each other.
-    fn list_both(&mut self, a: u32, b: u32) -> Result<(), AllocError>
-        requires kept { IsKept self.old }
-        requires a { IsVertex self.old.vertices a }
-        requires b { IsVertex self.old.vertices b }
-        ensures kept { IsKept self.new }
-        ensures same { self.new ≡ record self.old { rows = self.new.rows } }
-        ensures listed { OnOk result (IsTrue (has (row_at self.new.rows.items a) b)
-            × IsTrue (has (row_at self.new.rows.items b) a)) }
+    // What the link between two vertices costs, if there is one, or this where it is less.
+    fn cost_within(&self, a: u32, b: u32, cost: u64) -> u64
+        ensures { result ≡ least (state_of self.now) a b cost }
     {
-        list_for(&mut self.rows, a, b)?;
-        list_for(&mut self.rows, b, a)?;
-        Ok(())
+        match self.store.link_cost(a, b) {
+            Some(known) => cost.min(known),
+            None => cost,
+        }
     }
 
     // Where the only link of a required vertex leads, and what it costs, where another vertex is
     // required.
-    pub fn forced_at(&mut self, vertex: u32) -> Option<(u32, u64)>
-        requires { IsKept self.old }
-        ensures kept { IsKept self.new }
-        ensures same { state_of self.new ≡ state_of self.old }
-        ensures found { IfSome result (λ link. IsForced (state_of self.old) vertex link.0 link.1) }
-        ensures none { IfNone result ((u c : ℕ) → ¬ IsForced (state_of self.old) vertex u c) }
+    pub fn forced_at(&self, vertex: u32) -> Option<(u32, u64)>
+        requires { IsKept self.now }
+        ensures found { IfSome result (λ link. IsForced (state_of self.now) vertex link.0 link.1) }
+        ensures none { IfNone result ((u c : ℕ) → ¬ IsForced (state_of self.now) vertex u c) }
     {
         if !self.is_vertex(vertex) {
             return None;
@@ -305,10 +217,10 @@ impl Rest {
         if self.required < 2 {
             return None;
         }
-        let Ends::One(neighbour) = self.ends(vertex) else {
+        let Ends::One(neighbour) = ends_of(&self.store, vertex) else {
             return None;
         };
-        let cost = cost_between(&self.links, vertex, neighbour)?;
+        let cost = self.store.link_cost(vertex, neighbour)?;
         Some((neighbour, cost))
     }
 
@@ -320,11 +232,10 @@ impl Rest {
         ensures taken { TakesForced (state_of self.old) (state_of self.new) vertex neighbour cost }
     {
         let required = self.required_without(neighbour);
-        take_all(&mut self.links, vertex, Ends::One(neighbour));
-        self.gone[vertex as usize] = true;
+        remove_leaf(&mut self.store, vertex, neighbour);
+        self.store.set_need(vertex, Need::Pays(0));
+        self.store.set_need(neighbour, Need::Required);
         self.left -= 1;
-        self.needs[vertex as usize - 1] = Need::Pays(0);
-        self.needs[neighbour as usize - 1] = Need::Required;
         self.required = required;
         self.offset += cost;
     }
@@ -332,8 +243,8 @@ impl Rest {
     // How many are required once one is not, and another one is.
     fn required_without(&self, other: u32) -> u32
         requires kept { IsKept self.now }
-        requires other { IsVertex self.now.vertices other }
-        ensures { result + (if is_required (state_of self.now).instance other then 1 else 0) ≡ self.now.required }
+        requires other { IsVertex self.now.store.network.n other }
+        ensures { result + (if is_required self.now.store.network other then 1 else 0) ≡ self.now.required }
     {
         if self.is_needed(other) {
             self.required - 1
@@ -342,26 +253,18 @@ impl Rest {
         }
     }
 
-    fn is_needed(&self, vertex: u32) -> bool
-        requires kept { IsKept self.now }
-        requires vertex { IsVertex self.now.vertices vertex }
-        ensures { result ≡ is_required (state_of self.now).instance vertex }
-    {
-        must_be_reached(self.need(vertex))
-    }
-
     // Takes the link between two vertices, where a walk over the inner ones stands in for it.
     pub fn detour(&mut self, a: u32, b: u32, inner: &[u32]) -> bool
         requires { IsKept self.old }
         ensures kept { IsKept self.new }
         ensures taken { OnTrue result (TakesDetour (state_of self.old) (state_of self.new) a b inner.now) }
         ensures refused { OnFalse result (¬ IsDetour (state_of self.old).instance a b inner.now) }
-        ensures same { OnFalse result (state_of self.new ≡ state_of self.old) }
+        ensures same { OnFalse result (self.new ≡ self.old) }
     {
         if !self.is_detour(a, b, inner) {
             return false;
         }
-        take_link(&mut self.links, a, b);
+        self.store.remove_link(a, b);
         true
     }
 
@@ -370,7 +273,7 @@ impl Rest {
         requires { IsKept self.now }
         ensures { IsTrue result ↔ IsDetour (state_of self.now).instance a b inner.now }
     {
-        let Some(limit) = cost_between(&self.links, a, b) else {
+        let Some(limit) = self.store.link_cost(a, b) else {
             return false;
         };
         if inner.is_empty() {
@@ -401,12 +304,26 @@ impl Rest {
         if is_same_pair(a, b, from, to) {
             return None;
         }
-        let cost = cost_between(&self.links, from, to)?;
+        let cost = self.store.link_cost(from, to)?;
         if cost > limit - paid {
             return None;
         }
         Some(if self.is_needed(to) { 0 } else { paid + cost })
     }
+}
+
+// How many needs are Required.
+fn count_required(needs: &[Need]) -> u32
+    requires { length needs.now < 2 ^ 32 }
+    ensures { result ≡ count_to (λ v. is_needed (slice_index_or needs.now (v - 1) Required)) (length needs.now) }
+{
+    let mut count = 0;
+    for need in needs {
+        if must_be_reached(*need) {
+            count += 1;
+        }
+    }
+    count
 }
 
 fn pays_nothing(need: Need) -> bool

@@ -1,5 +1,4 @@
 pub mod Reversing
-pub mod Mirroring
 pub mod Shrinking
 pub mod Untouched
 pub mod Stepping

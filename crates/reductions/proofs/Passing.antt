@@ -5,19 +5,15 @@ use Rattle.std.specs.List.{AllByRecursion}
 use Rattle.std.specs.Bool.{OnTrue, OnFalse}
 use Rattle.std.proofs.lemmas.List.Elements.{All-nil, All-push, recursion_from_All}
 use Rattle.st_model.specs.declared.link.Link.{Link}
-use Rattle.st_model.specs.Network.{Network, IsVertex, joins, link}
+use Rattle.st_model.specs.Network.{Network, joins, link}
 use Rattle.st_model.proofs.Distinct.{joins-ends}
-use Rattle.graph_store.specs.Graph.{Graph}
 use Rattle.lift_back.specs.Detours.{IsDetour}
-use Rattle.lift_back.specs.State.{State, IsState}
 use Rattle.special_dist.specs.Answers.{HasNoDetour}
 use Rattle.reductions.specs.declared.work.Work.{Work}
 use Rattle.reductions.specs.Results.{HasNoDetourStep}
 use Rattle.reductions.specs.Sizes.{size}
-use Rattle.reductions.specs.Working.{HasTried, Mirrors}
-use Rattle.reductions.proofs.Mirroring.{same_detour}
+use Rattle.reductions.specs.Working.{HasTried}
 use Rattle.reductions.proofs.Reversing.{turned_detour}
-use Rattle.reductions.proofs.Stepping.{linked_vertices}
 
 -- where none of the links has a detour from its lower end on, none has any
 pub no_detours : (I : Network) → All (λ l. HasNoDetour I l.a l.b) I.links → (a b : ℕ) (inner : List ℕ) → IsDetour I a b inner → ⊥
@@ -34,17 +30,6 @@ no_detours I all a b inner detour = among I.links (recursion_from_All (λ l. Has
         by_pair : (p : Bool) → joins l a b ≡ p → IsSome (cond p (Some l.cost) (link ls a b)) → (IsSome (link ls a b) → ⊥) → ⊥
         by_pair true is there later = ends_are (joins-ends l a b is)
         by_pair false is there later = later there
-
--- where two are not linked there is no detour
-pub none_unlinked : (I : Network) (a b : ℕ) → link I.links a b ≡ None → HasNoDetour I a b
-none_unlinked I a b none inner detour = absurd (let there : IsSome {T = ℕ} None = subst (λ (o : Option ℕ). IsSome o) none detour.linked in cc)
-
--- what the graph says of detours holds of what is left, and the other way round
-pub none_mirrored : (s : State) (g : Graph) (a b : ℕ) → Mirrors s g → HasNoDetour g.network a b → HasNoDetour s.instance a b
-none_mirrored s g a b mirrors none inner detour = none inner (same_detour s.instance g.network a b inner mirrors.links mirrors.needs detour)
-
-pub detour_mirrored : (s : State) (g : Graph) (a b : ℕ) (inner : List ℕ) → Mirrors s g → IsDetour g.network a b inner → IsDetour s.instance a b inner
-detour_mirrored s g a b inner mirrors detour = same_detour g.network s.instance a b inner (λ u w. sym (mirrors.links u w)) (λ v. sym (mirrors.needs v)) detour
 
 -- what trying some links has done
 pub passed_none : (init : Work) (most : Option ℕ) → HasTried init init false most []
@@ -77,10 +62,6 @@ tried_all old new false links are tried = (
       no_detours old.reduced.state.instance (subst (All (λ l. HasNoDetour old.reduced.state.instance l.a l.b)) are (tried.none.1 refl)) a b inner
       (subst (λ (w : Work). IsDetour w.reduced.state.instance a b inner) tried.none.0 detour),
 )
-
--- a link for which a detour is found is one between vertices
-pub detour_ends : (s : State) (g : Graph) (a b : ℕ) (inner : List ℕ) → IsState s → Mirrors s g → IsDetour g.network a b inner → IsVertex g.network.n a × IsVertex g.network.n b
-detour_ends s g a b inner is mirrors detour = subst (λ (n : ℕ). IsVertex n a × IsVertex n b) (sym mirrors.count) (linked_vertices s.instance a b is.instance (detour_mirrored s g a b inner mirrors detour).linked)
 
 -- where something is surely dropped, nothing is said of the other case
 pub surely_dropped : {E : Type 0} (P : Type 0) (r : Result Bool E) → IfOk r (λ dropped. dropped ≡ true) → IfOk r (λ dropped. OnFalse dropped P)

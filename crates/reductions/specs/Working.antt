@@ -3,14 +3,13 @@ use Rattle.std.specs.Prelude.{◌≡◌, ℕ, ◌+◌, ◌*◌, ◌<◌, Bool, I
 use Rattle.std.specs.Bool.{OnTrue, OnFalse}
 use Rattle.st_model.specs.declared.link.Link.{Link}
 use Rattle.st_model.specs.Lists.{has}
-use Rattle.st_model.specs.Network.{IsVertex, link, need_of}
-use Rattle.graph_store.specs.Graph.{Graph}
+use Rattle.st_model.specs.Network.{IsVertex}
 use Rattle.lift_back.specs.declared.step.Step.{Step}
 use Rattle.lift_back.specs.declared.step.Step.TheVariants.{Pendant, Through, Forced, Detour}
 use Rattle.lift_back.specs.declared.ends.Ends.{Ends}
 use Rattle.lift_back.specs.declared.ends.Ends.TheVariants.{Nobody, One, Two, More}
 use Rattle.lift_back.specs.Ends.{HasEnds}
-use Rattle.lift_back.specs.State.{State, IsState, whole}
+use Rattle.lift_back.specs.State.{IsState, whole}
 use Rattle.lift_back.specs.Steps.{Applies, Takes}
 use Rattle.special_dist.specs.Answers.{HasNoDetour}
 use Rattle.reductions.specs.declared.work.Work.{Work}
@@ -64,12 +63,6 @@ pub record HasGone (old new : Work) (v : ℕ) (ends : Ends) : Type 0 where
 -- how much is still to be done
 abbrev pub load : Work → ℕ
 load w = 3 * size w.reduced.state + length w.queue.items
-
--- the graph is what is left, but for the order of its links
-pub record Mirrors (s : State) (g : Graph) : Type 0 where
-  pub count : g.network.n ≡ s.instance.n
-  pub links : (u w : ℕ) → link g.network.links u w ≡ link s.instance.links u w
-  pub needs : (v : ℕ) → need_of g.network v ≡ need_of s.instance v
 
 -- these links were tried: where none was dropped nothing has changed, and where no search may give up none of them has a detour
 pub record HasTried (old new : Work) (any : Bool) (most : Option ℕ) (links : List Link) : Type 0 where

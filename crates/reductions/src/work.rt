@@ -8,7 +8,7 @@ ghost use Rattle.lift_back.specs.Steps.{MayTake};
 ghost use Rattle.special_dist.specs.Answers.{HasNoDetour};
 ghost use Rattle.reductions.specs.Results.{HasNoDetourStep, HasNoStepAt};
 ghost use Rattle.reductions.specs.Sizes.{size};
-ghost use Rattle.reductions.specs.Working.{HasGone, HasTried, IsSettled, IsWork, Mirrors, TookStep, Went, load, row_of};
+ghost use Rattle.reductions.specs.Working.{HasGone, HasTried, IsSettled, IsWork, TookStep, Went, load, row_of};
 
 use graph_store::Store;
 use lift_back::{ApplyError, Ends, Reduced, Step};
@@ -139,9 +139,8 @@ impl Work {
         ensures first { self.new.reduced.first ≡ self.old.reduced.first }
         ensures finder { finder.new ≡ finder.old }
     {
-        let instance = self.reduced.instance(alloc)?;
-        let mut store = Store::of(alloc, &instance)?;
-        let any = self.try_links(alloc, finder, &mut store, instance.links(), None)?;
+        let links = self.reduced.store().links(alloc)?;
+        let any = self.try_links(alloc, finder, &links, None)?;
         Ok(any)
     }
 
@@ -160,31 +159,8 @@ impl Work {
         ensures first { self.new.reduced.first ≡ self.old.reduced.first }
         ensures finder { finder.new ≡ finder.old }
     {
-        let instance = self.reduced.instance(alloc)?;
-        let mut store = Store::of(alloc, &instance)?;
-        self.try_dearest(alloc, finder, &mut store, instance.links(), ends, most)
-    }
-
-    // Looks for a detour that is soon found for each of some links, or for those with an end in a set, the
-    // dearest first, and takes those that it finds.
-    fn try_dearest(
-        &mut self,
-        alloc: Global,
-        finder: &mut Finder,
-        store: &mut Store,
-        links: &[Link],
-        ends: Option<&VertexSet>,
-        most: u32,
-    ) -> Result<(), AllocError>
-        requires work { IsWork self.old self.old.queue.items }
-        requires mirrors { Mirrors self.old.reduced.state store.old }
-        requires finder { finder.old ≡ self.old.reduced.first.n }
-        ensures work { OnOk result (IsWork self.new self.new.queue.items) }
-        ensures first { self.new.reduced.first ≡ self.old.reduced.first }
-        ensures finder { finder.new ≡ finder.old }
-    {
-        let links = dearest_first(alloc, links, ends)?;
-        self.try_links(alloc, finder, store, &links, Some(most))?;
+        let links = dearest_first(alloc, self.reduced.store(), ends)?;
+        self.try_links(alloc, finder, &links, Some(most))?;
         Ok(())
     }
 
@@ -194,12 +170,10 @@ impl Work {
         &mut self,
         alloc: Global,
         finder: &mut Finder,
-        store: &mut Store,
         links: &[Link],
         most: Option<u32>,
     ) -> Result<bool, AllocError>
         requires work { IsWork self.old self.old.queue.items }
-        requires mirrors { Mirrors self.old.reduced.state store.old }
         requires finder { finder.old ≡ self.old.reduced.first.n }
         ensures work { OnOk result (IsWork self.new self.new.queue.items) }
         ensures tried { IfOk result (λ any. HasTried self.old self.new any most links.now) }
@@ -208,7 +182,7 @@ impl Work {
     {
         let mut any = false;
         for link in links {
-            let dropped = self.drops(alloc, finder, store, link.a, link.b, most)?;
+            let dropped = self.drops(alloc, finder, link.a, link.b, most)?;
             any = any | dropped;
         }
         Ok(any)
@@ -219,16 +193,13 @@ impl Work {
         &mut self,
         alloc: Global,
         finder: &mut Finder,
-        store: &mut Store,
         a: u32,
         b: u32,
         most: Option<u32>,
     ) -> Result<bool, AllocError>
         requires work { IsWork self.old self.old.queue.items }
-        requires mirrors { Mirrors self.old.reduced.state store.old }
         requires finder { finder.old ≡ self.old.reduced.first.n }
         ensures work { OnOk result (IsWork self.new self.new.queue.items) }
-        ensures mirrors { OnOk result (Mirrors self.new.reduced.state store.new) }
         ensures some { IfOk result (λ dropped. OnTrue dropped
             (size self.new.reduced.state < size self.old.reduced.state)) }
         ensures none { IfOk result (λ dropped. OnFalse dropped
@@ -236,29 +207,22 @@ impl Work {
         ensures first { self.new.reduced.first ≡ self.old.reduced.first }
         ensures finder { finder.new ≡ finder.old }
     {
+        let store = self.reduced.store();
         if store.link_cost(a, b).is_none() {
             return Ok(false);
         }
         match finder.find(alloc, store, a, b, most)? {
-            Found::Detour(inner) => self.drop_link(store, a, b, Listed::of(inner)),
+            Found::Detour(inner) => self.drop_link(a, b, Listed::of(inner)),
             Found::Nothing => Ok(false),
             Found::GaveUp => Ok(false),
         }
     }
 
     // Takes a detour for a link. Its ends are to be looked at then.
-    fn drop_link(
-        &mut self,
-        store: &mut Store,
-        a: u32,
-        b: u32,
-        inner: Listed<u32>,
-    ) -> Result<bool, AllocError>
+    fn drop_link(&mut self, a: u32, b: u32, inner: Listed<u32>) -> Result<bool, AllocError>
         requires work { IsWork self.old self.old.queue.items }
-        requires mirrors { Mirrors self.old.reduced.state store.old }
-        requires detour { IsDetour store.old.network a b inner }
+        requires detour { IsDetour self.old.reduced.state.instance a b inner }
         ensures work { OnOk result (IsWork self.new self.new.queue.items) }
-        ensures mirrors { OnOk result (Mirrors self.new.reduced.state store.new) }
         ensures dropped { IfOk result (λ dropped. dropped ≡ true) }
         ensures less { OnOk result (size self.new.reduced.state < size self.old.reduced.state) }
         ensures first { self.new.reduced.first ≡ self.old.reduced.first }
@@ -266,7 +230,6 @@ impl Work {
         if !self.take(Step::Detour { a, b, inner })? {
             return Ok(false);
         }
-        store.remove_link(a, b);
         push_ends(&mut self.queue, Ends::Two(a, b))?;
         Ok(true)
     }
@@ -301,25 +264,16 @@ fn all_vertices(alloc: Global, vertices: u32) -> Result<Vec<u32>, AllocError>
     Ok(all)
 }
 
-// The links, or those with an end in a set, the dearest first.
+// The links of a graph, or those with an end in a set, the dearest first.
 fn dearest_first(
     alloc: Global,
-    links: &[Link],
+    store: &Store,
     ends: Option<&VertexSet>,
 ) -> Result<Vec<Link>, AllocError> {
-    let mut kept = match ends {
-        Some(set) => with_end_in(alloc, links, set)?,
-        None => Vec::from_slice(alloc, links)?,
-    };
-    kept.sort_by_key(|link| Reverse(link.cost))?;
-    Ok(kept)
-}
-
-// The links with an end in a set.
-fn with_end_in(alloc: Global, links: &[Link], set: &VertexSet) -> Result<Vec<Link>, AllocError> {
-    links
-        .iter()
-        .copied()
-        .filter(|link| set.contains(link.a) || set.contains(link.b))
-        .collect(alloc)
+    let mut links = store.links(alloc)?;
+    if let Some(set) = ends {
+        links.retain(|link| set.contains(link.a) || set.contains(link.b));
+    }
+    links.sort_by_key(|link| Reverse(link.cost))?;
+    Ok(links)
 }

@@ -1,60 +1,20 @@
-use Rattle.std.proofs.Common.{rules, refl, ap, sym, ◌∙◌, arith, option_map}
-use Rattle.std.proofs.lemmas.Option.{slice_get_within}
-use Rattle.graph_store.specs.declared.joints.Joint.{Joint}
-use Rattle.graph_store.specs.Joined.{halves_at, links_of}
-use Rattle.graph_store.proofs.JointLemmas.{joint_of-ordered}
-use Rattle.graph_store.proofs.Keeping.{one_each}
-use Rattle.graph_store.proofs.LinkLemmas.{IsTold, is_told, link-joint}
-use Rattle.graph_store.proofs.Joining.{cheapened}
-use Rattle.graph_store.proofs.PutLinks.{put_link-entry, put_link-kept}
+use Rattle.std.proofs.Common.{sym, ◌∙◌}
+use Rattle.graph_store.proofs.Costs.{set_cost-put}
+use Rattle.graph_store.proofs.PutLinks.{put_link-kept}
 use Rattle.graph_store.proofs.links.Links.cheapen.Goals as goal
 
-pub returns-in_default-clause-no : goal.returns-in_default-clause-no
-returns-in_default-clause-no c = rw (← c.self.view_is) (refl, link-joint c.self.inside.joints.entries c.args.low c.args.high c.self.invariant.pairs.ordered ∙ ap (option_map (λ (joint : Joint). joint.cost)) (sym c.joint_between.ensures ∙ c.in_default.is))
-
 pub returns-in_default-clause-once : goal.returns-in_default-clause-once
-returns-in_default-clause-once c = rw (← c.self.view_is) (one_each c.self.inside.joints.entries c.self.invariant.pairs)
+returns-in_default-clause-once c = c.cost.ensures.once
 
-pub put_half_cost-requires-clause-place : goal.put_half_cost-requires-clause-place
-put_half_cost-requires-clause-place c =
-    let joint = c.in-Some.joint in
-    let known : IsTold c.self.inside.joints.entries c.args.low c.args.high joint = is_told c.self.inside.joints.entries c.args.low c.args.high c.args.low c.args.high joint c.self.invariant.pairs.ordered (omega arith) (omega arith) (sym c.in-Some.ensures) in
-    slice_get_within _ joint.low _ ((c.self.invariant.halves c.args.low).found c.args.high joint.low joint.cost known.low_place)
+pub returns-then-cost-known-clause-yes : goal.returns-then-cost-known-clause-yes
+returns-then-cost-known-clause-yes c =
+    let put = set_cost-put c.args.self.now.links c.args.low c.args.high c.args.cost c.in-Some.known (sym c.cost.ensures.cost ∙ c.in-Some.is) c.if-cost-known.true in
+    c.set_cost.ensures.cost ∙ (λ j. record { n = c.args.self.now.n; links = put j })
 
-pub put_half_cost-requires-then-cost-joint-clause-place : goal.put_half_cost-requires-then-cost-joint-clause-place
-put_half_cost-requires-then-cost-joint-clause-place c =
-    let joint = c.in-Some.joint in
-    let known : IsTold c.self.inside.joints.entries c.args.low c.args.high joint = is_told c.self.inside.joints.entries c.args.low c.args.high c.args.low c.args.high joint c.self.invariant.pairs.ordered (omega arith) (omega arith) (sym c.in-Some.ensures) in
-    let same = c.put_half_cost.ensures.others c.args.high (λ e. (let before = c.requires.ordered in omega arith)) in
-    rw same (slice_get_within _ joint.high _ ((c.self.invariant.halves c.args.high).found c.args.low joint.high joint.cost known.high_place))
+pub returns-else-cost-known-clause-yes : goal.returns-else-cost-known-clause-yes
+returns-else-cost-known-clause-yes c =
+    let same = put_link-kept c.args.self.now.links (record { a = c.args.low; b = c.args.high; cost = c.args.cost }) c.in-Some.known (sym c.cost.ensures.cost ∙ c.in-Some.is) c.if-cost-known.false in
+    λ j. record { n = c.args.self.now.n; links = sym same j }
 
-pub invariant_of-self : goal.invariant_of-self
-invariant_of-self c = record {
-  long = (search rules);
-  pairs = c.put_cost.ensures.pairs;
-  halves =
-      let joint = c.in-Some.joint in
-      let known : IsTold c.self.inside.joints.entries c.args.low c.args.high joint = is_told c.self.inside.joints.entries c.args.low c.args.high c.args.low c.args.high joint c.self.invariant.pairs.ordered (omega arith) (omega arith) (sym c.in-Some.ensures) in
-      let at = sym (joint_of-ordered c.args.low c.args.high c.self.inside.joints.entries c.requires.ordered) ∙ sym c.in-Some.ensures in
-      cheapened c.self.inside.joints.entries c.put_cost.new.joints.entries c.args.low c.args.high c.requires.ordered (halves_at c.self.inside.lists.items) c.self.invariant.halves joint c.args.cost (halves_at c.put_half_cost.new.lists.items) (halves_at c.put_half_cost-then-cost-joint.new.lists.items) at c.put_cost.ensures.entries known c.put_half_cost.ensures.here c.put_half_cost.ensures.others c.put_half_cost-then-cost-joint.ensures.here c.put_half_cost-then-cost-joint.ensures.others;
-}
-
-pub returns-then-cost-joint-clause-yes : goal.returns-then-cost-joint-clause-yes
-returns-then-cost-joint-clause-yes c =
-    let joint = c.in-Some.joint in
-    let at = sym (joint_of-ordered c.args.low c.args.high c.self.inside.joints.entries c.requires.ordered) ∙ sym c.in-Some.ensures in
-    let new = ap links_of c.put_cost.ensures.entries ∙ put_link-entry c.self.inside.joints.entries c.args.low c.args.high joint (record { cost = c.args.cost; low = joint.low; high = joint.high }) c.requires.ordered c.self.invariant.pairs.ordered at c.if-cost-joint.true in
-    rw (← c.self.view_is) (λ j. record { n = c.self.inside.vertices; links = new j })
-
-pub returns-then-cost-joint-clause-once : goal.returns-then-cost-joint-clause-once
-returns-then-cost-joint-clause-once c = one_each c.put_cost.new.joints.entries c.put_cost.ensures.pairs
-
-pub returns-else-cost-joint-clause-yes : goal.returns-else-cost-joint-clause-yes
-returns-else-cost-joint-clause-yes c =
-    let joint = c.in-Some.joint in
-    let some = link-joint c.self.inside.joints.entries c.args.low c.args.high c.self.invariant.pairs.ordered ∙ ap (option_map (λ (joint : Joint). joint.cost)) (sym c.in-Some.ensures) in
-    let same = put_link-kept (links_of c.self.inside.joints.entries) (record { a = c.args.low; b = c.args.high; cost = c.args.cost }) joint.cost some c.if-cost-joint.false in
-    rw (← c.self.view_is) (λ j. record { n = c.self.inside.vertices; links = sym same j })
-
-pub returns-else-cost-joint-clause-once : goal.returns-else-cost-joint-clause-once
-returns-else-cost-joint-clause-once c = rw (← c.self.view_is) (one_each c.self.inside.joints.entries c.self.invariant.pairs)
+pub returns-else-cost-known-clause-once : goal.returns-else-cost-known-clause-once
+returns-else-cost-known-clause-once c = c.cost.ensures.once

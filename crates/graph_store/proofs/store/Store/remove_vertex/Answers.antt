@@ -7,6 +7,9 @@ use Rattle.graph_store.proofs.store.Store.remove_vertex.Goals as goal
 pub invariant_of-self : goal.invariant_of-self
 invariant_of-self c = vertex_out c.self.inside.links c.self.inside.needs.items c.self.inside.present.items c.args.vertex c.requires.0 (rw (← c.self.view_is) at c.in_default.ensures.alone) c.self.invariant
 
+pub returns-clause-graph : goal.returns-clause-graph
+returns-clause-graph c = invariant_of-self c
+
 pub returns-clause-removes : goal.returns-clause-removes
 returns-clause-removes c = record {
   count = ap (λ (g : Graph). g.network.n) c.self.view_is ∙ c.loop-other.invariant.count;

@@ -1,4 +1,4 @@
-use Rattle.std.proofs.Common.{sym, subst, ap, List, ◌∙◌}
+use Rattle.std.proofs.Common.{sym, subst, ap, List}
 use Rattle.lift_back.specs.declared.undo.Undo.{Undo}
 use Rattle.lift_back.specs.Keeping.{state_of}
 use Rattle.lift_back.specs.Reduction.{Reduction}
@@ -12,10 +12,8 @@ pub invariant_of-self-2 : goal.invariant_of-self-2
 invariant_of-self-2 c = (
   c.take_forced.ensures.kept,
   subst (λ (l : List Undo). LeadBack c.self.inside.first l (state_of c.take_forced.new.self)) (sym c.in_ok-push_undo.ensures.ok)
-      (lead_forced c.self.inside.first c.self.inside.undos.items (state_of c.forced_at.new.self) (state_of c.take_forced.new.self) c.args.vertex c.in-Some.neighbour c.in-Some.cost c.forced_at.ensures.kept.state
-      (subst (LeadBack c.self.inside.first c.self.inside.undos.items) (sym c.forced_at.ensures.same) c.self.invariant.1)
-      c.take_forced.ensures.taken),
+      (lead_forced c.self.inside.first c.self.inside.undos.items (state_of c.self.inside.rest) (state_of c.take_forced.new.self) c.args.vertex c.in-Some.neighbour c.in-Some.cost c.self.invariant.0.state c.self.invariant.1 c.take_forced.ensures.taken),
 )
 
 pub returns-clause-ok : goal.returns-clause-ok
-returns-clause-ok c = (c.in-Some.neighbour, c.in-Some.cost, subst (λ (s : State). TakesForced s (state_of c.take_forced.new.self) c.args.vertex c.in-Some.neighbour c.in-Some.cost) (c.forced_at.ensures.same ∙ ap (λ (r : Reduction). r.state) c.self.view_is) c.take_forced.ensures.taken)
+returns-clause-ok c = (c.in-Some.neighbour, c.in-Some.cost, subst (λ (s : State). TakesForced s (state_of c.take_forced.new.self) c.args.vertex c.in-Some.neighbour c.in-Some.cost) (ap (λ (r : Reduction). r.state) c.self.view_is) c.take_forced.ensures.taken)

@@ -1,7 +1,4 @@
-use Rattle.std.proofs.Common.{sym, subst, ap, ◌∙◌}
-use Rattle.st_model.specs.Network.{link}
-use Rattle.lift_back.specs.Kept.{links_of}
-use Rattle.lift_back.specs.State.{State}
+use Rattle.std.proofs.Common.{sym, subst, ◌∙◌}
 use Rattle.lift_back.specs.Ends.{HasEnds}
 use Rattle.lift_back.proofs.Forcing.{some_required, two_required}
 use Rattle.lift_back.proofs.rest.Rest.forced_at.Goals as goal
@@ -13,11 +10,11 @@ pub returns-clause-found : goal.returns-clause-found
 returns-clause-found c =
     let vertex = c.is_vertex.ensures.0 c.if-not-is_vertex.false in
     let needed = sym c.is_needed.ensures ∙ c.if-not-is_needed.false in
-    let ends = subst (HasEnds (links_of c.args.self.now.links.entries) c.args.vertex) c.in-One.is c.ends.ensures.ends in
+    let ends = subst (HasEnds c.args.self.now.store.network.links c.args.vertex) c.in-One.is c.ends_of.ensures in
     record {
       vertex = vertex;
       required = needed;
-      linked = ap (λ (s : State). link s.instance.links c.args.vertex c.in-One.neighbour) (sym c.ends.ensures.same) ∙ (sym c.cost_between.ensures ∙ c.in_ok-cost.was);
+      linked = sym c.link_cost.ensures ∙ c.in_ok-cost.was;
       only = ends.1;
       other = some_required c.args.self.now c.args.vertex c.requires vertex needed c.if-self-lt2.false;
     }

@@ -3,17 +3,9 @@ use Rattle.std.specs.declared.alloc.Global.{Global}
 use Rattle.std.specs.declared.vec.Vec.{Vec}
 use Rattle.special_dist.proofs.Going.{on_true, on_false}
 use Rattle.reductions.specs.Working.{IsWork}
-use Rattle.reductions.proofs.Mirroring.{mirrors_without}
-use Rattle.reductions.proofs.Passing.{detour_ends, detour_mirrored}
 use Rattle.reductions.proofs.Starting.{same_but_queue}
 use Rattle.reductions.proofs.Stepping.{dropped_less, dropped_work}
 use Rattle.reductions.proofs.work.Work.drop_link.Goals as goal
-
-pub remove_link-requires-clause-a : goal.remove_link-requires-clause-a
-remove_link-requires-clause-a c = (detour_ends c.args.self.now.reduced.state c.args.store.now c.args.a c.args.b c.args.inner c.requires.work.state c.requires.mirrors c.requires.detour).0
-
-pub remove_link-requires-clause-b : goal.remove_link-requires-clause-b
-remove_link-requires-clause-b c = (detour_ends c.args.self.now.reduced.state c.args.store.now c.args.a c.args.b c.args.inner c.requires.work.state c.requires.mirrors c.requires.detour).1
 
 pub returns-clause-work : goal.returns-clause-work
 returns-clause-work c =
@@ -24,13 +16,6 @@ returns-clause-work c =
     let pushed : c.push_ends.new.queue.items ≡ old.queue.items ++ c.args.a ∷ c.args.b ∷ [] = c.in_ok-push_ends.ensures ∙ ap (λ (q : Vec ℕ Global). q.items ++ c.args.a ∷ c.args.b ∷ []) c.take.ensures.queue in
     subst (IsWork (record c.take.new.self { queue = c.push_ends.new.queue })) (sym pushed) (same_but_queue c.take.new.self c.push_ends.new.queue (old.queue.items ++ c.args.a ∷ c.args.b ∷ []) next)
 
-pub returns-clause-mirrors : goal.returns-clause-mirrors
-returns-clause-mirrors c =
-    let old = c.args.self.now in
-    let took = on_true c.in_ok-take.field-0 c.if-not-branch.false c.in_ok-take.ensures.took in
-    let state = on_true c.in_ok-take.field-0 c.if-not-branch.false c.in_ok-take.ensures.state in
-    mirrors_without old.reduced.state c.take.new.self.reduced.state c.args.store.now c.remove_link.new.self c.args.a c.args.b c.requires.work.state state c.requires.mirrors took.takes.becomes c.remove_link.ensures.removes
-
 pub returns-clause-less : goal.returns-clause-less
 returns-clause-less c =
     let old = c.args.self.now in
@@ -39,11 +24,7 @@ returns-clause-less c =
     dropped_less old c.take.new.self state c.take.ensures.first c.args.a c.args.b c.args.inner old.queue.items c.requires.work took
 
 pub returns-then-not-branch-clause-dropped : goal.returns-then-not-branch-clause-dropped
-returns-then-not-branch-clause-dropped c =
-    let refused = on_false c.in_ok-take.field-0 c.if-not-branch.true c.in_ok-take.ensures.refused in
-    absurd (refused.0 (detour_mirrored c.args.self.now.reduced.state c.args.store.now c.args.a c.args.b c.args.inner c.requires.mirrors c.requires.detour))
+returns-then-not-branch-clause-dropped c = absurd ((on_false c.in_ok-take.field-0 c.if-not-branch.true c.in_ok-take.ensures.refused).0 c.requires.detour)
 
 pub returns-then-not-branch-clause-less : goal.returns-then-not-branch-clause-less
-returns-then-not-branch-clause-less c =
-    let refused = on_false c.in_ok-take.field-0 c.if-not-branch.true c.in_ok-take.ensures.refused in
-    absurd (refused.0 (detour_mirrored c.args.self.now.reduced.state c.args.store.now c.args.a c.args.b c.args.inner c.requires.mirrors c.requires.detour))
+returns-then-not-branch-clause-less c = absurd ((on_false c.in_ok-take.field-0 c.if-not-branch.true c.in_ok-take.ensures.refused).0 c.requires.detour)

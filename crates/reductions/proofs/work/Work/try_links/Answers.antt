@@ -10,7 +10,7 @@ nothing : Link
 nothing = record { a = 0; b = 0; cost = 0 }
 
 pub loop-link-init : goal.loop-link-init
-loop-link-init c = record { work = c.requires.work; mirrors = c.requires.mirrors; first = refl; finder = refl; tried = passed_none c.args.self.now c.args.most }
+loop-link-init c = record { work = c.requires.work; first = refl; finder = refl; tried = passed_none c.args.self.now c.args.most }
 
 pub drops-requires-clause-finder : goal.drops-requires-clause-finder
 drops-requires-clause-finder c = c.loop-link.invariant.finder ∙ c.requires.finder ∙ sym (ap (λ (I : Network). I.n) c.loop-link.invariant.first)
@@ -22,7 +22,6 @@ loop-link-preserved c =
     let i = c.loop-link.link-index in
     record {
       work = c.in_ok-dropped.ensures.work;
-      mirrors = c.in_ok-dropped.ensures.mirrors;
       first = c.drops.ensures.first ∙ c.loop-link.invariant.first;
       finder = c.drops.ensures.finder ∙ c.loop-link.invariant.finder;
       tried = subst (HasTried c.args.self.now c.drops.new.self (c.loop-link.any || c.in_ok-dropped.dropped) c.args.most) (sym (take_more links i nothing c.loop-link-test.true))
