@@ -44,7 +44,7 @@ vertices_up_to n = by_recursion n (omega arith)
     by_recursion zero h = tt
     by_recursion (suc k) h = all_append (IsVertex n) (up_to k) (suc k ∷ []) (by_recursion k (omega arith)) ((omega arith, h), tt)
 
-has-up_to : (n v : ℕ) → IsVertex n v → IsTrue (has (up_to n) v)
+pub has-up_to : (n v : ℕ) → IsVertex n v → IsTrue (has (up_to n) v)
 has-up_to zero v h = let low = h.0 in let high = h.1 in absurd (omega arith)
 has-up_to (suc n) v h = list_any-append (λ x. x == v) (up_to n) (suc n ∷ []) ∙ elim (cases_lt v (suc n)) [
   | inl less ↦ rw (has-up_to n v (h.0, omega arith)) refl

@@ -27,10 +27,6 @@ pub map_snoc : {A B : Type 0} (f : A → B) (xs : List A) (x : A) → map f (xs 
 map_snoc f [] x = refl
 map_snoc f (y ∷ ys) x = λ i. f y ∷ map_snoc f ys x i
 
-pub map_long : {A B : Type 0} (f : A → B) (xs : List A) → length (map f xs) ≡ length xs
-map_long f [] = refl
-map_long f (x ∷ xs) = ap suc (map_long f xs)
-
 -- what was made, and what is to come
 pub moves_on : (made after os now : List End) (o e : End) (Q : List (RowsId × Global)) → os ≡ o ∷ now → after ≡ made ++ e ∷ [] → e.queue ≡ o.queue → map queue_of made ++ map queue_of os ≡ Q → map queue_of after ++ map queue_of now ≡ Q
 moves_on made after os now o e Q is grown same was =

@@ -4,16 +4,17 @@ use Rattle.std.specs.Prelude.{All, flat_map}
 use Rattle.std.specs.List.{sum_by}
 use Rattle.std.proofs.lemmas.List.Sums.{sum_by-cons, sum_by-append}
 use Rattle.std.specs.declared.alloc.Global.{Global}
+use Rattle.std.proofs.lemmas.List.{length-map}
 use Rattle.atomic_blocks.specs.Lent.{RowsId}
 use Rattle.branching.specs.declared.node.Node.{Node}
 use Rattle.node_pool.specs.Lane.{both}
 use Rattle.node_pool.specs.Ends.{End, end, put_by, queue_of, rest_of}
 use Rattle.node_pool.specs.Pool.{Station, own_put, list_of, puts, takes, tails, IsLeftOf}
 use Rattle.node_pool.specs.Sides.{rejoined, AreSides}
-use Rattle.node_pool.proofs.Lists.{all_head, all_tail, map_long}
+use Rattle.node_pool.proofs.Lists.{all_head, all_tail}
 
 pub lengths : (os ts : List End) → map queue_of ts ≡ map queue_of os → length ts ≡ length os
-lengths os ts e = sym (map_long queue_of ts) ∙ ap (λ (l : List (RowsId × Global)). length l) e ∙ map_long queue_of os
+lengths os ts e = sym (length-map ts queue_of) ∙ ap (λ (l : List (RowsId × Global)). length l) e ∙ length-map os queue_of
 
 pub rejoined_queues : (os ts : List End) → map queue_of (rejoined os ts) ≡ map queue_of os
 rejoined_queues [] ts = refl
@@ -99,6 +100,6 @@ rests_are_tails (o ∷ os) = ap (λ l. rest_of o ++ l) (rests_are_tails os)
 pub left_in_order : (passes : List Station) (os : List End) (left lists more : List Node) → left ≡ lists ++ more → lists ≡ flat_map list_of passes → more ≡ flat_map rest_of os → map put_by os ≡ map own_put passes → IsLeftOf passes left
 left_in_order passes os left lists more is held drained same = (
   map gone_of os,
-  map_long gone_of os ∙ sym (map_long put_by os) ∙ ap (λ (l : List (List Node)). length l) same ∙ map_long own_put passes,
+  length-map os gone_of ∙ sym (length-map os put_by) ∙ ap (λ (l : List (List Node)). length l) same ∙ length-map passes own_put,
   is ∙ ap (λ l. l ++ more) held ∙ ap (λ l. flat_map list_of passes ++ l) (drained ∙ rests_are_tails os ∙ ap (tails (map gone_of os)) same),
 )

@@ -2,13 +2,14 @@
 use Rattle.std.proofs.Common.{◌≡◌, ℕ, zero, suc, ◌+◌, ◌-◌, ◌<◌, List, [], ◌∷◌, ◌++◌, map, take, drop, get_or, length, sym, refl, ap, ◌∙◌, subst, arith}
 use Rattle.std.specs.Prelude.{All}
 use Rattle.std.specs.declared.alloc.Global.{Global}
+use Rattle.std.proofs.lemmas.List.{length-map}
 use Rattle.atomic_blocks.specs.Lent.{RowsId}
 use Rattle.node_pool.specs.declared.rule.Hand.{Hand}
 use Rattle.node_pool.specs.Lane.{hand}
 use Rattle.node_pool.specs.Ends.{End, queue_of}
 use Rattle.node_pool.specs.Pool.{Station, own_queue, queues_at}
 use Rattle.node_pool.specs.Sides.{IsNewPass, AreSides}
-use Rattle.node_pool.proofs.Lists.{all_cons, all_head, all_tail, map_long}
+use Rattle.node_pool.proofs.Lists.{all_cons, all_head, all_tail}
 
 pub all_but : (F : End → Type 0) (k : ℕ) (es : List End) → All F es → All F (take k es ++ drop (suc k) es)
 all_but F zero [] all = all
@@ -40,7 +41,7 @@ at_place A q B es d is = sym (mapped es (length A) d (short es A q B is)) ∙ ap
   longer (x ∷ A) q B = let h = longer A q B in omega arith
 
   short : (es : List End) (A : List (RowsId × Global)) (q : RowsId × Global) (B : List (RowsId × Global)) → map queue_of es ≡ A ++ q ∷ B → length A < length es
-  short es A q B is = let a = longer A q B in let b : length (map queue_of es) ≡ length (A ++ q ∷ B) = ap (λ (l : List (RowsId × Global)). length l) is in let c = map_long queue_of es in omega arith
+  short es A q B is = let a = longer A q B in let b : length (map queue_of es) ≡ length (A ++ q ∷ B) = ap (λ (l : List (RowsId × Global)). length l) is in let c = length-map es queue_of in omega arith
 
 -- an end on which nothing was done
 abbrev pub IsUnused : End → Type 0
@@ -61,14 +62,14 @@ next_is Q n os now o ss later side ps count is it sum sides fresh unused =
     let sides' = subst (AreSides Q) it sides in
     let same : map queue_of side ≡ Q = all_head (λ s. map queue_of s ≡ Q) side later sides' in
     let sum' : map own_queue ps ++ o.queue ∷ map queue_of now ≡ Q = ap (λ (l : List End). map own_queue ps ++ map queue_of l) (sym is) ∙ sum in
-    let long : length side ≡ n = sym (map_long queue_of side) ∙ ap (λ (l : List (RowsId × Global)). length l) same ∙ count in
+    let long : length side ≡ n = sym (length-map side queue_of) ∙ ap (λ (l : List (RowsId × Global)). length l) same ∙ count in
     let fresh' = subst (All (λ (w : End). w.hand ≡ hand (65 - n) [] [])) is fresh in
     let at : (d : End) → (get_or side (length (map own_queue ps)) d).queue ≡ o.queue = λ d. at_place (map own_queue ps) o.queue (map queue_of now) side d (same ∙ sym sum') in
     let total : length (map own_queue ps ++ o.queue ∷ map queue_of now) ≡ n = ap (λ (l : List (RowsId × Global)). length l) sum' ∙ count in
     record {
-      within = (let a = length_join (map own_queue ps) o.queue (map queue_of now) in let b = map_long own_queue ps in omega arith);
+      within = (let a = length_join (map own_queue ps) o.queue (map queue_of now) in let b = length-map ps own_queue in omega arith);
       long = long;
-      here = λ d. subst (λ k. (get_or side k d).queue ≡ o.queue) (map_long own_queue ps) (at d);
+      here = λ d. subst (λ k. (get_or side k d).queue ≡ o.queue) (length-map ps own_queue) (at d);
       own_fresh = all_head (λ (w : End). w.hand ≡ hand (65 - n) [] []) o now fresh' ∙ ap (λ k. hand (65 - k) [] []) (sym long);
       ends_unused = all_head (All IsUnused) side later (subst (All (All IsUnused)) it unused);
       same_queues = same;

@@ -3,15 +3,16 @@ use Rattle.std.proofs.Common.{◌≡◌, ℕ, zero, suc, ◌+◌, ◌<◌, ◌�
 use Rattle.std.specs.List.{sum_by}
 use Rattle.std.proofs.lemmas.List.Sums.{sum_by-cons, sum_by-append}
 use Rattle.std.specs.declared.alloc.Global.{Global}
+use Rattle.std.proofs.lemmas.List.{length-map}
 use Rattle.atomic_blocks.specs.Lent.{RowsId}
 use Rattle.branching.specs.declared.node.Node.{Node}
 use Rattle.node_pool.specs.Ends.{End, queue_of}
 use Rattle.node_pool.specs.Pool.{Station, own_queue, queues_at, puts, takes, gave, took, all_gave, all_took}
 use Rattle.node_pool.specs.Sides.{all_puts, all_takes}
-use Rattle.node_pool.proofs.Lists.{map_snoc, map_long}
+use Rattle.node_pool.proofs.Lists.{map_snoc}
 
 queues_long : (k : ℕ) (s : Station) → length (queues_at k s) ≡ suc (length s.others)
-queues_long k s = with_one k (map queue_of s.others) ∙ ap suc (map_long queue_of s.others) where
+queues_long k s = with_one k (map queue_of s.others) ∙ ap suc (length-map s queue_of.others) where
   with_one : (k : ℕ) (qs : List (RowsId × Global)) → length (take k qs ++ own_queue s ∷ drop k qs) ≡ suc (length qs)
   with_one zero [] = refl
   with_one zero (q ∷ qs) = refl
@@ -33,7 +34,7 @@ first_is Q owners rest now p is sum placed =
     let known : queues_at made p ≡ Q = subst (λ m. queues_at m p ≡ Q) (let e : made + 0 ≡ made = omega arith in e) (placed' 0 p (omega arith)) in
     let long = queues_long made p in let same : length (queues_at made p) ≡ length Q = ap (λ (l : List (RowsId × Global)). length l) known in
     let total : length (map queue_of owners ++ p.own.queue ∷ map own_queue now) ≡ length Q = ap (λ (l : List (RowsId × Global)). length l) (ap (λ (l : List Station). map queue_of owners ++ map own_queue l) (sym is) ∙ sum) in
-    let more = longer (map queue_of owners) p.own.queue (map own_queue now) in let count = map_long queue_of owners in
+    let more = longer (map queue_of owners) p.own.queue (map own_queue now) in let count = length-map owners queue_of in
     record {
       known = known;
       within = omega arith;

@@ -9,7 +9,7 @@ use Rattle.std.proofs.lemmas.Bool.Decides.{nat_tests}
 use Rattle.std.proofs.lemmas.List.Elements.{All-nil, All-cons, All-push, All-weaker, All-from_recursion, recursion_from_All}
 use Rattle.st_model.specs.Lists.{has, up_to}
 use Rattle.st_model.specs.Network.{Network, IsInstance, IsVertex}
-use Rattle.st_model.proofs.Marked.{has-push}
+use Rattle.lift_back.proofs.Counting.{has-up_to}
 use Rattle.lift_back.specs.declared.step.Step.{Step}
 use Rattle.lift_back.specs.Reduction.{Reduction}
 use Rattle.lift_back.specs.State.{State, IsState, whole}
@@ -27,21 +27,6 @@ all_up_to (suc n) = All-push (IsVertex (suc n)) (up_to n) (suc n) (All-weaker (I
 pub up_to_more : (n : ℕ) → up_to (n + 1) ≡ up_to n ++ (n + 1) ∷ []
 up_to_more n = rw add-one refl
 
-has_up_to : (n v : ℕ) → IsVertex n v → IsTrue (has (up_to n) v)
-has_up_to zero v vertex = absurd (let low = vertex.0 in let high = vertex.1 in omega arith)
-has_up_to (suc n) v vertex = has-push (up_to n) (suc n) v ∙ by_last (eqb (suc n) v) refl (has_up_to n v)
-  where
-    or_true : (b : Bool) → (b || true) ≡ true
-    or_true true = refl
-    or_true false = refl
-
-    below : eqb (suc n) v ≡ false → v ≤ n
-    below is = let high = vertex.1 in grind (arith, nat_tests)
-
-    by_last : (b : Bool) → eqb (suc n) v ≡ b → (IsVertex n v → IsTrue (has (up_to n) v)) → (has (up_to n) v || b) ≡ true
-    by_last true is before = or_true (has (up_to n) v)
-    by_last false is before = ap (λ p. p || false) (before (vertex.0, below is))
-
 -- what is no vertex has no step
 no_step_outside : (s : State) (v : ℕ) → (IsVertex s.instance.n v → ⊥) → HasNoStepAt s v
 no_step_outside s v outside = ((λ may. outside may.idle.vertex), (λ (a, b, x, y, may). outside may.idle.vertex), (λ (u, c, may). outside may.vertex))
@@ -52,7 +37,7 @@ whole_work w I is reduced steps queue = record {
   applies = subst (λ (s : List Step). Applies s (whole w.reduced.first) w.reduced.state) (sym steps) (ap (λ (r : Reduction). whole r.first) reduced ∙ sym (ap (λ (r : Reduction). r.state) reduced));
   state = subst IsState (sym (ap (λ (r : Reduction). r.state) reduced)) (whole_state I is);
   vertices = subst (λ (p : ℕ × List ℕ). All (IsVertex p.0) p.1) (λ j. (sym count j, sym queue j)) (all_up_to I.n);
-  tried = λ v missing. no_step_outside w.reduced.state v (λ vertex. absurd (let there = has_up_to I.n v (subst (λ (n : ℕ). IsVertex n v) count vertex) in let not_there : has (up_to I.n) v ≡ false = subst (λ (q : List ℕ). has q v ≡ false) queue missing in cc));
+  tried = λ v missing. no_step_outside w.reduced.state v (λ vertex. absurd (let there = has-up_to I.n v (subst (λ (n : ℕ). IsVertex n v) count vertex) in let not_there : has (up_to I.n) v ≡ false = subst (λ (q : List ℕ). has q v ≡ false) queue missing in cc));
 }
   where
     count : w.reduced.state.instance.n ≡ I.n
@@ -86,7 +71,6 @@ taken_off w queue v is work = same_but_queue w queue (v ∷ queue.items) (other_
     parts = all_parts Vertex queue.items (v ∷ []) (recursion_from_All Vertex (queue.items ++ v ∷ []) all)
 
     same : (u : ℕ) → has (v ∷ queue.items) u ≡ has w.queue.items u
-    same u = or_comm (eqb v u) (has queue.items u) ∙ sym (ap (λ xs. has xs u) is ∙ has-push queue.items v u)
 
 -- where nobody is left to be tried, no vertex goes by a step
 pub no_vertex_step : (w : Work) → IsSettled w → HasNoVertexStep w.reduced.state

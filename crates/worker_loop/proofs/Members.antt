@@ -1,7 +1,7 @@
 -- The workers of a team in their slots, as members of it.
 use Rattle.std.proofs.Common.{◌≡◌, ℕ, suc, ◌+◌, List, [], ◌∷◌, ◌++◌, length, append-nil, Option, Some, None, refl, sym, ap, ◌∙◌, subst, length-append, append_assoc, arith}
 use Rattle.std.specs.Prelude.{IfSome, map}
-use Rattle.std.proofs.lemmas.List.{map-append}
+use Rattle.std.proofs.lemmas.List.{map-append, length-map}
 use Rattle.st_model.specs.declared.branch.Branch.{Branch}
 use Rattle.st_model.specs.Network.{Network}
 use Rattle.search_core.specs.declared.gathered.Segment.{Segment}
@@ -10,17 +10,13 @@ use Rattle.worker_loop.specs.Run.{HasRun, Task}
 use Rattle.worker_loop.specs.Slots.{AreSeated, HasRunIn, HaveRunIn, IsSeated, account_of, pass_of, segment_of, sight_of}
 use Rattle.worker_loop.specs.Team.{HaveRun, Member, accounts, segments_of, sights}
 
-long : {A B : Type 0} (f : A → B) (xs : List A) → length (map f xs) ≡ length xs
-long f [] = refl
-long f (x ∷ xs) = ap suc (long f xs)
-
 -- what was made is all, where as many were made as there are
 pub used_all : {A B : Type 0} (f : A → B) (made : List A) (rest all : List B) (n : ℕ) → map f made ++ rest ≡ all → length made ≡ n → length all ≡ n → map f made ≡ all
 used_all f made [] all n e count wanted = sym (append-nil (map f made)) ∙ e
 used_all f made (x ∷ rest) all n e count wanted =
     let whole : length (map f made ++ x ∷ rest) ≡ length all = ap (λ xs. length xs) e in
     let parts : length (map f made ++ x ∷ rest) ≡ length (map f made) + length (x ∷ rest) = length-append (map f made) (x ∷ rest) in
-    let same : length (map f made) ≡ length made = long f made in
+    let same : length (map f made) ≡ length made = length-map made f in
     absurd (omega arith)
 
 -- one more is made of what comes next

@@ -1,10 +1,11 @@
 use Rattle.std.proofs.Common.{rules, arith, ◌≡◌, ◌+◌, ◌∷◌, ◌++◌, [], List, map, length, subst, sym, ap, ◌∙◌, append-nil}
 use Rattle.std.specs.Prelude.{All, flat_map}
 use Rattle.std.specs.List.{sum_by}
+use Rattle.std.proofs.lemmas.List.{length-map}
 use Rattle.branching.specs.declared.node.Node.{Node}
 use Rattle.node_pool.specs.Ends.{End, put_by, queue_of}
 use Rattle.node_pool.specs.Pool.{Station, own_put, own_queue, list_of, queues_at, all_gave, all_took}
-use Rattle.node_pool.proofs.Lists.{empty, all_push, all_join, flat_on, flat_whole, map_long, map_on, map_whole}
+use Rattle.node_pool.proofs.Lists.{empty, all_push, all_join, flat_on, flat_whole, map_on, map_whole}
 use Rattle.node_pool.proofs.TakingApart.{first_is, queues_on, gave_on, took_on}
 use Rattle.node_pool.proofs.closing.taken_apart.Goals as goal
 
@@ -39,7 +40,7 @@ loop-pass-preserved g c =
     let si : c.push-in-loop-pass.new.self.items ≡ sides ++ side ∷ [] = search rules in
     let le : c.append.new.self.items ≡ left ++ c.in_ok-owner.kept.items = search rules in
     let known : map queue_of side ≡ Q = c.in_ok-owner.ensures.side ∙ ap (λ k. queues_at k p) place ∙ first.known in
-    let long : length side ≡ n = sym (map_long queue_of side) ∙ ap (λ l. length l) known ∙ map_long own_queue c.args.passes.items in
+    let long : length side ≡ n = sym (length-map side queue_of) ∙ ap (λ l. length l) known ∙ length-map c own_queue.args.passes.items in
     let here : G o = (let a = c.in_ok-owner.ensures.parts in omega arith) in
     let grown : length c.push.new.self.items ≡ length owners + 1 = search rules in (
       tt,
@@ -72,7 +73,7 @@ returns-clause-whole g c =
     let i = c.loop-pass.invariant in
     let all : map queue_of c.loop-pass.owners.items ≡ map own_queue c.args.passes.items =
     sym (append-nil (map queue_of c.loop-pass.owners.items)) ∙ ap (λ (l : List Station). map queue_of c.loop-pass.owners.items ++ map own_queue l) (sym none) ∙ i.2 in
-    let long : length c.loop-pass.owners.items ≡ length c.args.passes.items = sym (map_long queue_of c.loop-pass.owners.items) ∙ ap (λ l. length l) all ∙ map_long own_queue c.args.passes.items in
+    let long : length c.loop-pass.owners.items ≡ length c.args.passes.items = sym (length-map c queue_of.loop-pass.owners.items) ∙ ap (λ l. length l) all ∙ length-map c own_queue.args.passes.items in
     λ k d lt. let a = i.5 k d lt in let b = i.4 in omega arith
 
 pub returns-clause-gave : goal.returns-clause-gave

@@ -1,10 +1,11 @@
 use Rattle.std.proofs.Common.{rules, arith, ◌≡◌, ◌+◌, ◌-◌, ◌<◌, ◌∷◌, ◌++◌, [], ℕ, List, map, length, subst, sym, ap, ◌∙◌}
 use Rattle.std.specs.Prelude.{All, slice_index_or}
+use Rattle.std.proofs.lemmas.List.{length-map}
 use Rattle.node_pool.specs.Lane.{hand}
 use Rattle.node_pool.specs.Ends.{End, queue_of}
 use Rattle.node_pool.specs.Pool.{Station, own_queue, queues_at}
 use Rattle.node_pool.specs.Sides.{AreSides, IsNewPass}
-use Rattle.node_pool.proofs.Lists.{all_push, all_tail, map_snoc, map_long}
+use Rattle.node_pool.proofs.Lists.{all_push, all_tail, map_snoc}
 use Rattle.node_pool.proofs.Seating.{IsUnused, next_is, seat_known, places_push_all}
 use Rattle.node_pool.proofs.opening.seated.Goals as goal
 
@@ -20,7 +21,7 @@ seat-requires g c =
     let side = c.into_vec.result.items in
     let is : os ≡ c.in-Some.owner ∷ now = search rules in
     let it : ss ≡ side ∷ later = search rules in
-    let next = next_is Q n os now c.in-Some.owner ss later side c.loop-owner.passes.items (map_long queue_of c.args.owners.items) is it i.2 i.3 i.5 i.6 in
+    let next = next_is Q n os now c.in-Some.owner ss later side c.loop-owner.passes.items (length-map c queue_of.args.owners.items) is it i.2 i.3 i.5 i.6 in
     let place : c.len-place.result ≡ length c.loop-owner.passes.items = search rules in
     let within = next.within in
     let long = next.long in
@@ -44,7 +45,7 @@ loop-owner-preserved g c =
     let side = c.into_vec.result.items in
     let is : os ≡ c.in-Some.owner ∷ now = search rules in
     let it : ss ≡ side ∷ later = search rules in
-    let next = next_is Q n os now c.in-Some.owner ss later side c.loop-owner.passes.items (map_long queue_of c.args.owners.items) is it i.2 i.3 i.5 i.6 in
+    let next = next_is Q n os now c.in-Some.owner ss later side c.loop-owner.passes.items (length-map c queue_of.args.owners.items) is it i.2 i.3 i.5 i.6 in
     let ps = c.loop-owner.passes.items in
     let p = c.seat.result in
     let more : c.push.new.self.items ≡ ps ++ p ∷ [] = search rules in
