@@ -2,8 +2,9 @@
 use Rattle.std.proofs.Common.{◌≡◌, ℕ, ◌+◌, List, [], ◌∷◌, ◌++◌, Some, None, inl, inr, length, sym, ap, subst, ◌∙◌, append_assoc, arith}
 use Rattle.std.proofs.lemmas.List.{length-map}
 use Rattle.st_model.specs.declared.branch.Branch.{Branch}
+use Rattle.st_model.specs.declared.split_at.SplitAt.TheVariants.{Vertex, Link}
 use Rattle.st_model.specs.Network.{Network}
-use Rattle.st_model.specs.Branch.{with_inside, with_outside}
+use Rattle.st_model.specs.Branch.{yes_half, no_half}
 use Rattle.log_format.specs.declared.kind.Kind.{Kind}
 use Rattle.log_format.specs.declared.proof_line.ProofLine.{ProofLine}
 use Rattle.log_format.specs.declared.proof_line.ProofLine.TheVariants.{Split, Close}
@@ -23,7 +24,7 @@ pub are_right : (I : Network) (x : ℕ) (Bs : List Branch) (lines : List ProofLi
 are_right I x [] [] right = tt
 are_right I x [] (line ∷ lines) right = right
 are_right I x (B ∷ Bs) [] right = right
-are_right I x (B ∷ Bs) (Split v ∷ lines) right = (right.0, are_right I x (with_inside B v ∷ with_outside B v ∷ Bs) lines right.1)
+are_right I x (B ∷ Bs) (Split at ∷ lines) right = (right.0, are_right I x (yes_half B at ∷ no_half B at ∷ Bs) lines right.1)
 are_right I x (B ∷ Bs) (Close P ∷ lines) right = (right.0, are_right I x Bs lines right.1)
 
 -- at the start, where no half waits
@@ -38,12 +39,13 @@ begins I x first path splits alone = record {
 pub goes_on : (I : Network) (x first : ℕ) (B : Branch) (lines : List ProofLine) (path next : List Turn) (number : ℕ) (line : ProofLine) → IsRightLine I x (branch_of path) line
     → path_after path line ≡ Some next → GoesOn I x first B lines path number
     → GoesOn I x first B (lines ++ line ∷ []) next (number + length (lines_of line))
-goes_on I x first B lines path next number (Split v) is_right e before =
+goes_on I x first B lines path next number (Split (Link _ _)) is_right e before = absurd is_right
+goes_on I x first B lines path next number (Split (Vertex v)) is_right e before =
     let same : Inside v ∷ path ≡ next = cc in
-    subst (λ (p : List Turn). GoesOn I x first B (lines ++ Split v ∷ []) p (number + 1)) same (record {
+    subst (λ (p : List Turn). GoesOn I x first B (lines ++ Split (Vertex v) ∷ []) p (number + 1)) same (record {
       splits = (is_right, before.splits);
-      right = λ rest right. subst (AreRight I x (B ∷ [])) (sym (append_assoc lines (Split v ∷ []) rest)) (before.right (Split v ∷ rest) (is_right, right));
-      wrong = λ rest line kind wrong. subst (λ (ls : List ProofLine). IsFirstWrong I x (B ∷ []) first ls line kind) (sym (append_assoc lines (Split v ∷ []) rest)) (before.wrong (Split v ∷ rest) line kind (inr (is_right, wrong)));
+      right = λ rest right. subst (AreRight I x (B ∷ [])) (sym (append_assoc lines (Split (Vertex v) ∷ []) rest)) (before.right (Split (Vertex v) ∷ rest) (is_right, right));
+      wrong = λ rest line kind wrong. subst (λ (ls : List ProofLine). IsFirstWrong I x (B ∷ []) first ls line kind) (sym (append_assoc lines (Split (Vertex v) ∷ []) rest)) (before.wrong (Split (Vertex v) ∷ rest) line kind (inr (is_right, wrong)));
     })
 goes_on I x first B lines path next number (Close P) is_right e before =
     let open_next = waiting_is path next e in
@@ -63,7 +65,8 @@ none_waits_after path e = waiting-next_path path ∙ ap opened e
 pub ends : (I : Network) (x first : ℕ) (B : Branch) (lines : List ProofLine) (path : List Turn) (number : ℕ) (line : ProofLine) → IsRightLine I x (branch_of path) line
     → path_after path line ≡ None → GoesOn I x first B lines path number
     → AreRight I x (B ∷ []) (lines ++ line ∷ [])
-ends I x first B lines path number (Split v) is_right e before = absurd cc
+ends I x first B lines path number (Split (Vertex v)) is_right e before = absurd cc
+ends I x first B lines path number (Split (Link _ _)) is_right e before = absurd is_right
 ends I x first B lines path number (Close P) is_right e before =
     before.right (Close P ∷ []) (is_right, subst (λ (Bs : List Branch). AreRight I x Bs []) (sym (none_waits_after path e)) tt)
 
@@ -71,8 +74,8 @@ ends I x first B lines path number (Close P) is_right e before =
 pub goes_wrong : (I : Network) (x first : ℕ) (B : Branch) (lines : List ProofLine) (path : List Turn) (number : ℕ) (line : ProofLine) (rest : List ProofLine) (l : ℕ) (k : Kind)
     → IsWrongLine I x (branch_of path) number line l k → GoesOn I x first B lines path number
     → IsFirstWrong I x (B ∷ []) first (lines ++ (line ∷ rest)) l k
-goes_wrong I x first B lines path number (Split v) rest l k (inl bad) before = before.wrong (Split v ∷ rest) l k (inl bad)
-goes_wrong I x first B lines path number (Split v) rest l k (inr good) before = absurd good.1
+goes_wrong I x first B lines path number (Split at) rest l k (inl bad) before = before.wrong (Split at ∷ rest) l k (inl bad)
+goes_wrong I x first B lines path number (Split at) rest l k (inr good) before = absurd good.1
 goes_wrong I x first B lines path number (Close P) rest l k (inl bad) before = before.wrong (Close P ∷ rest) l k (inl bad)
 goes_wrong I x first B lines path number (Close P) rest l k (inr (fits, inl light)) before = before.wrong (Close P ∷ rest) l k (inr (fits, inl light))
 goes_wrong I x first B lines path number (Close P) rest l k (inr (fits, inr good)) before = absurd good.1

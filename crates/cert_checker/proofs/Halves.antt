@@ -2,10 +2,12 @@
 use Rattle.std.proofs.Common.{◌≡◌, ℕ, zero, suc, ◌+◌, ◌-◌, ◌<◌, ◌≤◌, ◌^◌, List, [], ◌∷◌, ◌++◌, Option, Some, length, inl, inr, Err, Result, refl, sym, ap, subst, ◌∙◌, append_assoc, length-append, arith}
 use Rattle.std.proofs.lemmas.List.{append-nil, length-map}
 use Rattle.st_model.specs.declared.branch.Branch.{Branch}
+use Rattle.st_model.specs.declared.split_at.SplitAt.{SplitAt}
+use Rattle.st_model.specs.declared.split_at.SplitAt.TheVariants.{Vertex, Link}
 use Rattle.st_model.specs.Network.{Network}
 use Rattle.cut_packing.specs.declared.cut.Cut.{Cut}
 use Rattle.log_format.specs.declared.fault.LogFault.{LogFault}
-use Rattle.log_format.specs.declared.item.Item.TheVariants.{Split as SplitAt, CloseHead, OneCut}
+use Rattle.log_format.specs.declared.item.Item.TheVariants.{Split as OneSplit, CloseHead, OneCut}
 use Rattle.log_format.specs.declared.log.Claim.{Claim}
 use Rattle.log_format.specs.declared.log.Claim.TheVariants.{Found}
 use Rattle.log_format.specs.declared.proof_line.ProofLine.{ProofLine}
@@ -100,25 +102,27 @@ line_wrong I count p h line f claim more so_far wrong is =
 
 -- ---- a split
 
-split_judged : (I : Network) (count later : ℕ) (p : said_proving.Proving) (h : Proving) (v : ℕ) (next : Stage) → later < 2 ^ 63 + 2 → h.number ≤ later → IsProving I count p h
-    → IsAfterLine h (Split v) next → IsJudged I later (split_at p v) next
-split_judged I count later p h v (BeforeHalf q) below room so_far is =
+split_judged : (I : Network) (count later : ℕ) (p : said_proving.Proving) (h : Proving) (at : SplitAt) (next : Stage) → later < 2 ^ 63 + 2 → h.number ≤ later → IsProving I count p h
+    → IsAfterLine h (Split at) next → IsJudged I later (split_at p at) next
+split_judged I count later p h (Link _ _) (BeforeHalf q) below room so_far is = absurd is.right
+split_judged I count later p h (Vertex v) (BeforeHalf q) below room so_far is =
     let e : Some (Inside v ∷ h.path) ≡ Some q.path = is.next in
     let same : Inside v ∷ h.path ≡ q.path = cc in
     let wait : length (waiting q.path) ≡ p.waiting + 1 = omega (arith, ap (λ (path : List Turn). length (waiting path)) same, so_far.wait) in
-    inl (q, refl, line_next I count later p h q (Split v) (p.waiting + 1) so_far is below (omega (arith, room)) wait)
-split_judged I count later p h v (Right verdict) below room so_far is = let e = is.last in absurd cc
-split_judged I count later p h v (Wrong f) below room so_far wrong = inr (f, refl, λ claim (more, is). line_wrong I count p h (Split v) f claim more so_far wrong is)
-split_judged I count later p h v next below room so_far none = absurd none
+    inl (q, refl, line_next I count later p h q (Split (Vertex v)) (p.waiting + 1) so_far is below (omega (arith, room)) wait)
+split_judged I count later p h (Vertex v) (Right verdict) below room so_far is = let e = is.last in absurd cc
+split_judged I count later p h (Link _ _) (Right verdict) below room so_far is = absurd is.right
+split_judged I count later p h at (Wrong f) below room so_far wrong = inr (f, refl, λ claim (more, is). line_wrong I count p h (Split at) f claim more so_far wrong is)
+split_judged I count later p h at next below room so_far none = absurd none
 
-pub split_next : (I : Network) (count v : ℕ) (h : Proving) (next : Stage) (s : Said) → count < 2 ^ 63 → IsAfterLine h (Split v) next → IsJudged I count s (BeforeHalf h)
-    → IsJudged I (count + 1) (taken s (SplitAt v)) next
-split_next I count v h next (AtHalf p) below after judged =
-    let at = right_at I count (AtHalf p) (BeforeHalf h) (omega arith) judged in
-    let same : at.0.0 ≡ h = cc in
-    let so_far : IsProving I count p h = subst (IsProving I count p) same at.0.2 in
-    split_judged I count (count + 1) p h v next (omega (arith, below)) so_far.few so_far after
-split_next I count v h next s below after judged = let at = right_at I count s (BeforeHalf h) (omega arith) judged in absurd (omega (arith, at.1))
+pub split_next : (I : Network) (count : ℕ) (at : SplitAt) (h : Proving) (next : Stage) (s : Said) → count < 2 ^ 63 → IsAfterLine h (Split at) next → IsJudged I count s (BeforeHalf h)
+    → IsJudged I (count + 1) (taken s (OneSplit at)) next
+split_next I count at h next (AtHalf p) below after judged =
+    let is = right_at I count (AtHalf p) (BeforeHalf h) (omega arith) judged in
+    let same : is.0.0 ≡ h = cc in
+    let so_far : IsProving I count p h = subst (IsProving I count p) same is.0.2 in
+    split_judged I count (count + 1) p h at next (omega (arith, below)) so_far.few so_far after
+split_next I count at h next s below after judged = let is = right_at I count s (BeforeHalf h) (omega arith) judged in absurd (omega (arith, is.1))
 
 -- ---- a close
 

@@ -5,7 +5,7 @@ use Rattle.st_model.specs.Network.{Network}
 use Rattle.cut_packing.specs.declared.cut.Cut.{Cut}
 use Rattle.lift_back.specs.declared.step.Step.{Step}
 use Rattle.log_format.specs.declared.item.Item.{Item}
-use Rattle.log_format.specs.declared.item.Item.TheVariants.{OneStep, ProofHead, Split as SplitAt, CloseHead, OneCut, Last}
+use Rattle.log_format.specs.declared.item.Item.TheVariants.{OneStep, ProofHead, Split as OneSplit, CloseHead, OneCut, Last}
 use Rattle.log_format.specs.declared.log.Claim.{Claim}
 use Rattle.log_format.specs.declared.log.Claim.TheVariants.{Found}
 use Rattle.log_format.specs.declared.proof_line.ProofLine.{ProofLine}
@@ -44,7 +44,7 @@ may_before (AtArcs primal dual start arcs left) item claim may = tt
 may_before AtWall item claim may = tt
 may_before (AtSteps a left) (OneStep step) claim (more, proof, is) = (step ∷ more, proof, is ∙ ap (λ (r : List Step). Found a.primal a.dual a.tree r proof) (append_assoc a.steps (step ∷ []) more))
 may_before (AtSteps a left) ProofHead claim (more, is) = ([], more, is ∙ ap (λ (r : List Step). Found a.primal a.dual a.tree r more) (sym (append-nil a.steps)))
-may_before (AtHalf p) (SplitAt v) claim (more, is) = (Split v ∷ more, is ∙ ap (λ (r : List ProofLine). Found p.answer.primal p.answer.dual p.answer.tree p.answer.steps r) (append_assoc p.lines (Split v ∷ []) more))
+may_before (AtHalf p) (OneSplit at) claim (more, is) = (Split at ∷ more, is ∙ ap (λ (r : List ProofLine). Found p.answer.primal p.answer.dual p.answer.tree p.answer.steps r) (append_assoc p.lines (Split at ∷ []) more))
 may_before (AtHalf p) (CloseHead root count) claim may = cuts_before p root [] count claim may
 may_before (AtCuts p root cuts left) (OneCut c) claim may = cuts_before p root (cuts ++ c ∷ []) (left - 1) claim may
 may_before (AtEnd c) Last claim may = may

@@ -63,21 +63,21 @@ cuts_said p root before (c ∷ cuts) =
     ∙ (cuts_said p root (before ++ c ∷ []) cuts ∙ ap (λ (r : List Cut). cuts_left p root r 0) (append_assoc before (c ∷ []) cuts))
 
 -- the proof so far, with these lines and so many halves that wait
-abbrev at : Answer → List ProofLine → ℕ → Proving
-at a lines w = record { answer = a; lines = lines; waiting = w }
+abbrev so_far : Answer → List ProofLine → ℕ → Proving
+so_far a lines w = record { answer = a; lines = lines; waiting = w }
 
-tree_said : (t : ProofTree) (a : Answer) (lines : List ProofLine) (w : ℕ) → said_by (AtHalf (at a lines w)) (flat_map proof_items (preorder t)) ≡ closed a (lines ++ preorder t) w
+tree_said : (t : ProofTree) (a : Answer) (lines : List ProofLine) (w : ℕ) → said_by (AtHalf (so_far a lines w)) (flat_map proof_items (preorder t)) ≡ closed a (lines ++ preorder t) w
 tree_said (close P) a lines w =
-    ap (λ (r : List Item). said_by (cuts_left (at a lines w) P.root [] (length P.cuts)) r) (append-nil (map (λ c. OneCut c) P.cuts)) ∙ cuts_said (at a lines w) P.root [] P.cuts
-tree_said (split v inside outside) a lines w =
-    let first : List ProofLine = lines ++ Split v ∷ [] in
-    let second : List ProofLine = first ++ preorder inside in
+    ap (λ (r : List Item). said_by (cuts_left (so_far a lines w) P.root [] (length P.cuts)) r) (append-nil (map (λ c. OneCut c) P.cuts)) ∙ cuts_said (so_far a lines w) P.root [] P.cuts
+tree_said (split at p q) a lines w =
+    let first : List ProofLine = lines ++ Split at ∷ [] in
+    let second : List ProofLine = first ++ preorder p in
     let more : w + 1 ≡ suc w = omega arith in
-    ap (λ (r : List Item). said_by (AtHalf (at a first (w + 1))) r) (flat_map-append proof_items (preorder inside) (preorder outside))
-    ∙ (said_by-append (AtHalf (at a first (w + 1))) (flat_map proof_items (preorder inside)) (flat_map proof_items (preorder outside))
-    ∙ (ap (λ (s : Said). said_by s (flat_map proof_items (preorder outside))) (tree_said inside a first (w + 1) ∙ ap (closed a second) more)
-    ∙ (tree_said outside a second w
-    ∙ ap (λ (r : List ProofLine). closed a r w) (append_assoc first (preorder inside) (preorder outside) ∙ append_assoc lines (Split v ∷ []) (preorder inside ++ preorder outside)))))
+    ap (λ (r : List Item). said_by (AtHalf (so_far a first (w + 1))) r) (flat_map-append proof_items (preorder p) (preorder q))
+    ∙ (said_by-append (AtHalf (so_far a first (w + 1))) (flat_map proof_items (preorder p)) (flat_map proof_items (preorder q))
+    ∙ (ap (λ (s : Said). said_by s (flat_map proof_items (preorder q))) (tree_said p a first (w + 1) ∙ ap (closed a second) more)
+    ∙ (tree_said q a second w
+    ∙ ap (λ (r : List ProofLine). closed a r w) (append_assoc first (preorder p) (preorder q) ∙ append_assoc lines (Split at ∷ []) (preorder p ++ preorder q)))))
 
 claim_said : (claim : Claim) → IsProved claim → said_by AtClaim (claim_items claim) ≡ AtEnd claim
 claim_said (Found primal dual tree steps proof) (t, is) =

@@ -1,9 +1,10 @@
 -- An item that says nothing at its place leaves what is judged as it is.
 use Rattle.std.proofs.Common.{◌≡◌, ℕ, ◌+◌, List, Option, inl, inr}
+use Rattle.st_model.specs.declared.split_at.SplitAt.{SplitAt}
 use Rattle.st_model.specs.Network.{Network}
 use Rattle.cut_packing.specs.declared.cut.Cut.{Cut}
 use Rattle.lift_back.specs.declared.step.Step.{Step}
-use Rattle.log_format.specs.declared.item.Item.TheVariants.{Header, ClaimTree, ClaimNone, Wall, TreeHead, Arc, StepsHead, OneStep, ProofHead, Split as SplitAt, CloseHead, OneCut, Last}
+use Rattle.log_format.specs.declared.item.Item.TheVariants.{Header, ClaimTree, ClaimNone, Wall, TreeHead, Arc, StepsHead, OneStep, ProofHead, Split as OneSplit, CloseHead, OneCut, Last}
 use Rattle.log_format.specs.declared.stage.Stage.TheVariants.{AtHeader, AtClaim, AtTree, AtArcs, AtSteps, AtHalf, AtCuts, AtWall, AtEnd}
 use Rattle.log_format.specs.Places.{taken}
 use Rattle.cert_checker.specs.declared.stage.Stage.{Stage}
@@ -61,10 +62,10 @@ module _ (I : Network) (count : ℕ) (stage : Stage) where
   no_proof not s (inl right) = inl (right_later I count s stage right)
   no_proof not s (inr wrong) = inr (wrong_later I s ProofHead stage wrong)
 
-  pub no_split : ((h : Proving) → ¬ (stage ≡ BeforeHalf h)) → (v : ℕ) (s : Said) → IsJudged I count s stage → IsJudged I (count + 1) (taken s (SplitAt v)) stage
-  no_split not v (AtHalf p) (inl right) = absurd (not right.0 right.1)
-  no_split not v s (inl right) = inl (right_later I count s stage right)
-  no_split not v s (inr wrong) = inr (wrong_later I s (SplitAt v) stage wrong)
+  pub no_split : ((h : Proving) → ¬ (stage ≡ BeforeHalf h)) → (at : SplitAt) (s : Said) → IsJudged I count s stage → IsJudged I (count + 1) (taken s (OneSplit at)) stage
+  no_split not at (AtHalf p) (inl right) = absurd (not right.0 right.1)
+  no_split not at s (inl right) = inl (right_later I count s stage right)
+  no_split not at s (inr wrong) = inr (wrong_later I s (OneSplit at) stage wrong)
 
   pub no_close : ((h : Proving) → ¬ (stage ≡ BeforeHalf h)) → (root : Option ℕ) (cuts : ℕ) (s : Said) → IsJudged I count s stage → IsJudged I (count + 1) (taken s (CloseHead root cuts)) stage
   no_close not root cuts (AtHalf p) (inl right) = absurd (not right.0 right.1)

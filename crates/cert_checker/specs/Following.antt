@@ -3,9 +3,9 @@ use Rattle.std.specs.Prelude.{◌≡◌, ℕ, zero, suc, ◌+◌, ◌^◌, ◌�
 use Rattle.st_model.specs.declared.branch.Branch.{Branch}
 use Rattle.st_model.specs.declared.tree.Tree.{Tree}
 use Rattle.st_model.specs.Network.{Network}
-use Rattle.st_model.specs.Branch.{with_inside, with_outside}
+use Rattle.st_model.specs.Branch.{yes_half, no_half}
 use Rattle.cut_packing.specs.declared.cut.Cut.{Cut}
-use Rattle.cut_packing.specs.ProofTree.{IsSplit, Closes}
+use Rattle.cut_packing.specs.ProofTree.{IsSplitAt, Closes}
 use Rattle.lift_back.specs.declared.step.Step.{Step}
 use Rattle.lift_back.specs.State.{State, IsState, whole}
 use Rattle.lift_back.specs.Steps.{Applies, Takes}
@@ -56,7 +56,7 @@ abbrev pub AreRight : Network → ℕ → List Branch → List ProofLine → Typ
 AreRight I x [] [] = Unit {0}
 AreRight I x [] (line ∷ lines) = ⊥
 AreRight I x (B ∷ Bs) [] = ⊥
-AreRight I x (B ∷ Bs) (Split v ∷ lines) = IsSplit I B v × AreRight I x (with_inside B v ∷ with_outside B v ∷ Bs) lines
+AreRight I x (B ∷ Bs) (Split at ∷ lines) = IsSplitAt I B at × AreRight I x (yes_half B at ∷ no_half B at ∷ Bs) lines
 AreRight I x (B ∷ Bs) (Close P ∷ lines) = Closes I B x P × AreRight I x Bs lines
 
 -- the lines after these decide on all of them, which are to prove x of the branch: the first of those has this number and is of the branch at the end of this path

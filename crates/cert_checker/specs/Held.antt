@@ -26,7 +26,7 @@ cuts_left splits (suc left) = record { splits = splits; left = suc left }
 
 -- one more item
 abbrev pub opened : Open → Item → Open
-opened o (Split v) = record { splits = true ∷ o.splits; left = o.left }
+opened o (Split at) = record { splits = true ∷ o.splits; left = o.left }
 opened o (CloseHead root count) = cuts_left o.splits count
 opened o (OneCut c) = cuts_left o.splits (o.left - 1)
 opened o _ = o

@@ -5,7 +5,7 @@ use Rattle.st_model.specs.Network.{Network}
 use Rattle.st_model.specs.declared.tree.Tree.{Tree}
 use Rattle.st_model.specs.Arborescence.{IsTree, cost}
 use Rattle.cut_packing.specs.Packing.{Fits, weight}
-use Rattle.cut_packing.specs.ProofTree.{IsSplit, Closes}
+use Rattle.cut_packing.specs.ProofTree.{IsSplitAt, Closes}
 use Rattle.lift_back.specs.declared.step.Step.{Step}
 use Rattle.lift_back.specs.State.{State}
 use Rattle.lift_back.specs.Steps.{MayTake}
@@ -24,17 +24,17 @@ IfFault NoMemory P = Unit {0}
 
 -- the line is right of its branch, where x is to be proved
 abbrev pub IsRightLine : Network → ℕ → Branch → ProofLine → Type 0
-IsRightLine I x B (Split v) = IsSplit I B v
+IsRightLine I x B (Split at) = IsSplitAt I B at
 IsRightLine I x B (Close P) = Closes I B x P
 
--- the step may not be taken; at is the number of its line
+-- the step may not be taken; number is that of its line
 abbrev pub IsBadStep : State → ℕ → Step → ℕ → Kind → Type 0
-IsBadStep s at step line kind = FailsFirst (MayTake step s) at BadStep line kind ⊥
+IsBadStep s number step line kind = FailsFirst (MayTake step s) number BadStep line kind ⊥
 
--- the first check of the line that fails; at is its number
+-- the first check of the line that fails; number is its own
 abbrev pub IsWrongLine : Network → ℕ → Branch → ℕ → ProofLine → ℕ → Kind → Type 0
-IsWrongLine I x B at (Split v) line kind = FailsFirst (IsSplit I B v) at BadSplit line kind ⊥
-IsWrongLine I x B at (Close P) line kind = FailsFirst (Fits I B P) at BadPacking line kind (FailsFirst (x ≤ weight I B P) at TooLight line kind ⊥)
+IsWrongLine I x B number (Split at) line kind = FailsFirst (IsSplitAt I B at) number BadSplit line kind ⊥
+IsWrongLine I x B number (Close P) line kind = FailsFirst (Fits I B P) number BadPacking line kind (FailsFirst (x ≤ weight I B P) number TooLight line kind ⊥)
 
 -- a tree at this cost, and a bound that isn't above it
 pub record IsRightTree (I : Network) (primal dual : ℕ) (tree : Tree) : Type 0 where

@@ -3,6 +3,8 @@ use Rattle.std.specs.Prelude.{ℕ, nat_lt, if◌then◌else◌, List, [], ◌∷
 use Rattle.std.specs.List.{prefix_len}
 use Rattle.std.specs.List.Sorted.{IsNonDecreasing}
 use Rattle.st_model.specs.declared.branch.Branch.{Branch}
+use Rattle.st_model.specs.declared.split_at.SplitAt.{SplitAt}
+use Rattle.st_model.specs.declared.split_at.SplitAt.TheVariants.{Vertex, Link}
 use Rattle.st_model.specs.Network.{Network}
 use Rattle.st_model.specs.Branch.{with_inside, with_outside, all_trees}
 use Rattle.cut_packing.specs.ProofTree.{IsSplit}
@@ -70,7 +72,12 @@ abbrev pub turned_back : Branch → Turn → Branch
 turned_back B (Inside v) = record B { inside = without B.inside v }
 turned_back B (Outside v) = record B { outside = without B.outside v }
 
+-- the path to the half of its branch that says yes to a split, which is at a vertex: no branch is split at a link so far
+abbrev pub yes_path : List Turn → SplitAt → Option (List Turn)
+yes_path path (Vertex v) = Some (Inside v ∷ path)
+yes_path path (Link a b) = None
+
 -- the path to the first branch that is open after a right line, if one is
 abbrev pub path_after : List Turn → ProofLine → Option (List Turn)
-path_after path (Split v) = Some (Inside v ∷ path)
+path_after path (Split at) = yes_path path at
 path_after path (Close P) = next_path path

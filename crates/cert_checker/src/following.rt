@@ -205,7 +205,7 @@ pub fn after_item(
         Item::StepsHead(_) => after_arcs(alloc, instance, stage),
         Item::OneStep(step) => after_step(stage, &step),
         Item::ProofHead => after_steps(alloc, stage),
-        Item::Split(vertex) => after_split(alloc, stage, vertex),
+        Item::Split(at) => after_split(alloc, stage, at),
         Item::CloseHead { root, count } => after_head(alloc, stage, root, count),
         Item::OneCut(cut) => after_cut(alloc, stage, cut),
         Item::Last => Ok(stage),

@@ -1,16 +1,15 @@
 ghost use Rattle.std.specs.Prelude.{◌≡◌, ◌↔◌, ◌∷◌, length, IsTrue, IfOk, OnOk, IfErr};
 ghost use Rattle.cut_packing.specs.Packing.{Fits};
-ghost use Rattle.cut_packing.specs.ProofTree.{IsSplit, Closes};
+ghost use Rattle.cut_packing.specs.ProofTree.{IsSplit, IsSplitAt, Closes};
 ghost use Rattle.log_format.specs.Text.{lines_of};
-ghost use Rattle.cert_checker.specs.Path.{IsInOrder, branch_of, next_path, path_after, AreSplits};
+ghost use Rattle.cert_checker.specs.Path.{IsInOrder, branch_of, next_path, yes_path, path_after, AreSplits};
 ghost use Rattle.cert_checker.specs.Judging.{IfFault, IsRightLine, IsWrongLine};
 
 use crate::JudgeError;
 use crate::path::Path;
-use crate::turn::Turn;
 use cut_packing::{Packing, fits, weight};
 use log_format::{Kind, ProofLine};
-use st_model::{Branch, Instance, Need, Sides};
+use st_model::{Branch, Instance, Need, Sides, SplitAt};
 use std::alloc::{AllocError, Global};
 
 // How many lines of the text a line of a proof takes.
@@ -40,27 +39,38 @@ pub fn judge_line(
         (IsWrongLine instance.now dual (branch_of path) number line.now)) }
 {
     match line {
-        ProofLine::Split(vertex) => judge_split(instance, number, path, *vertex),
+        ProofLine::Split(at) => judge_split(instance, number, path, *at),
         ProofLine::Close(packing) => judge_close(alloc, instance, dual, number, path, packing),
     }
 }
 
-// Judges a split. Where it is right, the path to its half with the vertex inside.
+// Judges a split. Where it is right, the path to its half that says yes.
 fn judge_split(
     instance: &Instance,
     number: u64,
     path: Path,
-    vertex: u32,
+    at: SplitAt,
 ) -> Result<Option<Path>, JudgeError>
-    ensures right { OnOk result (IsSplit instance.now (branch_of path) vertex) }
-    ensures next { IfOk result (λ next. next ≡ Some (Turn.Inside vertex ∷ path)) }
+    ensures right { OnOk result (IsSplitAt instance.now (branch_of path) at) }
+    ensures next { IfOk result (λ next. next ≡ yes_path path at) }
     ensures wrong { IfErr result (λ e. IfFault e
-        (IsWrongLine instance.now 0 (branch_of path) number (ProofLine.Split vertex))) }
+        (IsWrongLine instance.now 0 (branch_of path) number (ProofLine.Split at))) }
 {
-    if !is_split(instance, path.branch(), vertex) {
+    if !is_split_at(instance, path.branch(), at) {
         return Err(JudgeError::at(number, Kind::BadSplit));
     }
-    Ok(Some(path.push(Turn::Inside(vertex))?))
+    Ok(path.split(at)?)
+}
+
+// Whether a branch can be split here: at no link so far.
+fn is_split_at(instance: &Instance, branch: &Branch, at: SplitAt) -> bool
+    requires { IsInOrder branch.now }
+    ensures { IsTrue result ↔ IsSplitAt instance.now branch.now at }
+{
+    match at {
+        SplitAt::Vertex(vertex) => is_split(instance, branch, vertex),
+        SplitAt::Link(_, _) => false,
+    }
 }
 
 // Whether a branch can be split at a vertex.

@@ -1,10 +1,10 @@
 ghost use Rattle.std.specs.Prelude.{◌≡◌, ◌≤◌, [], ◌∷◌, length, IfOk, MatchOption};
 ghost use Rattle.std.specs.List.Sorted.{IsNonDecreasing};
 ghost use Rattle.st_model.specs.Branch.{with_vertex};
-ghost use Rattle.cert_checker.specs.Path.{IsInOrder, branch_of, leaving_out, next_path, turned, turned_back, place_of, without};
+ghost use Rattle.cert_checker.specs.Path.{IsInOrder, branch_of, leaving_out, next_path, yes_path, turned, turned_back, place_of, without};
 
 use crate::turn::Turn;
-use st_model::{Branch, Listed};
+use st_model::{Branch, Listed, SplitAt};
 use std::alloc::{AllocError, Global};
 use std::marker::Model;
 
@@ -60,7 +60,7 @@ impl Path {
     }
 
     // The path with one more turn.
-    pub fn push(self, turn: Turn) -> Result<Self, AllocError>
+    fn push(self, turn: Turn) -> Result<Self, AllocError>
         ensures { IfOk result (λ longer. longer ≡ turn ∷ self) }
     {
         let mut turns = self.turns;
@@ -69,6 +69,16 @@ impl Path {
             turns,
             branch: turned(self.branch, turn)?,
         })
+    }
+
+    // The path to the half of its branch that says yes to a split, which is at a vertex.
+    pub fn split(self, at: SplitAt) -> Result<Option<Self>, AllocError>
+        ensures { IfOk result (λ next. next ≡ yes_path self at) }
+    {
+        match at {
+            SplitAt::Vertex(vertex) => Ok(Some(self.push(Turn::Inside(vertex))?)),
+            SplitAt::Link(_, _) => Ok(None),
+        }
     }
 
     // The last turn, and the path before it.

@@ -1,6 +1,6 @@
 ghost use Rattle.std.specs.Prelude.{ℕ, IfOk};
 ghost use Rattle.st_model.specs.Network.{Network};
-ghost use Rattle.log_format.specs.declared.item.Item.TheVariants.{Split as SplitAt, CloseHead, OneCut};
+ghost use Rattle.log_format.specs.declared.item.Item.TheVariants.{Split as OneSplit, CloseHead, OneCut};
 ghost use Rattle.cert_checker.specs.Path.{AreSplits};
 ghost use Rattle.cert_checker.specs.Following.{Follows, IsAfterCuts, IsAfterLine, IsBegun, IsReady};
 
@@ -10,7 +10,7 @@ use crate::stage::{Proving, Stage, Stepping};
 use crate::{JudgeError, Verdict};
 use cut_packing::{Cut, Packing};
 use log_format::ProofLine;
-use st_model::Listed;
+use st_model::{Listed, SplitAt};
 use std::alloc::{AllocError, Global};
 
 // The proof of what the steps left, of which no line has come.
@@ -61,13 +61,13 @@ fn after_line(alloc: Global, proving: Proving, line: &ProofLine) -> Result<Stage
 }
 
 // After a split, which is judged.
-pub fn after_split(alloc: Global, stage: Stage, vertex: u32) -> Result<Stage, AllocError>
+pub fn after_split(alloc: Global, stage: Stage, at: SplitAt) -> Result<Stage, AllocError>
     requires { IsReady stage }
-    ensures { IfOk result (λ next. (I : Network) → Follows I (SplitAt vertex) stage next) }
+    ensures { IfOk result (λ next. (I : Network) → Follows I (OneSplit at) stage next) }
 {
     match stage {
         Stage::BeforeHalf(proving) => {
-            let line = ProofLine::Split(vertex);
+            let line = ProofLine::Split(at);
             let next = after_line(alloc, proving, &line)?;
             Ok(next)
         }
