@@ -196,6 +196,30 @@ fn shortens_a_path(rt: HostRuntime) -> Result<(), Fail> {
     Ok(())
 }
 
+// Whether the store of the shortened path has that link alone, between 1 and 4, of which both are present.
+fn lends_the_rest(alloc: Global, reduced: &Reduced) -> Result<bool, AllocError> {
+    let store = reduced.store();
+    let links = store.links(alloc)?;
+    Ok(store.vertices() == 4
+        && store.is_present(1)
+        && !store.is_present(2)
+        && !store.is_present(3)
+        && store.is_present(4)
+        && store.link_cost(1, 4) == Some(8)
+        && links.len() == 1)
+}
+
+// Whether that is lent of the path once it is shortened.
+fn lends_a_path(alloc: Global, first: &Instance) -> Result<bool, ApplyError> {
+    Ok(lends_the_rest(alloc, &shortened(alloc, first)?)?)
+}
+
+#[test]
+fn lends_a_store(rt: HostRuntime) -> Result<(), Fail> {
+    assert!(rt; lends_a_path(rt.alloc(), &path(rt.alloc())?)?);
+    Ok(())
+}
+
 // What that link costs once it is led back.
 fn path_cost(alloc: Global, first: &Instance) -> Result<Option<u64>, Fail> {
     let tree = tree_at(alloc, 4, &[(4, 1)])?;

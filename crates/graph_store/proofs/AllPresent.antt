@@ -1,10 +1,9 @@
 -- A graph of which every vertex is present.
-use Rattle.std.proofs.Common.{◌≡◌, ℕ, ◌-◌, ◌<◌, ◌≤◌, true, false, eqb, List, replicate, arith}
+use Rattle.std.proofs.Common.{◌≡◌, ℕ, ◌-◌, true, false, eqb, replicate, arith}
 use Rattle.std.specs.Prelude.{IsTrue}
 use Rattle.std.proofs.lemmas.Bool.Decides.{nat_tests}
 use Rattle.std.proofs.lemmas.List.{length-replicate, get_or-replicate}
 use Rattle.std.proofs.lemmas.List.Elements.{All-weaker}
-use Rattle.st_model.specs.declared.link.Link.{Link}
 use Rattle.st_model.specs.Network.{Network, IsInstance, IsVertex, IsLinkBetween}
 use Rattle.graph_store.specs.Graph.{Graph, IsGraph, is_in}
 

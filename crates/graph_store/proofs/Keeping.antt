@@ -8,7 +8,7 @@ use Rattle.std.specs.Prelude.{AllPairs, IsFalse}
 use Rattle.st_model.specs.declared.link.Link.{Link}
 use Rattle.st_model.specs.declared.need.Need.{Need}
 use Rattle.st_model.specs.declared.need.Need.TheVariants.{Required}
-use Rattle.st_model.specs.Lists.{total, sum_to}
+use Rattle.st_model.specs.Lists.{sum_to}
 use Rattle.st_model.specs.Network.{IsVertex, joins, pays, prize, amount}
 use Rattle.graph_store.specs.Graph.{IsGraph}
 use Rattle.graph_store.specs.Joined.{Entry, Linked, is_pair, link_of, links_of, graph_of, ArePairs, IsOrdered}

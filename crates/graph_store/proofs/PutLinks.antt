@@ -4,7 +4,6 @@ use Rattle.std.proofs.lemmas.Bool.Decides.{nat_tests}
 use Rattle.std.proofs.lemmas.List.Elements.{All-tail, All-from_recursion, recursion_from_All}
 use Rattle.std.proofs.lemmas.List.Sorted.{length_permutation, All-permutation}
 use Rattle.std.specs.List.{AllByRecursion}
-use Rattle.std.specs.Map.{keys_of, lookup, set_value}
 use Rattle.std.specs.Prelude.{All, IsTrue}
 use Rattle.st_model.specs.declared.link.Link.{Link}
 use Rattle.st_model.specs.declared.need.Need.{Need}
@@ -12,9 +11,8 @@ use Rattle.st_model.specs.Lists.{total}
 use Rattle.st_model.specs.Network.{IsVertex, IsLinkBetween, joins, link, amount}
 use Rattle.st_model.specs.Steps.{ordered, cheaper, put_link}
 use Rattle.st_model.proofs.RegrowAlike.{total-IsPermutation}
-use Rattle.graph_store.specs.declared.joints.Joint.{Joint}
 use Rattle.graph_store.specs.Graph.{Graph, IsGraph, is_in}
-use Rattle.graph_store.specs.Joined.{Entry, Linked, TakesOut, AreOnce, IsOrdered, is_pair, link_of, links_of, graph_of}
+use Rattle.graph_store.specs.Joined.{Linked, TakesOut, AreOnce, graph_of}
 
 -- a vertex that is present is in range
 pub in_range : (g : Graph) (v : ℕ) → IsGraph g → IsTrue (is_in g v) → IsVertex g.network.n v

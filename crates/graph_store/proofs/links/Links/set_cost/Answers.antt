@@ -1,7 +1,7 @@
-use Rattle.std.proofs.Common.{rules, refl, ap, sym, ◌∙◌, arith, option_map}
+use Rattle.std.proofs.Common.{rules, ap, sym, ◌∙◌, arith, option_map}
 use Rattle.std.proofs.lemmas.Option.{slice_get_within}
 use Rattle.graph_store.specs.declared.joints.Joint.{Joint}
-use Rattle.graph_store.specs.Joined.{Linked, halves_at, links_of}
+use Rattle.graph_store.specs.Joined.{halves_at, links_of}
 use Rattle.graph_store.proofs.Costs.{set_cost-entry, set_cost-none}
 use Rattle.graph_store.proofs.JointLemmas.{joint_of-ordered}
 use Rattle.graph_store.proofs.Keeping.{one_each}
