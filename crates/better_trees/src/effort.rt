@@ -68,7 +68,7 @@ impl Effort {
         if self.is_bare { 60 } else { 10 }
     }
 
-    /// How many trees grow over used-up arcs by chance, for one that is improved, in a network of so many links.
+    /// How many trees grow over saturated arcs by chance, for one that is improved, in a network of so many links.
     pub fn growths(self, links: usize) -> u64 {
         let growths = if self.is_bare { 40 } else { 10 };
         at_most(growths, FOR_GROWTHS, links)
@@ -79,9 +79,9 @@ impl Effort {
         at_most(walks, FOR_WALKS, links)
     }
 
-    /// How many steps a walk from a tree over used-up arcs has as soon as this has grown, where the bound lacks
+    /// How many steps a walk from a tree over saturated arcs has as soon as this has grown, where the bound lacks
     /// so much of the least cost known: none unless it lacks little, since then a tree is wanting and not a bound;
-    /// none at a node without cuts, where the walk is one of the drafts.
+    /// none at a node without cuts, where the walk is a candidate.
     pub fn steps(self, below: u64, least: u64, links: usize) -> u64 {
         if !self.is_bare && below.saturating_mul(LITTLE) < least {
             steps_for(2, links)

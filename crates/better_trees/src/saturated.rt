@@ -4,27 +4,27 @@ use bidirected_form::Arcs;
 use graph_store::{Half, Store};
 use std::alloc::{AllocError, Global};
 
-/// The arcs with nothing left, tail by tail.
+/// The saturated arcs, which have nothing left, tail by tail.
 #[derive(Drop)]
-pub struct UsedUp {
+pub struct Saturated {
     pub root: u32,
     // Where they lead, and what their links cost; and where those of each tail end.
     halves: Vec<Half>,
     ends: Vec<usize>,
 }
 
-impl UsedUp {
+impl Saturated {
     /// Those of some arcs between the vertices of a store.
-    pub fn of(alloc: Global, store: &Store, arcs: &Arcs) -> Result<UsedUp, AllocError> {
-        let mut used_up = UsedUp {
+    pub fn of(alloc: Global, store: &Store, arcs: &Arcs) -> Result<Saturated, AllocError> {
+        let mut saturated = Saturated {
             root: arcs.root(),
             halves: Vec::new(alloc),
             ends: vec![in alloc; 0; 1]?,
         };
         for before in 0..store.vertices() {
-            used_up.add(store, arcs, before + 1)?;
+            saturated.add(store, arcs, before + 1)?;
         }
-        Ok(used_up)
+        Ok(saturated)
     }
 
     // Adds those of the next tail.
