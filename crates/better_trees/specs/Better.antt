@@ -1,9 +1,11 @@
 -- Trees that are cheaper than the least cost known.
 use Rattle.std.specs.Prelude.{◌≡◌, ℕ, ◌<◌, Option, Some, None}
 use Rattle.st_model.specs.declared.branch.Branch.{Branch}
+use Rattle.st_model.specs.declared.tree.Tree.{Tree}
 use Rattle.st_model.specs.Network.{Network}
 use Rattle.st_model.specs.Arborescence.{IsTree, cost}
 use Rattle.st_model.specs.Branch.{Belongs}
+use Rattle.better_trees.specs.declared.place.Place.{Place}
 use Rattle.better_trees.specs.declared.price.Priced.{Priced}
 
 -- a tree of the branch that costs this, which is less than the least cost known
@@ -12,6 +14,14 @@ pub record IsBetter (I : Network) (B : Branch) (least : ℕ) (p : Priced) : Type
   pub belongs : Belongs B p.tree
   pub is_price : p.price ≡ cost I p.tree
   pub cheaper : p.price < least
+
+-- a tree of the branch that is looked at
+abbrev pub IsTreeAt : Place → Tree → Type 0
+IsTreeAt p t = IsTree p.whole.now.instance t × Belongs p.branch.now t
+
+-- a better one
+abbrev pub IsBetterAt : Place → ℕ → Priced → Type 0
+IsBetterAt p least found = IsBetter p.whole.now.instance p.branch.now least found
 
 -- the least cost known once the better tree is, if there is one
 abbrev pub least_after : ℕ → Option Priced → ℕ

@@ -1,90 +1,81 @@
 ghost use Rattle.std.specs.Prelude.{IfOk, IfSome};
-ghost use Rattle.st_model.specs.Arborescence.{IsTree};
-ghost use Rattle.st_model.specs.Branch.{Belongs, IsBranch};
-ghost use Rattle.better_trees.specs.Better.{IsBetter};
+ghost use Rattle.better_trees.specs.Better.{IsBetterAt, IsTreeAt};
 
 use crate::comparing::cheaper;
 use crate::draws::Draws;
 use crate::effort::{Effort, steps_for};
-use crate::growing::grown;
+use crate::growing::path_tree;
+use crate::place::Place;
 use crate::price::Priced;
 use crate::saturated::Saturated;
 use bidirected_form::Arcs;
 use graph_store::Whole;
 use local_search::{judged, wander};
-use st_model::{Sides, Tree, tree_cost};
+use st_model::{Tree, tree_cost};
 use std::alloc::{AllocError, Global};
 use tree_heuristic::{guided_tree, prune};
 
-// What a vertex weighs at least, in hundredths, and up to how much more, where trees grow by chance.
+// What a vertex weighs at least, in hundredths, and up to how much more, where trees grow along random weights.
 const LEAST: u64 = 50;
 
 const MORE: u64 = 100;
 
-// How many steps a walk from a drawn tree has, or from one over saturated arcs at a first node, at most.
+// How many steps a walk from a random tree has, or from one over saturated arcs at a first node, at most.
 const STEPS: u64 = 4;
 
 /// A tree of the branch that costs less than the least cost known, if `saturated_tree` is one.
 pub fn better_tree(
     alloc: Global,
-    whole: &Whole,
-    branch: &Sides,
+    place: &Place<'_>,
     arcs: &Arcs,
     least: u64,
     effort: Effort,
 ) -> Result<Option<Priced>, AllocError>
-    requires branch { IsBranch whole.now.instance branch.now }
-    ensures { IfOk result (λ better. IfSome better (IsBetter whole.now.instance branch.now least)) }
+    ensures { IfOk result (λ better. IfSome better (IsBetterAt place.now least)) }
 {
-    let tree = saturated_tree(alloc, whole, branch, arcs, effort, 0)?;
-    Ok(cheaper(&whole.instance, tree, least))
+    let tree = saturated_tree(alloc, place, arcs, effort, 0)?;
+    Ok(cheaper(place, tree, least))
 }
 
-/// A tree of the branch over arcs with nothing left, if there is one: the cheapest of some that grow, led on by a
+/// A tree of the branch over saturated arcs, if there is one: the cheapest of some that grow, led on by a
 /// walk of so many steps and improved.
 pub fn saturated_tree(
     alloc: Global,
-    whole: &Whole,
-    branch: &Sides,
+    place: &Place<'_>,
     arcs: &Arcs,
     effort: Effort,
     steps: u64,
 ) -> Result<Option<Tree>, AllocError>
-    requires branch { IsBranch whole.now.instance branch.now }
-    ensures tree { IfOk result (λ tree. IfSome tree (IsTree whole.now.instance)) }
-    ensures belongs { IfOk result (λ tree. IfSome tree (Belongs branch.now)) }
+    ensures { IfOk result (λ tree. IfSome tree (IsTreeAt place.now)) }
 {
-    let arcs = Saturated::of(alloc, &whole.store, arcs)?;
-    let Some(tree) = grown_along(alloc, whole, branch, &arcs, &[])? else {
+    let arcs = Saturated::of(alloc, &place.whole.store, arcs)?;
+    let Some(tree) = pruned_path_tree(alloc, place, &arcs, &[])? else {
         return Ok(None);
     };
-    let tree = cheapest_grown(alloc, whole, branch, &arcs, tree, effort)?;
-    let tree = wander(alloc, whole, branch, tree, effort.seed, steps)?;
+    let tree = cheapest_path_tree(alloc, place, &arcs, tree, effort)?;
+    let tree = wander(alloc, place.whole, place.branch, tree, effort.seed, steps)?;
     Ok(Some(tree))
 }
 
-// The cheapest of a tree and of some that grow along weights that are drawn. What is left of a best packing
+// The cheapest of a tree and of some that grow along random weights. What is left of a best packing
 // has saturated arcs to many trees, and the cheapest among them often is a cheapest one.
-fn cheapest_grown(
+fn cheapest_path_tree(
     alloc: Global,
-    whole: &Whole,
-    branch: &Sides,
+    place: &Place<'_>,
     arcs: &Saturated,
     first: Tree,
     effort: Effort,
 ) -> Result<Tree, AllocError>
-    requires branch { IsBranch whole.now.instance branch.now }
-    requires tree { IsTree whole.now.instance first }
-    requires belongs { Belongs branch.now first }
-    ensures tree { IfOk result (IsTree whole.now.instance) }
-    ensures belongs { IfOk result (Belongs branch.now) }
+    requires { IsTreeAt place.now first }
+    ensures { IfOk result (IsTreeAt place.now) }
 {
+    let instance = &place.whole.instance;
     let mut draws = Draws::of(effort.seed);
     let mut best = first;
-    for _growth in 0..effort.growths(whole.instance.links().len()) {
-        let weights = draws.weights(alloc, whole.store.vertices(), LEAST, MORE)?;
-        if let Some(tree) = grown_along(alloc, whole, branch, arcs, &weights)? {
-            if tree_cost(&whole.instance, &tree) < tree_cost(&whole.instance, &best) {
+    for _growth in 0..effort.growths(instance.links().len()) {
+        let weights = draws.weights(alloc, place.whole.store.vertices(), LEAST, MORE)?;
+        if let Some(tree) = pruned_path_tree(alloc, place, arcs, &weights)? {
+            if tree_cost(instance, &tree) < tree_cost(instance, &best) {
                 best = tree;
             }
         }
@@ -93,46 +84,42 @@ fn cheapest_grown(
 }
 
 // The tree that grows over saturated arcs along weights, pruned, if it is one of the branch.
-fn grown_along(
+fn pruned_path_tree(
     alloc: Global,
-    whole: &Whole,
-    branch: &Sides,
+    place: &Place<'_>,
     arcs: &Saturated,
     weights: &[u64],
 ) -> Result<Option<Tree>, AllocError>
-    requires branch { IsBranch whole.now.instance branch.now }
-    ensures tree { IfOk result (λ tree. IfSome tree (IsTree whole.now.instance)) }
-    ensures belongs { IfOk result (λ tree. IfSome tree (Belongs branch.now)) }
+    ensures { IfOk result (λ tree. IfSome tree (IsTreeAt place.now)) }
 {
-    let tree = grown(alloc, whole, branch, arcs, weights)?;
-    let Some(tree) = judged(alloc, &whole.instance, branch, tree)? else {
+    let instance = &place.whole.instance;
+    let tree = path_tree(alloc, place, arcs, weights)?;
+    let Some(tree) = judged(alloc, instance, place.branch, tree)? else {
         return Ok(None);
     };
-    Ok(Some(prune(alloc, &whole.instance, branch, tree)?))
+    Ok(Some(prune(alloc, instance, place.branch, tree)?))
 }
 
 /// A tree of the branch, if one is found: a first tree along weighted costs, pruned, led on by a walk and
 /// improved.
 pub fn tree_along(
     alloc: Global,
-    whole: &Whole,
-    branch: &Sides,
+    place: &Place<'_>,
     weights: &[u64],
     seed: u64,
 ) -> Result<Option<Tree>, AllocError>
-    requires branch { IsBranch whole.now.instance branch.now }
-    ensures tree { IfOk result (λ tree. IfSome tree (IsTree whole.now.instance)) }
-    ensures belongs { IfOk result (λ tree. IfSome tree (Belongs branch.now)) }
+    ensures { IfOk result (λ tree. IfSome tree (IsTreeAt place.now)) }
 {
-    let Some(tree) = guided_tree(alloc, &whole.store, branch, weights)? else {
+    let whole = place.whole;
+    let Some(tree) = guided_tree(alloc, &whole.store, place.branch, weights)? else {
         return Ok(None);
     };
-    let tree = prune(alloc, &whole.instance, branch, tree)?;
-    let tree = wander(alloc, whole, branch, tree, seed, steps(whole))?;
+    let tree = prune(alloc, &whole.instance, place.branch, tree)?;
+    let tree = wander(alloc, whole, place.branch, tree, seed, steps(whole))?;
     Ok(Some(tree))
 }
 
-/// How many steps a walk from a drawn tree has, or from one over saturated arcs at a first node.
+/// How many steps a walk from a random tree has, or from one over saturated arcs at a first node.
 pub fn steps(whole: &Whole) -> u64 {
     steps_for(STEPS, whole.instance.links().len())
 }

@@ -3,8 +3,9 @@ ghost use Rattle.st_model.specs.declared.branch.Branch.{Branch as Part};
 ghost use Rattle.st_model.specs.Arborescence.{IsTree, cost};
 ghost use Rattle.st_model.specs.Branch.{Belongs, IsBranch};
 ghost use Rattle.cut_packing.specs.Packing.{weight};
-ghost use Rattle.better_trees.specs.Better.{IsBetter, later, least_after};
+ghost use Rattle.better_trees.specs.Better.{IsBetter, IsBetterAt, IsTreeAt, later, least_after};
 
+use crate::place::Place;
 use crate::price::Priced;
 use cut_packing::{Packing, weight};
 use st_model::{Instance, Sides, Tree, tree_cost};
@@ -24,12 +25,12 @@ pub fn priced(instance: &Instance, tree: Tree, least: u64) -> Option<Priced>
     }
 }
 
-/// The tree with its price, if there is one that costs less than the least cost known.
-pub fn cheaper(instance: &Instance, tree: Option<Tree>, least: u64) -> Option<Priced>
-    requires { IfSome tree (IsTree instance.now) }
-    ensures { (B : Part) → IfSome tree (Belongs B) → IfSome result (IsBetter instance.now B least) }
+/// The tree of the branch with its price, if there is one that costs less than the least cost known.
+pub fn cheaper(place: &Place<'_>, tree: Option<Tree>, least: u64) -> Option<Priced>
+    requires { IfSome tree (IsTreeAt place.now) }
+    ensures { IfSome result (IsBetterAt place.now least) }
 {
-    priced(instance, tree?, least)
+    priced(&place.whole.instance, tree?, least)
 }
 
 /// The least cost known once a better tree is, if there is one.

@@ -81,7 +81,7 @@ impl Effort {
 
     /// How many steps a walk from a tree over saturated arcs has as soon as this has grown, where the bound lacks
     /// so much of the least cost known: none unless it lacks little, since then a tree is wanting and not a bound;
-    /// none at a node without cuts, where the walk is one of the drafts.
+    /// none at a node without cuts, where the walk is a candidate.
     pub fn steps(self, below: u64, least: u64, links: usize) -> u64 {
         if !self.is_bare && below.saturating_mul(LITTLE) < least {
             steps_for(2, links)

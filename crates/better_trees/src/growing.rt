@@ -1,7 +1,7 @@
 use crate::by_vertex::{at, put};
+use crate::place::Place;
 use crate::saturated::Saturated;
-use graph_store::Whole;
-use st_model::{Listed, Sides, Tree};
+use st_model::{Listed, Tree};
 use std::alloc::{AllocError, Global};
 use std::cmp::Reverse;
 use std::collections::BinaryHeap;
@@ -28,20 +28,19 @@ struct Growth {
 /// A tree from the root over saturated arcs, to all that it has to reach, as far as these lead there, and
 /// to whoever pays more than it costs to reach. The cost of an arc is weighted by its head, in hundredths; a
 /// vertex past the weights weighs 100. (Wong 1984)
-pub fn grown(
+pub fn path_tree(
     alloc: Global,
-    whole: &Whole,
-    branch: &Sides,
+    place: &Place<'_>,
     arcs: &Saturated,
     weights: &[u64],
 ) -> Result<Tree, AllocError> {
     let root = arcs.root;
-    let mut growth = Growth::at(alloc, whole.store.vertices(), root)?;
+    let mut growth = Growth::at(alloc, place.whole.store.vertices(), root)?;
     for _offer in 0..u64::MAX {
         let Some(Reverse((cost, vertex))) = growth.offers.pop() else {
             break;
         };
-        growth.take(whole, branch, arcs, weights, cost, vertex)?;
+        growth.take(place, arcs, weights, cost, vertex)?;
     }
     Ok(Tree {
         start: root,
@@ -79,8 +78,7 @@ impl Growth {
     // worth it, and else the search goes on from there.
     fn take(
         &mut self,
-        whole: &Whole,
-        branch: &Sides,
+        place: &Place<'_>,
         arcs: &Saturated,
         weights: &[u64],
         cost: u64,
@@ -89,7 +87,7 @@ impl Growth {
         if at(&self.least, vertex, 0) != cost {
             return Ok(());
         }
-        if !at(&self.joined, vertex, true) && is_worth(whole, branch, vertex, cost) {
+        if !at(&self.joined, vertex, true) && is_worth(place, vertex, cost) {
             return self.join(vertex);
         }
         self.expand(arcs, weights, cost, vertex)
@@ -134,10 +132,11 @@ impl Growth {
 }
 
 // Whether a vertex has to be reached, or pays more than it costs to reach.
-fn is_worth(whole: &Whole, branch: &Sides, vertex: u32, cost: u64) -> bool {
-    if vertex < 1 || whole.instance.vertices() < vertex {
+fn is_worth(place: &Place<'_>, vertex: u32, cost: u64) -> bool {
+    let instance = &place.whole.instance;
+    if vertex < 1 || instance.vertices() < vertex {
         return false;
     }
-    let prize = whole.instance.prize(vertex);
-    branch.is_certain(&whole.instance, vertex) || prize.saturating_mul(ONE) > cost
+    let prize = instance.prize(vertex);
+    place.branch.is_certain(instance, vertex) || prize.saturating_mul(ONE) > cost
 }

@@ -4,7 +4,7 @@ use bidirected_form::Arcs;
 use graph_store::{Half, Store};
 use std::alloc::{AllocError, Global};
 
-/// The arcs with nothing left, tail by tail.
+/// The saturated arcs, which have nothing left, tail by tail.
 #[derive(Drop)]
 pub struct Saturated {
     pub root: u32,

@@ -1,9 +1,8 @@
 ghost use Rattle.std.specs.Prelude.{IfOk, IfSome};
-ghost use Rattle.st_model.specs.Arborescence.{IsTree};
-ghost use Rattle.st_model.specs.Branch.{Belongs, IsBranch};
+ghost use Rattle.better_trees.specs.Better.{IsTreeAt};
 
 use crate::narrowing::narrowed;
-use graph_store::Whole;
+use crate::place::Place;
 use local_search::{judged, wander};
 use st_model::{Instance, Sides, Tree, VertexSet};
 use std::alloc::{AllocError, Global};
@@ -41,38 +40,36 @@ impl Walk {
     pub fn end(
         &self,
         alloc: Global,
-        whole: &Whole,
-        branch: &Sides,
+        place: &Place<'_>,
         seed: u64,
     ) -> Result<Option<Tree>, AllocError>
-        requires branch { IsBranch whole.now.instance branch.now }
-        ensures tree { IfOk result (λ tree. IfSome tree (IsTree whole.now.instance)) }
-        ensures belongs { IfOk result (λ tree. IfSome tree (Belongs branch.now)) }
+        ensures { IfOk result (λ tree. IfSome tree (IsTreeAt place.now)) }
     {
-        let part = narrowed(alloc, &whole.instance, branch, &self.among)?;
+        let part = narrowed(alloc, &place.whole.instance, place.branch, &self.among)?;
         let part = Sides::of(alloc, part)?;
-        let tree = walked(alloc, whole, &part, &self.from, seed, STEPS)?;
+        let among = Place {
+            whole: place.whole,
+            branch: &part,
+        };
+        let tree = end_of_walk(alloc, &among, &self.from, seed, STEPS)?;
         Ok(tree)
     }
 }
 
 /// The tree of a branch that a walk of so many steps comes to, if it begins at one.
-pub fn walked(
+pub fn end_of_walk(
     alloc: Global,
-    whole: &Whole,
-    branch: &Sides,
+    place: &Place<'_>,
     from: &Tree,
     seed: u64,
     steps: u64,
 ) -> Result<Option<Tree>, AllocError>
-    requires branch { IsBranch whole.now.instance branch.now }
-    ensures tree { IfOk result (λ tree. IfSome tree (IsTree whole.now.instance)) }
-    ensures belongs { IfOk result (λ tree. IfSome tree (Belongs branch.now)) }
+    ensures { IfOk result (λ tree. IfSome tree (IsTreeAt place.now)) }
 {
     let from = from.copied(alloc)?;
-    let Some(tree) = judged(alloc, &whole.instance, branch, from)? else {
+    let Some(tree) = judged(alloc, &place.whole.instance, place.branch, from)? else {
         return Ok(None);
     };
-    let walked = wander(alloc, whole, branch, tree, seed, steps)?;
-    Ok(Some(walked))
+    let end = wander(alloc, place.whole, place.branch, tree, seed, steps)?;
+    Ok(Some(end))
 }

@@ -1,17 +1,17 @@
 ghost use Rattle.std.specs.Prelude.{IfOk, IfSome};
-ghost use Rattle.st_model.specs.Branch.{IsBranch};
-ghost use Rattle.better_trees.specs.Better.{IsBetter};
+ghost use Rattle.better_trees.specs.Better.{IsBetterAt};
 
+use crate::candidate::{Candidate, Source};
 use crate::comparing::{later, least_after, tree_of};
-use crate::draft::{Draft, Source};
 use crate::draws::Draws;
-use crate::effort::Effort;
 use crate::elite::Elite;
+use crate::incumbent::Incumbent;
+use crate::means::Means;
+use crate::place::Place;
 use crate::price::Priced;
 use crate::sampling::{best_grown, open_vertices};
 use crate::walk::Walk;
-use graph_store::Whole;
-use st_model::{Instance, Sides, Tree, VertexSet};
+use st_model::{Instance, VertexSet};
 use std::alloc::{AllocError, Global};
 use std::thread::Threads;
 
@@ -23,79 +23,68 @@ const WALKS: u64 = 4;
 
 const FOR_A_WALK: u64 = 20;
 
-/// A tree of the branch that costs less than the least cost known, if one is found: walks lead from the
+/// A tree of the branch that costs less than the incumbent, if one is found: walks lead from the
 /// cheapest trees over others that cost the same, among what these reach and what is near, turn by turn as
 /// long as they come to a cheaper one that costs more than the bound.
 #[tactic(auto, using(crate::proofs::Found::found_later))]
 pub fn wandered_tree<R: Threads + Sync>(
-    rt: &R,
-    alloc: Global,
-    whole: &Whole,
-    branch: &Sides,
+    means: &Means<'_, R>,
+    place: &Place<'_>,
     near: &VertexSet,
-    known: &Tree,
+    incumbent: &Incumbent<'_>,
     elite: &mut Elite,
-    effort: Effort,
-    least: u64,
     bound: u128,
 ) -> Result<Option<Priced>, AllocError>
-    requires branch { IsBranch whole.now.instance branch.now }
-    ensures { IfOk result (λ better. IfSome better (IsBetter whole.now.instance branch.now least)) }
+    ensures { IfOk result (λ better. IfSome better (IsBetterAt place.now incumbent.now.cost)) }
 {
-    let mut draws = Draws::of(effort.seed);
-    let open = open_vertices(&whole.instance, branch);
-    let walks = WALKS.min(open / FOR_A_WALK);
-    let count = effort.walks(walks, whole.instance.links().len());
+    let instance = &place.whole.instance;
+    let mut draws = Draws::of(means.effort.seed);
+    let walks = WALKS.min(open_vertices(instance, place.branch) / FOR_A_WALK);
+    let count = means.effort.walks(walks, instance.links().len());
     let mut best = None;
     for _turn in 0..TURNS {
-        let price = least_after(least, &best);
-        let known = tree_of(known, &best);
-        let drafts = new_walks(
-            alloc,
-            &whole.instance,
+        let least = least_after(incumbent.cost, &best);
+        let known = Incumbent {
+            tree: tree_of(incumbent.tree, &best),
+            cost: least,
+        };
+        let walks = new_walks(
+            means.alloc,
+            instance,
             near,
-            known,
+            &known,
             elite,
-            price,
             count,
             &mut draws,
         )?;
-        let found = best_grown(
-            rt,
-            alloc,
-            whole,
-            branch,
-            drafts,
-            effort.threads,
-            elite,
-            price,
-        )?;
+        let found = best_grown(means, place, walks, elite, least)?;
         let is_done = found.is_none();
         best = later(best, found);
-        if is_done || bound >= u128::from(least_after(least, &best)) {
+        if is_done || bound >= u128::from(least_after(incumbent.cost, &best)) {
             break;
         }
     }
     Ok(best)
 }
 
-// So many walks from some of the cheapest trees, or from the best one known, at this price, if those are dearer.
+// So many walks from some of the cheapest trees, or from the best one known, if those cost more than the incumbent.
 fn new_walks(
     alloc: Global,
     instance: &Instance,
     near: &VertexSet,
-    known: &Tree,
+    incumbent: &Incumbent<'_>,
     elite: &Elite,
-    price: u64,
     count: u64,
     draws: &mut Draws,
-) -> Result<Vec<Draft>, AllocError> {
-    let mut drafts = Vec::new(alloc);
+) -> Result<Vec<Candidate>, AllocError> {
+    let mut walks = Vec::new(alloc);
     for _walk in 0..count {
-        let tree = elite.cheapest(price, draws).unwrap_or(known);
+        let tree = elite
+            .cheapest(incumbent.cost, draws)
+            .unwrap_or(incumbent.tree);
         let seed = draws.below(u64::MAX);
         let walk = Walk::of(alloc, instance, tree, near.members())?;
-        drafts.push(Draft::of(Source::Walk(walk), seed))?;
+        walks.push(Candidate::of(Source::Walk(walk), seed))?;
     }
-    Ok(drafts)
+    Ok(walks)
 }

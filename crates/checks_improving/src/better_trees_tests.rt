@@ -1,16 +1,15 @@
 ghost use Rattle.std.specs.Prelude.{◌≤◌};
-ghost use Rattle.st_model.specs.Branch.{IsBranch};
 ghost use Rattle.st_model.specs.Network.{IsVertex};
 
 use crate::shared::{all, tree_over};
 use better_trees::{
-    Draws, Effort, Elite, Joints, better_tree, gap, later, least_after, narrowed, near_root,
-    trees_at,
+    Draws, Effort, Elite, Incumbent, KeyVertices, Means, Place, better_tree, gap, later,
+    least_after, narrowed, near_root, trees_at,
 };
 use bidirected_form::Arcs;
 use cut_packing::Packing;
 use graph_store::{Store, Whole};
-use st_model::{Instance, Listed, Need, Sides, Tree, VertexSet};
+use st_model::{Instance, Listed, Need, VertexSet};
 use std::alloc::{AllocError, Global};
 use std::test::Fail;
 use std::thread::Threads;
@@ -27,24 +26,16 @@ fn bare(alloc: Global) -> Packing {
     }
 }
 
-// What the best tree costs that is found beside a known one at a node of this branch.
+// What the best tree costs that is found beside the incumbent at a node of this branch.
 fn price_at<R: Threads + Sync>(
-    rt: &R,
-    alloc: Global,
-    whole: &Whole,
-    branch: &Sides,
+    means: &Means<'_, R>,
+    place: &Place<'_>,
     arcs: &Arcs,
-    known: &Tree,
-    least: u64,
-    effort: Effort,
-) -> Result<Option<u64>, AllocError>
-    requires { IsBranch whole.now.instance branch.now }
-{
-    let mut elite = Elite::new(alloc);
-    let packing = bare(alloc);
-    let trees = trees_at(
-        rt, alloc, whole, branch, &packing, arcs, known, least, effort, &mut elite,
-    )?;
+    incumbent: &Incumbent<'_>,
+) -> Result<Option<u64>, AllocError> {
+    let mut elite = Elite::new(means.alloc);
+    let packing = bare(means.alloc);
+    let trees = trees_at(means, place, &packing, arcs, incumbent, &mut elite)?;
     Ok(trees.better.map(|found| found.price))
 }
 
@@ -55,17 +46,22 @@ fn price_beside<R: Threads + Sync>(
     alloc: Global,
     whole: &Whole,
     known: &[(u32, u32)],
-    least: u64,
+    cost: u64,
     is_bare: bool,
     threads: usize,
 ) -> Result<Option<u64>, AllocError>
     requires { IsVertex whole.now.instance.n 1 }
 {
-    let known = tree_over(alloc, known)?;
+    let tree = tree_over(alloc, known)?;
     let branch = all(alloc)?;
     let arcs = Arcs::of(alloc, &whole.store, &branch, 1)?;
     let effort = Effort::at(branch.branch(), is_bare, threads);
-    price_at(rt, alloc, whole, &branch, &arcs, &known, least, effort)
+    let place = Place {
+        whole,
+        branch: &branch,
+    };
+    let incumbent = Incumbent { tree: &tree, cost };
+    price_at(&Means { rt, alloc, effort }, &place, &arcs, &incumbent)
 }
 
 // The same in the triangle, beside a tree over the sides.
@@ -89,18 +85,15 @@ fn finds_the_way_over_the_centre(rt: HostRuntime) -> Result<(), Fail> {
     Ok(())
 }
 
-// What a tree costs over arcs with nothing left, if one costs less.
+// What a tree costs over saturated arcs, if one costs less.
 fn price_over(
     alloc: Global,
-    whole: &Whole,
-    branch: &Sides,
+    place: &Place<'_>,
     arcs: &Arcs,
     least: u64,
-) -> Result<Option<u64>, AllocError>
-    requires { IsBranch whole.now.instance branch.now }
-{
-    let effort = Effort::at(branch.branch(), false, 1);
-    let found = better_tree(alloc, whole, branch, arcs, least, effort)?;
+) -> Result<Option<u64>, AllocError> {
+    let effort = Effort::at(place.branch.branch(), false, 1);
+    let found = better_tree(alloc, place, arcs, least, effort)?;
     Ok(found.map(|found| found.price))
 }
 
@@ -110,7 +103,11 @@ fn price_from_1(alloc: Global, whole: &Whole, least: u64) -> Result<Option<u64>,
 {
     let branch = all(alloc)?;
     let arcs = Arcs::of(alloc, &whole.store, &branch, 1)?;
-    price_over(alloc, whole, &branch, &arcs, least)
+    let place = Place {
+        whole,
+        branch: &branch,
+    };
+    price_over(alloc, &place, &arcs, least)
 }
 
 // The same where one of two links joins the required vertices at no cost, and the other one at this.
@@ -193,19 +190,19 @@ fn measures_from_the_root(rt: HostRuntime) -> Result<(), Fail> {
 // How many links meet at 2 and at 4 where trees branch, once that of these arcs is counted too.
 fn counted(
     alloc: Global,
-    joints: &mut Joints,
+    key_vertices: &mut KeyVertices,
     arcs: &[(u32, u32)],
 ) -> Result<(u32, u32), AllocError> {
-    joints.count(alloc, &tree_over(alloc, arcs)?)?;
-    Ok((joints.at(2), joints.at(4)))
+    key_vertices.count(alloc, &tree_over(alloc, arcs)?)?;
+    Ok((key_vertices.at(2), key_vertices.at(4)))
 }
 
 // The same in the triangle, of a tree over the sides, and then of one over the centre too.
 fn counted_in_turn(alloc: Global) -> Result<[(u32, u32); 2], AllocError> {
-    let mut joints = Joints::of_none(alloc, &triangle_with_centre(alloc, 4)?)?;
+    let mut key_vertices = KeyVertices::of_none(alloc, &triangle_with_centre(alloc, 4)?)?;
     Ok([
-        counted(alloc, &mut joints, &[(1, 2), (2, 3)])?,
-        counted(alloc, &mut joints, &[(1, 4), (4, 2), (4, 3)])?,
+        counted(alloc, &mut key_vertices, &[(1, 2), (2, 3)])?,
+        counted(alloc, &mut key_vertices, &[(1, 4), (4, 2), (4, 3)])?,
     ])
 }
 

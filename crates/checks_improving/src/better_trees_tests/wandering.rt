@@ -1,13 +1,12 @@
 ghost use Rattle.std.specs.Prelude.{◌≡◌, ◌≤◌, IfOk};
-ghost use Rattle.st_model.specs.Branch.{IsBranch};
 ghost use Rattle.st_model.specs.Network.{IsVertex};
 
 use super::price_beside;
 use crate::shared::{all, tree_over};
-use better_trees::{Effort, Elite, drawn_tree, wandered_tree};
+use better_trees::{Effort, Elite, Incumbent, Means, Place, random_tree, wandered_tree};
 use bidirected_form::Arcs;
 use graph_store::Whole;
-use st_model::{Instance, Need, Sides, Tree, VertexSet};
+use st_model::{Instance, Need, Tree, VertexSet};
 use std::alloc::{AllocError, Global};
 use std::test::Fail;
 use std::thread::Threads;
@@ -40,19 +39,16 @@ fn two_ways(alloc: Global, vertices: u32) -> Result<Instance, AllocError>
 fn price_near<R: Threads + Sync>(
     rt: &R,
     alloc: Global,
-    whole: &Whole,
-    branch: &Sides,
+    place: &Place<'_>,
     near: &VertexSet,
-    least: u64,
-) -> Result<Option<u64>, AllocError>
-    requires { IsBranch whole.now.instance branch.now }
-{
-    let known = tree_over(alloc, &[(1, 2), (2, 3), (1, 5)])?;
+    cost: u64,
+) -> Result<Option<u64>, AllocError> {
+    let tree = tree_over(alloc, &[(1, 2), (2, 3), (1, 5)])?;
+    let incumbent = Incumbent { tree: &tree, cost };
     let mut elite = Elite::new(alloc);
-    let effort = Effort::at(branch.branch(), true, 1);
-    let found = wandered_tree(
-        rt, alloc, whole, branch, near, &known, &mut elite, effort, least, 0,
-    )?;
+    let effort = Effort::at(place.branch.branch(), true, 1);
+    let means = Means { rt, alloc, effort };
+    let found = wandered_tree(&means, place, near, &incumbent, &mut elite, 0)?;
     Ok(found.map(|found| found.price))
 }
 
@@ -66,7 +62,11 @@ fn price_of_walks<R: Threads + Sync>(
     let near = VertexSet::of(alloc, 21, near)?;
     let branch = all(alloc)?;
     let whole = Whole::of(alloc, two_ways(alloc, 20)?)?;
-    price_near(rt, alloc, &whole, &branch, &near, least)
+    let place = Place {
+        whole: &whole,
+        branch: &branch,
+    };
+    price_near(rt, alloc, &place, &near, least)
 }
 
 // No move gains at the tree over vertex 2, which costs 7. A walk that may reach vertex 4 comes to one of cost 6, and
@@ -87,7 +87,7 @@ fn efforts(alloc: Global) -> Result<(Effort, Effort), AllocError> {
     Ok((first, other))
 }
 
-// Where the bound lacks little, but for the first node, where such walks are among the drafts.
+// Where the bound lacks little, but for the first node, where such walks are among the candidates.
 #[test]
 fn walks_where_a_tree_is_wanting(rt: HostRuntime) -> Result<(), Fail> {
     let (first, other) = efforts(rt.alloc())?;
@@ -147,7 +147,7 @@ fn prices_beside<R: Threads + Sync>(
     ])
 }
 
-// The same among so many vertices that no tree is drawn.
+// The same among so many vertices that there is no random tree.
 fn prices_of_many<R: Threads + Sync>(
     rt: &R,
     alloc: Global,
@@ -163,28 +163,24 @@ fn walks_at_the_first_node(rt: HostRuntime) -> Result<(), Fail> {
     Ok(())
 }
 
-// What the tree costs that is drawn, or led on from the one over saturated arcs if there is one, if it costs less
+// What the random tree costs, or the one led on from that over saturated arcs if there is one, if it costs less
 // than 7.
-fn price_drawn<R: Threads + Sync>(
+fn random_price<R: Threads + Sync>(
     rt: &R,
     alloc: Global,
-    whole: &Whole,
-    branch: &Sides,
+    place: &Place<'_>,
     arcs: &Arcs,
     saturated: &Option<Tree>,
-) -> Result<Option<u64>, AllocError>
-    requires { IsBranch whole.now.instance branch.now }
-{
+) -> Result<Option<u64>, AllocError> {
     let mut elite = Elite::new(alloc);
-    let effort = Effort::at(branch.branch(), true, 1);
-    let found = drawn_tree(
-        rt, alloc, whole, branch, arcs, saturated, &mut elite, effort, 7, 0,
-    )?;
+    let effort = Effort::at(place.branch.branch(), true, 1);
+    let means = Means { rt, alloc, effort };
+    let found = random_tree(&means, place, arcs, saturated, &mut elite, 7, 0)?;
     Ok(found.map(|found| found.price))
 }
 
 // The same where the one over saturated arcs is the one over vertex 2, and where there is none.
-fn prices_drawn<R: Threads + Sync>(
+fn random_prices<R: Threads + Sync>(
     rt: &R,
     alloc: Global,
     whole: &Whole,
@@ -194,24 +190,28 @@ fn prices_drawn<R: Threads + Sync>(
     let branch = all(alloc)?;
     let arcs = Arcs::of(alloc, &whole.store, &branch, 1)?;
     let saturated = Some(tree_over(alloc, &[(1, 2), (2, 3), (1, 5)])?);
+    let place = Place {
+        whole,
+        branch: &branch,
+    };
     Ok([
-        price_drawn(rt, alloc, whole, &branch, &arcs, &saturated)?,
-        price_drawn(rt, alloc, whole, &branch, &arcs, &None)?,
+        random_price(rt, alloc, &place, &arcs, &saturated)?,
+        random_price(rt, alloc, &place, &arcs, &None)?,
     ])
 }
 
-// The same among so many vertices that no tree is drawn.
-fn prices_drawn_of_many<R: Threads + Sync>(
+// The same among so many vertices that there is no random tree.
+fn random_prices_of_many<R: Threads + Sync>(
     rt: &R,
     alloc: Global,
 ) -> Result<[Option<u64>; 2], AllocError> {
     let whole = Whole::of(alloc, two_ways(alloc, 8_200)?)?;
-    prices_drawn(rt, alloc, &whole)
+    random_prices(rt, alloc, &whole)
 }
 
 // A walk from the tree over saturated arcs comes to one of cost 6.
 #[test]
 fn leads_on_the_tree_over_saturated_arcs(rt: HostRuntime) -> Result<(), Fail> {
-    assert_eq!(rt; prices_drawn_of_many(&rt, rt.alloc())?, [Some(6), None]);
+    assert_eq!(rt; random_prices_of_many(&rt, rt.alloc())?, [Some(6), None]);
     Ok(())
 }

@@ -1,20 +1,20 @@
 use st_model::{Instance, Tree};
 use std::alloc::{AllocError, Global};
 
-// How many links of a tree meet at a vertex where it branches, at least.
+// How many links of a tree meet at a key vertex, at least.
 const BRANCHING: u32 = 3;
 
-/// Where trees branch: by vertex, how many of their links meet there, of those trees of which three
-/// or more do.
+/// Key vertices of trees, where these branch: by vertex, how many of their links meet there, of those trees of
+/// which three or more do.
 #[derive(Drop)]
-pub struct Joints {
+pub struct KeyVertices {
     links: Vec<u32>,
 }
 
-impl Joints {
+impl KeyVertices {
     /// Of no tree of the instance.
-    pub fn of_none(alloc: Global, instance: &Instance) -> Result<Joints, AllocError> {
-        Ok(Joints {
+    pub fn of_none(alloc: Global, instance: &Instance) -> Result<KeyVertices, AllocError> {
+        Ok(KeyVertices {
             links: vec![in alloc; 0; instance.vertices() as usize + 1]?,
         })
     }
