@@ -1,5 +1,5 @@
 -- What is written is read as the number that it was.
-use Rattle.std.proofs.Common.{◌≡◌, ℕ, zero, suc, ◌+◌, ◌-◌, ◌*◌, ◌/◌, ◌%◌, ◌^◌, ◌<◌, ◌≤◌, Bool, true, false, not, cond, eqb, ◌&&◌, List, [], ◌∷◌, ◌++◌, length, drop, Some, None, unwrap_or, refl, sym, ap, subst, ◌∙◌, arith}
+use Rattle.std.proofs.Common.{◌≡◌, ℕ, zero, suc, ◌+◌, ◌-◌, ◌*◌, ◌/◌, ◌%◌, ◌^◌, ◌<◌, ◌≤◌, Bool, true, false, cond, eqb, ◌&&◌, List, [], ◌∷◌, ◌++◌, length, drop, refl, sym, ap, subst, ◌∙◌, arith}
 use Rattle.std.specs.Char.{is_ascii_digit}
 use Rattle.std.specs.Fmt.{decimal}
 use Rattle.std.specs.List.{list_all}
@@ -10,14 +10,13 @@ use Rattle.std.proofs.lemmas.Fmt.{decimal_digit}
 use Rattle.std.proofs.lemmas.List.{drop_all, append-nil}
 use Rattle.std.proofs.lemmas.Nat.{div-add-mod'}
 use Rattle.plain_text.specs.Numbers.{is_number, value}
-use Rattle.plain_text.specs.Pieces.{cut}
 use Rattle.plain_text.proofs.Lacking.{lacks, lacks-append, lacks-decimal}
 use Rattle.amounts.specs.declared.scale.Scale.{Scale}
 use Rattle.amounts.specs.declared.scale.Scale.TheVariants.{Whole, Millionths}
 use Rattle.amounts.specs.Amounts.{parts, is_amount, first_digits, ends_in_time, millionths}
-use Rattle.amounts.specs.Text.{digit, decimals, after_point, amount_text}
-use Rattle.amounts.specs.Laws.{unit, IsReadBack, TextsAreRead, TextsDiffer}
-use Rattle.amounts.proofs.Decimals.{digits_of, number_decimal, value_decimal, no_cut, cut_after}
+use Rattle.amounts.specs.Text.{decimals, after_point, amount_text}
+use Rattle.amounts.specs.Laws.{unit, TextsAreRead, TextsDiffer}
+use Rattle.amounts.proofs.Decimals.{number_decimal, value_decimal, no_cut, cut_after}
 
 -- ---- the decimals of a rest
 

@@ -44,16 +44,24 @@ fn put_after_point(text: &mut String, millionths: u64) -> Result<(), AllocError>
     Ok(())
 }
 
-/// How a number of a file's unit is written: in wholes, with at most six decimals and no zeros at their end.
+/// Puts a number of a file's unit after the text: in wholes, with at most six decimals and no zeros at their end.
+pub fn put_amount(text: &mut String, number: u64, scale: Scale) -> Result<(), AllocError>
+    ensures { OnOk result (string_bytes text.new ≡ string_bytes text.old ++ amount_text number scale) }
+{
+    match scale {
+        Scale::Whole => write!(text, "{number}"),
+        Scale::Millionths => {
+            write!(text, "{}", number / MILLION)?;
+            put_after_point(text, number % MILLION)
+        }
+    }
+}
+
+/// How a number of a file's unit is written, alone.
 pub fn amount_text(alloc: Global, number: u64, scale: Scale) -> Result<String, AllocError>
     ensures { IfOk result (λ text. string_bytes text ≡ amount_text number scale) }
 {
-    match scale {
-        Scale::Whole => format!(in alloc; "{number}"),
-        Scale::Millionths => {
-            let mut text = format!(in alloc; "{}", number / MILLION)?;
-            put_after_point(&mut text, number % MILLION)?;
-            Ok(text)
-        }
-    }
+    let mut text = String::new(alloc);
+    put_amount(&mut text, number, scale)?;
+    Ok(text)
 }

@@ -15,8 +15,9 @@ use Rattle.stp_reader.specs.Place.{Graph, Place, nothing, graph, whole, no_roots
 use Rattle.stp_reader.specs.Reasons.{reasons}
 use Rattle.stp_reader.specs.Reads.{AllRight}
 use Rattle.instance_gen.specs.Text.{header, section_line, number_line, end_line}
-use Rattle.instance_gen.proofs.Spelled.{is_plain, is_spelled, are_spelled}
-use Rattle.instance_gen.proofs.Said.{plain_decimal, count_right, nodes_right}
+use Rattle.stp_reader.proofs.WrittenWords.{is_plain, plain_decimal}
+use Rattle.instance_gen.proofs.Spelled.{is_spelled, are_spelled}
+use Rattle.instance_gen.proofs.Said.{count_right, nodes_right}
 
 -- no line has a reason, the last leads to this place, and all are spelled
 pub record Goes (place : Place) (lines : List (List (List ℕ))) (next : Place) : Type 0 where

@@ -23,8 +23,8 @@ use Rattle.stp_reader.specs.Place.{Graph, Place, no_roots, at_links, at_needs}
 use Rattle.stp_reader.specs.Reasons.{has_prize}
 use Rattle.stp_reader.specs.Unit.{amounts_of, scale_reasons}
 use Rattle.instance_gen.specs.Text.{link_line, need_line_of, need_line, at_least_one, those_of, FitsFile}
-use Rattle.instance_gen.proofs.Spelled.{is_plain}
-use Rattle.instance_gen.proofs.Said.{plain_amount, plain_decimal, vertex_right, amount_right}
+use Rattle.stp_reader.proofs.WrittenWords.{is_plain, plain_amount, plain_decimal}
+use Rattle.instance_gen.proofs.Said.{vertex_right, amount_right}
 use Rattle.instance_gen.proofs.Scaled.{said_link, said_need, said_links, said_needs, said_graph, IsLow, low_amounts, amounts_said, scale_right}
 use Rattle.instance_gen.proofs.Going.{Goes, one_line, no_line, goes_to, ◌onto◌, no_reasons, same_link}
 use Rattle.instance_gen.proofs.Ranges.{item_in_range}

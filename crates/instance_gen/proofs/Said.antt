@@ -1,46 +1,15 @@
 -- What the word of a number says, and that it has no reason.
-use Rattle.std.proofs.Common.{◌≡◌, ℕ, ◌+◌, ◌*◌, ◌^◌, ◌<◌, ◌≤◌, true, false, not, eqb, leb, List, [], ◌∷◌, length, refl, arith}
+use Rattle.std.proofs.Common.{◌≡◌, ℕ, ◌+◌, ◌*◌, ◌^◌, ◌<◌, ◌≤◌, true, false, eqb, leb, List, [], refl, arith}
 use Rattle.std.specs.Fmt.{decimal}
-use Rattle.std.specs.List.{list_all}
-use Rattle.std.proofs.lemmas.Bool.{and_parts, and_from}
 use Rattle.std.proofs.lemmas.Bool.Decides.{nat_tests}
-use Rattle.plain_text.proofs.Lacking.{lacks}
 use Rattle.amounts.specs.declared.scale.Scale.{Scale}
 use Rattle.amounts.specs.declared.scale.Scale.TheVariants.{Whole, Millionths}
 use Rattle.amounts.specs.Amounts.{parts, is_amount, ends_in_time, whole_part, first_digits}
 use Rattle.amounts.specs.Laws.{unit}
 use Rattle.amounts.specs.Text.{amount_text}
 use Rattle.amounts.proofs.Decimals.{number_decimal, value_decimal}
-use Rattle.amounts.proofs.Reread.{texts_are_read, lacks-amount_text}
+use Rattle.amounts.proofs.Reread.{texts_are_read}
 use Rattle.stp_reader.specs.Amounts.{count_reasons, nodes_reasons, vertex_reasons, amount_reasons}
-use Rattle.instance_gen.proofs.Spelled.{is_inner, is_plain}
-
--- ---- words
-
-inner : (cs : List ℕ) → lacks 9 cs ≡ true → lacks 10 cs ≡ true → lacks 13 cs ≡ true → lacks 32 cs ≡ true → list_all is_inner cs ≡ true
-inner [] tab lf cr space = refl
-inner (c ∷ cs) tab lf cr space =
-    let p = and_parts (not (eqb c 9)) (lacks 9 cs) tab in
-    let q = and_parts (not (eqb c 10)) (lacks 10 cs) lf in
-    let r = and_parts (not (eqb c 13)) (lacks 13 cs) cr in
-    let s = and_parts (not (eqb c 32)) (lacks 32 cs) space in
-    let here : is_inner c ≡ true = grind (arith, nat_tests, p.0, q.0, r.0, s.0) in
-    and_from (is_inner c) (list_all is_inner cs) here (inner cs p.1 q.1 r.1 s.1)
-
-some_byte : (word : List ℕ) → is_amount word ≡ true → not (eqb (length word) 0) ≡ true
-some_byte [] amount = absurd cc
-some_byte (c ∷ cs) amount = grind (arith, nat_tests)
-
-pub plain_amount : (x : ℕ) (scale : Scale) → x < 2 ^ 64 → is_plain (amount_text x scale) ≡ true
-plain_amount x scale small =
-    let no = λ (d : ℕ) (low : d < 46). lacks-amount_text d x scale low in
-    and_from (not (eqb (length (amount_text x scale)) 0)) (list_all is_inner (amount_text x scale)) (some_byte (amount_text x scale) (texts_are_read x scale small).amount)
-    (inner (amount_text x scale) (no 9 (omega arith)) (no 10 (omega arith)) (no 13 (omega arith)) (no 32 (omega arith)))
-
-pub plain_decimal : (n : ℕ) → n < 2 ^ 64 → is_plain (decimal n) ≡ true
-plain_decimal n small = plain_amount n Whole small
-
--- ---- no reason
 
 pub count_right : (limit n : ℕ) → n ≤ limit → limit < 2 ^ 64 → count_reasons limit (decimal n) ≡ []
 count_right limit n low few =

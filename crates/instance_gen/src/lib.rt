@@ -57,7 +57,7 @@ pub fn write_stp(alloc: Global, instance: &Instance, scale: Scale) -> Result<Vec
 {
     let needs = written_needs(alloc, instance)?;
     let mut text = String::new(alloc);
-    put_graph(alloc, &mut text, instance, scale)?;
-    put_terminals(alloc, &mut text, &needs, scale)?;
+    put_graph(&mut text, instance, scale)?;
+    put_terminals(&mut text, &needs, scale)?;
     Ok(text.into_bytes())
 }

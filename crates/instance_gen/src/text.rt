@@ -2,17 +2,12 @@ ghost use Rattle.std.specs.Prelude.{◌++◌, ◌∷◌, [], OnOk, map, string_b
 ghost use Rattle.instance_gen.specs.Text.{header, number_line, link_line, need_line, graph_lines, terminal_lines};
 ghost use Rattle.instance_gen.specs.Writing.{IsWritten};
 
-use amounts::{Scale, amount_text};
+use amounts::{Scale, put_amount};
 use st_model::{Instance, Link, Need};
-use std::alloc::{AllocError, Global};
+use std::alloc::AllocError;
 
 // Puts the first line and the section of the graph after the text.
-pub fn put_graph(
-    alloc: Global,
-    text: &mut String,
-    instance: &Instance,
-    scale: Scale,
-) -> Result<(), AllocError>
+pub fn put_graph(text: &mut String, instance: &Instance, scale: Scale) -> Result<(), AllocError>
     ensures { OnOk result
         (IsWritten (string_bytes text.old) (string_bytes text.new)
         (header ∷ graph_lines instance.now.n instance.now.links scale)) }
@@ -22,14 +17,13 @@ pub fn put_graph(
     put_pair(text, "SECTION", "Graph")?;
     put_number(text, "Nodes", u64::from(instance.vertices()))?;
     put_number(text, "Edges", links.len() as u64)?;
-    put_links(alloc, text, links, scale)?;
+    put_links(text, links, scale)?;
     put_word(text, "END")?;
     Ok(())
 }
 
 // Puts the section of the needs and the last line after the text.
 pub fn put_terminals(
-    alloc: Global,
     text: &mut String,
     needs: &[(u32, Need)],
     scale: Scale,
@@ -40,7 +34,7 @@ pub fn put_terminals(
 {
     put_pair(text, "SECTION", "Terminals")?;
     put_number(text, "Terminals", needs.len() as u64)?;
-    put_needs(alloc, text, needs, scale)?;
+    put_needs(text, needs, scale)?;
     put_word(text, "END")?;
     put_word(text, "EOF")?;
     Ok(())
@@ -76,58 +70,45 @@ fn put_number(text: &mut String, keyword: &str, number: u64) -> Result<(), Alloc
 }
 
 // Puts a line for each link after the text.
-fn put_links(
-    alloc: Global,
-    text: &mut String,
-    links: &[Link],
-    scale: Scale,
-) -> Result<(), AllocError>
+fn put_links(text: &mut String, links: &[Link], scale: Scale) -> Result<(), AllocError>
     ensures { OnOk result (IsWritten (string_bytes text.old) (string_bytes text.new)
         (map (λ l. link_line l scale) links.now)) }
 {
     for link in links {
-        put_link(alloc, text, *link, scale)?;
+        put_link(text, *link, scale)?;
     }
     Ok(())
 }
 
-fn put_link(alloc: Global, text: &mut String, link: Link, scale: Scale) -> Result<(), AllocError>
+fn put_link(text: &mut String, link: Link, scale: Scale) -> Result<(), AllocError>
     ensures { OnOk result (IsWritten (string_bytes text.old) (string_bytes text.new) (link_line link scale ∷ [])) }
 {
-    let cost = amount_text(alloc, link.cost, scale)?;
-    writeln!(text, "E {} {} {cost}", link.a, link.b)
+    write!(text, "E {} {} ", link.a, link.b)?;
+    put_amount(text, link.cost, scale)?;
+    text.push_str("\n")
 }
 
 // Puts a line for each need after the text.
-fn put_needs(
-    alloc: Global,
-    text: &mut String,
-    needs: &[(u32, Need)],
-    scale: Scale,
-) -> Result<(), AllocError>
+fn put_needs(text: &mut String, needs: &[(u32, Need)], scale: Scale) -> Result<(), AllocError>
     ensures { OnOk result (IsWritten (string_bytes text.old) (string_bytes text.new)
         (map (λ entry. need_line entry scale) needs.now)) }
 {
     for entry in needs {
-        put_need(alloc, text, *entry, scale)?;
+        put_need(text, *entry, scale)?;
     }
     Ok(())
 }
 
-fn put_need(
-    alloc: Global,
-    text: &mut String,
-    entry: (u32, Need),
-    scale: Scale,
-) -> Result<(), AllocError>
+fn put_need(text: &mut String, entry: (u32, Need), scale: Scale) -> Result<(), AllocError>
     ensures { OnOk result (IsWritten (string_bytes text.old) (string_bytes text.new) (need_line entry scale ∷ [])) }
 {
     let (vertex, need) = entry;
     match need {
         Need::Required => writeln!(text, "T {vertex}"),
         Need::Pays(prize) => {
-            let prize = amount_text(alloc, prize, scale)?;
-            writeln!(text, "TP {vertex} {prize}")
+            write!(text, "TP {vertex} ")?;
+            put_amount(text, prize, scale)?;
+            text.push_str("\n")
         }
     }
 }

@@ -23,7 +23,8 @@ use Rattle.solution_reader.specs.Reason.{or_else}
 use Rattle.solution_reader.specs.Place.{Final, Got, Whole, Place, nothing, no_lines, with_primal, at_header, outside, passed_over, in_run, in_final, after_end, after, after_all}
 use Rattle.solution_reader.specs.Reasons.{reason, repeated}
 use Rattle.solution_reader.specs.Reads.{AllRight, IsRead, whole_at}
-use Rattle.solution_reader.proofs.WrittenWords.{line_words, lines_written, no_cr, quote_last, one_more_word, number_right, primal_written, amount_whole, amount_words, number_whole, number_words, numbers_words}
+use Rattle.stp_reader.proofs.WrittenWords.{one_more_word, no_cr}
+use Rattle.solution_reader.proofs.WrittenWords.{line_words, lines_written, quote_last, number_right, primal_written, amount_whole, amount_words, number_whole, number_words, numbers_words}
 
 -- no line has a reason, the last leads to this place, and none has an end within it
 pub record Goes (place : Place) (lines : List (List ℕ)) (next : Place) : Type 0 where

@@ -1,20 +1,20 @@
 -- The lines of a text are those that were written, and what their words are.
-use Rattle.std.proofs.Common.{◌≡◌, ℕ, ◌+◌, ◌*◌, ◌^◌, ◌<◌, ◌≤◌, Bool, true, false, not, eqb, leb, ◌&&◌, List, [], ◌∷◌, ◌++◌, length, map, Some, None, refl, ap, ◌∙◌, append_assoc, arith}
+use Rattle.std.proofs.Common.{◌≡◌, ℕ, ◌+◌, ◌*◌, ◌^◌, ◌<◌, ◌≤◌, true, not, eqb, leb, List, [], ◌∷◌, ◌++◌, map, Some, None, refl, ap, ◌∙◌, append_assoc, arith}
 use Rattle.std.specs.Fmt.{decimal}
-use Rattle.std.specs.List.{list_all, flat_map}
-use Rattle.std.specs.Prelude.{IsTrue}
-use Rattle.std.proofs.lemmas.Bool.{and_parts, and_from, false≢true}
+use Rattle.std.specs.List.{flat_map}
+use Rattle.std.proofs.lemmas.Bool.{and_parts, and_from}
 use Rattle.std.proofs.lemmas.Bool.Decides.{nat_tests}
 use Rattle.plain_text.specs.Lines.{ended}
 use Rattle.plain_text.proofs.Lacking.{lacks, lacks-append, are_whole}
 use Rattle.amounts.specs.declared.scale.Scale.{Scale}
 use Rattle.amounts.specs.declared.scale.Scale.TheVariants.{Whole, Millionths}
-use Rattle.amounts.specs.Amounts.{parts, is_amount, first_digits, whole_part, amount_said}
+use Rattle.amounts.specs.Amounts.{parts, first_digits, whole_part, amount_said}
 use Rattle.amounts.specs.Text.{amount_text}
 use Rattle.amounts.specs.Laws.{unit}
 use Rattle.amounts.proofs.Decimals.{number_decimal, value_decimal}
 use Rattle.amounts.proofs.Reread.{texts_are_read, lacks-amount_text}
-use Rattle.stp_reader.specs.Lines.{pieces, without_cr, is_blank, words, word_lines}
+use Rattle.stp_reader.specs.Lines.{without_cr, words, word_lines}
+use Rattle.stp_reader.proofs.WrittenWords.{is_plain, one_word, one_more_word, plain_amount, plain_decimal, first_line, no_cr}
 use Rattle.dimacs_writer.specs.Solution.{number_line, amount_line}
 use Rattle.solution_reader.specs.Numbers.{number_reason, primal_said}
 
@@ -24,26 +24,12 @@ use Rattle.solution_reader.specs.Numbers.{number_reason, primal_said}
 abbrev pub line_words : List ℕ → List (List ℕ)
 line_words line = words (without_cr line)
 
-whole_line : (bs rest : List ℕ) → lacks 10 bs ≡ true → pieces (bs ++ 10 ∷ rest) ≡ bs ∷ pieces rest
-whole_line [] rest h = refl
-whole_line (b ∷ bs) rest h =
-    let p = and_parts (not (eqb b 10)) (lacks 10 bs) h in
-    let other : eqb b 10 ≡ false = grind (arith, nat_tests, p.0) in
-    rw (other, whole_line bs rest p.1) refl
-
 -- whole lines are the lines of their text
 pub lines_written : (lines : List (List ℕ)) → are_whole lines ≡ true → word_lines (flat_map ended lines) ≡ map line_words lines
 lines_written [] h = refl
 lines_written (line ∷ lines) h =
     let p = and_parts (lacks 10 line) (are_whole lines) h in
-    let regrouped : flat_map ended (line ∷ lines) ≡ line ++ 10 ∷ flat_map ended lines = append_assoc line (10 ∷ []) (flat_map ended lines) in
-    let cut_is : pieces (flat_map ended (line ∷ lines)) ≡ line ∷ pieces (flat_map ended lines) = ap pieces regrouped ∙ whole_line line (flat_map ended lines) p.0 in
-    ap (map (λ piece. words (without_cr piece))) cut_is ∙ ap (λ (ls : List (List (List ℕ))). line_words line ∷ ls) (lines_written lines p.1)
-
-pub no_cr : (bs : List ℕ) → lacks 13 bs ≡ true → without_cr bs ≡ bs
-no_cr [] h = refl
-no_cr (b ∷ []) h = let p = and_parts (not (eqb b 13)) true h in let other : eqb b 13 ≡ false = grind (arith, nat_tests, p.0) in rw other refl
-no_cr (b ∷ c ∷ bs) h = let p = and_parts (not (eqb b 13)) (lacks 13 (c ∷ bs)) h in ap (λ cs. b ∷ cs) (no_cr (c ∷ bs) p.1)
+    first_line line (flat_map ended lines) p.0 ∙ ap (λ (ls : List (List (List ℕ))). line_words line ∷ ls) (lines_written lines p.1)
 
 -- a line that ends with a quote has no CR there
 pub quote_last : (bs : List ℕ) → without_cr (bs ++ 34 ∷ []) ≡ bs ++ 34 ∷ []
@@ -51,70 +37,7 @@ quote_last [] = refl
 quote_last (b ∷ []) = refl
 quote_last (b ∷ c ∷ bs) = ap (λ (cs : List ℕ). b ∷ cs) (quote_last (c ∷ bs))
 
--- ---- words
-
--- no byte that stands between words
-abbrev pub is_inner : ℕ → Bool
-is_inner b = not (is_blank b)
-
-abbrev pub is_plain : List ℕ → Bool
-is_plain word = not (eqb (length word) 0) && list_all is_inner word
-
-words_alone : (b : ℕ) (bs : List ℕ) → list_all is_inner (b ∷ bs) ≡ true → words (b ∷ bs) ≡ (b ∷ bs) ∷ []
-words_alone b [] h = let p = and_parts (is_inner b) true h in let q : is_blank b ≡ false = grind (arith, nat_tests) in rw q refl
-words_alone b (c ∷ bs) h =
-    let p = and_parts (is_inner b) (list_all is_inner (c ∷ bs)) h in
-    let q = and_parts (is_inner c) (list_all is_inner bs) p.1 in
-    let u : is_blank b ≡ false = grind (arith, nat_tests) in
-    let v : is_blank c ≡ false = grind (arith, nat_tests) in
-    rw (u, v, words_alone c bs p.1) refl
-
-words_before : (b : ℕ) (bs rest : List ℕ) → list_all is_inner (b ∷ bs) ≡ true → words ((b ∷ bs) ++ 32 ∷ rest) ≡ (b ∷ bs) ∷ words (32 ∷ rest)
-words_before b [] rest h = let p = and_parts (is_inner b) true h in let q : is_blank b ≡ false = grind (arith, nat_tests) in rw q refl
-words_before b (c ∷ bs) rest h =
-    let p = and_parts (is_inner b) (list_all is_inner (c ∷ bs)) h in
-    let q = and_parts (is_inner c) (list_all is_inner bs) p.1 in
-    let u : is_blank b ≡ false = grind (arith, nat_tests) in
-    let v : is_blank c ≡ false = grind (arith, nat_tests) in
-    rw (u, v, words_before c bs rest p.1) refl
-
-words_space : (bs : List ℕ) → words (32 ∷ bs) ≡ words bs
-words_space [] = refl
-words_space (c ∷ bs) = refl
-
-pub one_word : (w : List ℕ) → is_plain w ≡ true → words w ≡ w ∷ []
-one_word [] h = absurd cc
-one_word (b ∷ bs) h = words_alone b bs (and_parts (not (eqb (length (b ∷ bs)) 0)) (list_all is_inner (b ∷ bs)) h).1
-
-pub one_more_word : (w rest : List ℕ) → is_plain w ≡ true → words (w ++ 32 ∷ rest) ≡ w ∷ words rest
-one_more_word [] rest h = absurd cc
-one_more_word (b ∷ bs) rest h = words_before b bs rest (and_parts (not (eqb (length (b ∷ bs)) 0)) (list_all is_inner (b ∷ bs)) h).1 ∙ ap (λ ws. (b ∷ bs) ∷ ws) (words_space rest)
-
 -- ---- numbers and amounts
-
--- no blank stands in bytes without space and tab
-inner : (cs : List ℕ) → lacks 32 cs ≡ true → lacks 9 cs ≡ true → list_all is_inner cs ≡ true
-inner [] space tab = refl
-inner (c ∷ cs) space tab =
-    let p = and_parts (not (eqb c 32)) (lacks 32 cs) space in
-    let q = and_parts (not (eqb c 9)) (lacks 9 cs) tab in
-    let here : is_inner c ≡ true = grind (arith, nat_tests, p.0, q.0) in
-    and_from (is_inner c) (list_all is_inner cs) here (inner cs p.1 q.1)
-
--- an amount isn't empty
-some_byte : (word : List ℕ) → IsTrue (is_amount word) → not (eqb (length word) 0) ≡ true
-some_byte [] h = absurd (false≢true h)
-some_byte (b ∷ bs) h = grind (arith, nat_tests)
-
--- an amount that is written is a word
-plain_amount : (n : ℕ) (scale : Scale) → n < 2 ^ 64 → is_plain (amount_text n scale) ≡ true
-plain_amount n scale small =
-    let text = amount_text n scale in
-    and_from (not (eqb (length text) 0)) (list_all is_inner text) (some_byte text (texts_are_read n scale small).amount)
-    (inner text (lacks-amount_text 32 n scale (omega arith)) (lacks-amount_text 9 n scale (omega arith)))
-
-plain_decimal : (n : ℕ) → n < 2 ^ 64 → is_plain (decimal n) ≡ true
-plain_decimal n small = plain_amount n Whole small
 
 -- a number up to a limit has no reason
 pub number_right : (limit n : ℕ) → n ≤ limit → limit < 2 ^ 64 → number_reason limit (decimal n) ≡ None

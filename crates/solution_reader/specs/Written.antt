@@ -11,7 +11,7 @@ use Rattle.solution_reader.specs.Reads.{ReadsSolution}
 use Rattle.solution_reader.specs.Stated.{IsClaimedTree, IsStated}
 
 -- the bytes make a claim of this tree's vertices and links that states its cost, and that is this tree
-pub record IsReadBack (I : Network) (scale : Scale) (t : Tree) (bytes : List ℕ) : Type 0 where
+pub record ClaimsTree (I : Network) (scale : Scale) (t : Tree) (bytes : List ℕ) : Type 0 where
   pub claim : Claim
   pub reads : ReadsSolution bytes claim
   pub claimed : IsClaimedTree I claim t
@@ -21,4 +21,4 @@ pub record IsReadBack (I : Network) (scale : Scale) (t : Tree) (bytes : List ℕ
 -- each solution text of a tree of an instance at its cost, which is a number of units of the scale
 abbrev pub WrittenIsRead : Type 0
 WrittenIsRead = (I : Network) (t : Tree) (name : List ℕ) (workers dual : ℕ) (scale : Scale) (bytes : List ℕ) → IsInstance I → IsTree I t → workers < 2 ^ 64 → dual < 2 ^ 64 → IsSolutionText name workers t dual
-    (cost I t) scale bytes → IsReadBack I scale t bytes
+    (cost I t) scale bytes → ClaimsTree I scale t bytes

@@ -9,3 +9,4 @@ pub mod WordReasons
 pub mod Agreeing
 pub mod Whole
 pub mod OneAnswer
+pub mod WrittenWords

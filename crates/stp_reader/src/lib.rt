@@ -38,7 +38,7 @@ use reading::in_its_unit;
 pub use reason::Reason;
 use st_model::Instance;
 use std::alloc::Global;
-pub use words::{has_magic, is_remark, next_word};
+pub use words::{has_magic, is_remark, next_word, no_word, one_word, two_words};
 
 /// Reads an STP file, all of the bytes. Memory grows with the lines that were read and the number
 /// of vertices that they state.

@@ -1,7 +1,8 @@
-ghost use Rattle.std.specs.Prelude.{◌≡◌, ◌<◌, [], ◌∷◌, length, not, MatchOption, IfSome, position};
+ghost use Rattle.std.specs.Prelude.{◌≡◌, ◌<◌, [], ◌∷◌, length, not, MatchOption, IfSome, option_map, position};
 ghost use Rattle.std.specs.List.{list_any};
 ghost use Rattle.stp_reader.specs.Lines.{is_blank, words, is_remark};
 ghost use Rattle.stp_reader.specs.Words.{is_magic};
+ghost use Rattle.stp_reader.specs.Forms.{none, one, two, three};
 
 use crate::keyword::is_word;
 
@@ -36,6 +37,42 @@ pub fn next_word(line: &[u8]) -> Option<(&[u8], &[u8])>
     let rest = &line[start..];
     let end = blank_index(rest).unwrap_or(rest.len());
     Some(rest.split_at(end))
+}
+
+/// Whether no word stands there.
+pub fn no_word(args: &[u8]) -> bool
+    ensures { result ≡ none (words args.now) }
+{
+    next_word(args).is_none()
+}
+
+/// The one word that stands there, if it is one.
+pub fn one_word(args: &[u8]) -> Option<&[u8]>
+    ensures { option_map (λ u. u.now) result ≡ one (words args.now) }
+{
+    let (first, rest) = next_word(args)?;
+    if !no_word(rest) {
+        return None;
+    }
+    Some(first)
+}
+
+/// The two words that stand there, if there are two.
+pub fn two_words(args: &[u8]) -> Option<(&[u8], &[u8])>
+    ensures { option_map (λ w. (w.0.now, w.1.now)) result ≡ two (words args.now) }
+{
+    let (first, rest) = next_word(args)?;
+    let second = one_word(rest)?;
+    Some((first, second))
+}
+
+/// The three words that stand there, if there are three.
+pub fn three_words(args: &[u8]) -> Option<(&[u8], &[u8], &[u8])>
+    ensures { option_map (λ w. (w.0.now, w.1.now, w.2.now)) result ≡ three (words args.now) }
+{
+    let (first, rest) = next_word(args)?;
+    let (second, third) = two_words(rest)?;
+    Some((first, second, third))
 }
 
 /// Whether a word begins with #.
