@@ -1,5 +1,5 @@
 -- The vertices that the paths to settled vertices begin with.
-use Rattle.std.proofs.Common.{◌≡◌, ℕ, ◌<◌, ◌≤◌, cond, nat_lt, List, [], ◌∷◌, ◌++◌, length, map, drop, get_or, Option, Some, None, option_map, refl, sym, ap, ◌∙◌, ◌⊎◌, inl, inr, arith}
+use Rattle.std.proofs.Common.{◌≡◌, ℕ, ◌<◌, ◌≤◌, cond, nat_lt, List, [], ◌∷◌, ◌++◌, length, map, drop, set, get_or, Option, Some, None, option_map, refl, sym, ap, ◌∙◌, ◌⊎◌, inl, inr, arith}
 use Rattle.std.specs.Prelude.{unwrap_or}
 use Rattle.std.proofs.lemmas.Bool.{cases_lt}
 use Rattle.std.proofs.lemmas.List.{get_or_past, get_or-map, length-map, map-append}
@@ -70,3 +70,8 @@ sources_by settled (mark ∷ marks) = all marks
     all : (marks : List Mark) → map (source_by settled) marks ≡ map source_of (map (option_map (route_at settled)) (places_of marks))
     all [] = refl
     all (mark ∷ marks) = ap (λ sources. source_by settled mark ∷ sources) (all marks)
+
+-- the first mark is of no vertex
+pub first_cleared : (settled : List Settled) (marks : List Mark) → 1 ≤ length marks → set (map (source_by settled) marks) 0 0 ≡ 0 ∷ map (source_by settled) (drop 1 marks)
+first_cleared settled [] some = absurd (omega (arith, some))
+first_cleared settled (mark ∷ marks) some = refl

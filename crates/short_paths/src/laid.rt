@@ -29,9 +29,10 @@ impl Laid {
     {
         let mut reached = VertexSet::new(alloc, store.vertices() as usize + 1)?;
         reached.insert(start)?;
+        let arcs = Vec::with_capacity(alloc, store.vertices() as usize)?;
         Ok(Laid {
             start,
-            arcs: Vec::new(alloc),
+            arcs,
             reached,
         })
     }

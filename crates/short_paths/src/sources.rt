@@ -1,4 +1,4 @@
-ghost use Rattle.std.specs.Prelude.{◌≡◌, ◌∷◌, ◌≤◌, map, length, IfOk, slice_index_or, unwrap_or};
+ghost use Rattle.std.specs.Prelude.{◌≡◌, ◌∷◌, ◌≤◌, map, take, length, IfOk, slice_index_or, unwrap_or};
 ghost use Rattle.std.specs.Option.{option_map};
 ghost use Rattle.short_paths.specs.Marks.{places_of};
 ghost use Rattle.short_paths.specs.Routes.{source_of};
@@ -20,10 +20,12 @@ pub fn sources_of(
         ≡ 0 ∷ map source_of (routes_of settled.now (places_of marks.now))) }
 {
     let firsts = firsts_of(alloc, settled)?;
-    let mut sources = vec![in alloc; 0; 1]?;
-    for mark in &marks[1..] {
-        sources.push(first_at(&firsts, mark.place()))?;
+    let mut sources = vec![in alloc; 0; marks.len()]?;
+    for vertex in 0..marks.len() {
+        sources[vertex] = first_at(&firsts, marks[vertex].place());
     }
+    // Place 0 is of no vertex.
+    sources[0] = 0;
     Ok(sources)
 }
 
@@ -31,12 +33,22 @@ pub fn sources_of(
 fn firsts_of(alloc: Global, settled: &[Settled]) -> Result<Vec<u32>, AllocError>
     ensures { IfOk result (λ firsts. firsts.items ≡ map first_of (paths_of settled.now)) }
 {
-    let mut firsts: Vec<u32> = Vec::with_capacity(alloc, settled.len())?;
-    for one in settled {
-        let first = firsts.get(one.before as usize).copied();
-        firsts.push(first.unwrap_or(one.vertex))?;
+    let mut firsts = vec![in alloc; 0; settled.len()]?;
+    for place in 0..settled.len() {
+        firsts[place] = first_on(&firsts, place, settled[place]);
     }
     Ok(firsts)
+}
+
+// The source that the path to a settled vertex begins with, where those before a place are known.
+fn first_on(firsts: &[u32], place: usize, one: Settled) -> u32
+    requires { place ≤ length firsts.now }
+    ensures { result ≡ slice_index_or (take place firsts.now) one.before one.vertex }
+{
+    if (one.before as usize) < place {
+        return firsts[one.before as usize];
+    }
+    one.vertex
 }
 
 // The source at a place, and 0 where there is no place.

@@ -46,7 +46,7 @@ fn terminals_of(alloc: Global, store: &Store) -> Result<Vec<u32>, AllocError>
     ensures { IfOk result (λ terminals. AreThose (required store.now.network) store.now.network.n
         terminals.items) }
 {
-    let mut terminals = Vec::new(alloc);
+    let mut terminals = Vec::with_capacity(alloc, store.vertices() as usize)?;
     for before in 0..store.vertices() {
         let vertex = before + 1;
         if is_required(store, vertex) {
