@@ -42,9 +42,9 @@ impl Model for Checker {
     // The instance and its scale, and the pieces that came, one after the other.
     ghost Value = { Pieces };
 
-    ghost view = { λ c. record { instance = c.hearing.instance; scale = c.scale; text = c.fed.bytes } };
+    ghost view = { λ c. record { instance = c.hearing.instance; scale = c.scale; text = c.fed } };
 
-    ghost invariant = { λ c. IsFed c.hearing.lines c.is_bad c.part.items c.fed.bytes };
+    ghost invariant = { λ c. IsFed c.hearing.lines c.is_bad c.part.items c.fed };
 }
 
 impl Checker {

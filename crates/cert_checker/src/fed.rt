@@ -1,28 +1,35 @@
-// The bytes that were fed. They exist only in proofs, and take no memory.
-ghost use Rattle.std.specs.Prelude.{◌≡◌, ℕ, List, [], ◌++◌};
-ghost use Rattle.std.specs.Borrow.{ftrue};
+ghost use Rattle.std.specs.Prelude.{◌≡◌, [], ◌++◌};
 
+use log_format::Past;
 use std::marker::Model;
 
+/// The bytes that were fed. They exist only in proofs, and take no memory.
 #[derive(Drop)]
 pub struct Fed {
-    ghost bytes: { List ℕ },
+    past: Past,
 }
 
 impl Model for Fed {
-    ghost also_owns = { λ _. ftrue };
+    ghost use Rattle.std.specs.Prelude.{ℕ, List};
+    ghost use Rattle.std.specs.List.{flat_map};
+
+    ghost Value = { List ℕ };
+
+    ghost view = { λ f. flat_map (λ piece. piece) f.past.pieces };
 }
 
 impl Fed {
     // No byte.
     pub fn new() -> Fed
-        ensures { result.bytes ≡ [] }
+        ensures { result ≡ [] }
     {
-        Fed {}
+        Fed { past: Past::new() }
     }
 
     // Those bytes and some more.
-    pub fn note(&mut self, _piece: &[u8])
-        ensures { self.new.bytes ≡ self.old.bytes ++ _piece.now }
-    {}
+    pub fn note(&mut self, piece: &[u8])
+        ensures { self.new ≡ self.old ++ piece.now }
+    {
+        self.past.note(piece);
+    }
 }

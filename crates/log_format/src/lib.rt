@@ -36,6 +36,7 @@ pub use law::{
     rejected_exactly,
 };
 pub use log::{Claim, Log};
+pub use past::Past;
 pub use proof::Proof;
 pub use proof_line::ProofLine;
 pub use read::read_log;

@@ -1,12 +1,13 @@
-// The lines that were read. They exist only in proofs, and take no memory.
 ghost use Rattle.std.specs.Prelude.{◌≡◌, ℕ, List, [], ◌∷◌, ◌++◌};
 ghost use Rattle.std.specs.Borrow.{ftrue};
 
 use std::marker::Model;
 
+/// The texts that were read, such as lines, one after the other. They exist only in proofs, and take no
+/// memory.
 #[derive(Drop)]
-pub(crate) struct Past {
-    ghost lines: { List (List ℕ) },
+pub struct Past {
+    pub ghost pieces: { List (List ℕ) },
 }
 
 impl Model for Past {
@@ -14,15 +15,15 @@ impl Model for Past {
 }
 
 impl Past {
-    // No line.
-    pub(crate) fn new() -> Past
-        ensures { result.lines ≡ [] }
+    /// No text.
+    pub fn new() -> Past
+        ensures { result.pieces ≡ [] }
     {
         Past {}
     }
 
-    // Those lines and one more.
-    pub(crate) fn note(&mut self, _line: &[u8])
-        ensures { self.new.lines ≡ self.old.lines ++ _line.now ∷ [] }
+    /// Those texts and one more.
+    pub fn note(&mut self, _piece: &[u8])
+        ensures { self.new.pieces ≡ self.old.pieces ++ _piece.now ∷ [] }
     {}
 }

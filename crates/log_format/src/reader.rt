@@ -26,9 +26,9 @@ impl Model for LogReader {
 
     ghost use Rattle.log_format.specs.Places.{IsAfter};
 
-    ghost view = { λ r. r.past.lines };
+    ghost view = { λ r. r.past.pieces };
 
-    ghost invariant = { λ r. IsAfter r.past.lines r.place };
+    ghost invariant = { λ r. IsAfter r.past.pieces r.place };
 }
 
 impl LogReader {

@@ -5,7 +5,7 @@ use Rattle.cert_checker.proofs.Pieces.{taken_none}
 use Rattle.cert_checker.proofs.checker.Checker.begin.Goals as goal
 
 pub invariant_of-result : goal.invariant_of-result
-invariant_of-result c = taken_none c.new.result.lines c.new-2.result.items c.new-3.result.bytes (ap (λ (l : Lines). l.lines) c.new.ensures.none) c.new-2.ensures.items c.new-3.ensures c.new.ensures.begins
+invariant_of-result c = taken_none c.new.result.lines c.new-2.result.items c.new-3.result (ap (λ (l : Lines). l.lines) c.new.ensures.none) c.new-2.ensures.items c.new-3.ensures c.new.ensures.begins
 
 pub returns-in_err-reading-clause-only : goal.returns-in_err-reading-clause-only
 returns-in_err-reading-clause-only c = λ I scale reads. fault_only c.from_residual.result c.in_err-reading.field-0.0 _ c.from_residual.ensures.1 (c.in_err-reading.ensures.only I scale reads)
@@ -19,4 +19,4 @@ returns-clause-refused c = λ line reason refused. absurd (never_refused (Ok c.i
 pub returns-clause-only : goal.returns-clause-only
 returns-clause-only c = λ I scale reads.
     let is = c.in_ok-reading.ensures.only I scale reads in
-    made_of I c.new.result.instance scale c.in_ok-reading.reading.scale c.new-3.result.bytes (ap (λ (l : Lines). l.instance) c.new.ensures.none ∙ is.0) is.1 c.new-3.ensures
+    made_of I c.new.result.instance scale c.in_ok-reading.reading.scale c.new-3.result (ap (λ (l : Lines). l.instance) c.new.ensures.none ∙ is.0) is.1 c.new-3.ensures

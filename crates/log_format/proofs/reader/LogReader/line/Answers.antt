@@ -8,22 +8,22 @@ use Rattle.log_format.proofs.PlaceLaws.{said_takes, after_is_place, after_more, 
 use Rattle.log_format.proofs.reader.LogReader.line.Goals as goal
 
 pub said-requires : goal.said-requires
-said-requires c = after_is_place c.self.inside.past.lines c.self.inside.place c.self.invariant
+said-requires c = after_is_place c.self.inside.past.pieces c.self.inside.place c.self.invariant
 
 pub returns-in_err-item-clause-refused : goal.returns-in_err-item-clause-refused
 returns-in_err-item-clause-refused c = λ is begins.
     let p = err_from_is_err_and c.from_residual.result c.from_residual.ensures.1 in
     let bad : c.in_err-item.field-0.0 ≡ BadLine = cc in
     let none : said c.self.inside.place c.args.line.now ≡ None = subst (λ (e : LineError). Fails e (said c.self.inside.place c.args.line.now)) bad c.in_err-item.ensures in
-    after_stops c.self.inside.past.lines c.self.inside.place c.args.line.now c.self.invariant none (rw c.self.view_is begins)
+    after_stops c.self.inside.past.pieces c.self.inside.place c.args.line.now c.self.invariant none (rw c.self.view_is begins)
 
 pub invariant_of-self : goal.invariant_of-self
-invariant_of-self c = rw c.note.ensures (after_more c.self.inside.past.lines c.self.inside.place c.args.line.now (c.in_ok-item.item, c.in_ok-item.place) c.self.invariant c.in_ok-item.ensures)
+invariant_of-self c = rw c.note.ensures (after_more c.self.inside.past.pieces c.self.inside.place c.args.line.now (c.in_ok-item.item, c.in_ok-item.place) c.self.invariant c.in_ok-item.ensures)
 
 pub returns-clause-begins : goal.returns-clause-begins
 returns-clause-begins c =
-    let after : IsAfter c.note.new.self.lines c.in_ok-item.place = rw c.note.ensures (after_more c.self.inside.past.lines c.self.inside.place c.args.line.now (c.in_ok-item.item, c.in_ok-item.place) c.self.invariant c.in_ok-item.ensures) in
-    after_begins c.note.new.self.lines c.in_ok-item.place after
+    let after : IsAfter c.note.new.self.pieces c.in_ok-item.place = rw c.note.ensures (after_more c.self.inside.past.pieces c.self.inside.place c.args.line.now (c.in_ok-item.item, c.in_ok-item.place) c.self.invariant c.in_ok-item.ensures) in
+    after_begins c.note.new.self.pieces c.in_ok-item.place after
 
 pub returns-clause-item : goal.returns-clause-item
 returns-clause-item c = said_takes c.self.inside.place c.args.line.now (c.in_ok-item.item, c.in_ok-item.place) c.in_ok-item.ensures
