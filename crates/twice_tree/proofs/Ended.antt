@@ -116,10 +116,6 @@ none_present g none t tree belongs present =
     let here = present t.start (has-reached_from (t.start ∷ []) t.arcs t.start (has-cons_head [] t.start t.start refl)) in
     false≢true (sym (none t.start tree.arborescence.start) ∙ here)
 
--- each tree is one of the branch of all trees
-pub belongs_to_all : (t : Tree) → Belongs all_trees t
-belongs_to_all t = record { inside = λ v there. absurd (false≢true there); outside = λ v there. absurd (false≢true there) }
-
 -- where all that are listed are in an empty set, there is none
 pub none_listed : (I : Network) (terminals set : List ℕ) → AreThose (is_required I) I.n terminals → set ≡ [] → ((v : ℕ) → IsTrue (has terminals v) → IsTrue (has set v)) → (v : ℕ) → IsTerminal I v → ⊥
 none_listed I terminals set those empty all v terminal = false≢true (ap (λ (xs : List ℕ). has xs v) (sym empty) ∙ all v (those.same v terminal.vertex ∙ terminal.required))
