@@ -200,13 +200,15 @@ fn shortens_a_path(rt: HostRuntime) -> Result<(), Fail> {
 fn lends_the_rest(alloc: Global, reduced: &Reduced) -> Result<bool, AllocError> {
     let store = reduced.store();
     let links = store.links(alloc)?;
-    Ok(store.vertices() == 4
-        && store.is_present(1)
-        && !store.is_present(2)
-        && !store.is_present(3)
-        && store.is_present(4)
-        && store.link_cost(1, 4) == Some(8)
-        && links.len() == 1)
+    Ok(
+        store.vertices() == 4
+            && store.is_present(1)
+            && !store.is_present(2)
+            && !store.is_present(3)
+            && store.is_present(4)
+            && store.link_cost(1, 4) == Some(8)
+            && links.len() == 1,
+    )
 }
 
 // Whether that is lent of the path once it is shortened.
