@@ -204,8 +204,7 @@ fn end_section(stage: &mut Stage)
     }
 }
 
-// Takes a line that isn't skipped. Most lines list a link or a need: these are taken in place, and what the others move
-// stands in functions of its own, since a function pays for all of its locals at each call.
+// Takes a line that isn't skipped. Nearly all lines of a large file list a link or a need, and move nothing.
 #[tactic(auto, unfolding(crate::specs::Judging::judge_line))]
 fn take_said(
     alloc: Global,
