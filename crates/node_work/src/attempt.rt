@@ -1,27 +1,23 @@
 ghost use Rattle.std.specs.Prelude.{◌<◌, All, IfOk, IfSome};
 ghost use Rattle.std.specs.Thread.{IsSync};
-ghost use Rattle.node_work.specs.Trying.{IsAt, IsTriedAt, RefinesAt};
+ghost use Rattle.node_work.specs.Target.{IsRaisedFor, IsRefinedFor};
+ghost use Rattle.node_work.specs.Trying.{IsTriedFor};
 
 use crate::freeing::Freeing;
 use crate::rooted::Rooted;
+use crate::target::Target;
 use better_trees::{Draws, gap};
 use cut_packing::weight;
 use dual_ascent::{Extension, free, raise_over};
-use graph_store::Whole;
-use st_model::Sides;
 use std::alloc::{AllocError, Global};
 use std::thread;
 use std::thread::{Threads, join_mut};
 
-/// Where attempts are made: a branch, its root, a tree that says where faults are, if there is one, and
-/// what a packing may weigh at most.
+/// Where attempts are made: what for, and a tree that says where faults are, if there is one.
 #[derive(Clone, Copy)]
 pub struct Site<'a> {
-    pub whole: &'a Whole,
-    pub branch: &'a Sides,
-    pub root: u32,
+    pub target: Target<'a>,
     pub tree: &'a Option<Rooted>,
-    pub least: u64,
 }
 
 /// What is drawn to make a packing heavier, and what came of it, if that is no lighter.
@@ -40,10 +36,10 @@ impl Attempt {
         }
     }
 
-    // Frees cuts round a fault, and raises cuts again in an order that is drawn.
+    // Frees cuts round a fault, and raises cuts again in a random order.
     fn make(&mut self, alloc: Global, site: &Site<'_>, extension: &Extension)
-        requires { IsAt site.now extension.now }
-        ensures { IsTriedAt site.now extension.now self.new }
+        requires { IsRaisedFor site.now.target extension.now }
+        ensures { IsTriedFor site.now.target extension.now self.new }
     {
         self.raised = self.raised_again(alloc, site, extension);
     }
@@ -54,20 +50,13 @@ impl Attempt {
         site: &Site<'_>,
         extension: &Extension,
     ) -> Result<Option<Extension>, AllocError>
-        requires { IsAt site.now extension.now }
-        ensures { IfOk result (λ raised. IfSome raised (RefinesAt site.now extension.now)) }
+        requires { IsRaisedFor site.now.target extension.now }
+        ensures { IfOk result (λ raised. IfSome raised (IsRefinedFor site.now.target extension.now)) }
     {
-        let whole = site.whole;
-        let freeing = Freeing::drawn(
-            alloc,
-            whole,
-            site.branch,
-            extension,
-            site.tree,
-            &mut self.draws,
-        )?;
+        let place = &site.target.place;
+        let freeing = Freeing::random(alloc, place, extension, site.tree, &mut self.draws)?;
         let freed = freeing.marks(alloc, extension.ascent.packing(), &mut self.draws)?;
-        let order = self.draws.order(alloc, whole.instance.vertices())?;
+        let order = self.draws.order(alloc, place.whole.instance.vertices())?;
         raised_without(alloc, site, extension, &freed, &order)
     }
 }
@@ -81,15 +70,15 @@ fn raised_without(
     freed: &[bool],
     order: &[u32],
 ) -> Result<Option<Extension>, AllocError>
-    requires { IsAt site.now extension.now }
-    ensures { IfOk result (λ raised. IfSome raised (RefinesAt site.now extension.now)) }
+    requires { IsRaisedFor site.now.target extension.now }
+    ensures { IfOk result (λ raised. IfSome raised (IsRefinedFor site.now.target extension.now)) }
 {
-    let whole = site.whole;
-    let branch = site.branch;
+    let whole = site.target.place.whole;
+    let branch = site.target.place.branch;
     let mut left = extension.left.copied(alloc)?;
     let packing = extension.ascent.packing();
     let kept = free(alloc, &whole.store, branch, packing, &mut left, freed)?;
-    let target = gap(&whole.instance, branch, &kept, site.least);
+    let target = gap(&whole.instance, branch, &kept, site.target.least);
     let raised = raise_over(alloc, &whole.store, branch, kept, left, order, target)?;
     let before = weight(&whole.instance, branch.branch(), packing);
     if weight(&whole.instance, branch.branch(), raised.ascent.packing()) < before {
@@ -107,8 +96,8 @@ pub fn make_all<R: Threads + Sync>(
     attempts: &mut [Attempt],
     threads: usize,
 )
-    requires { IsAt site.now extension.now }
-    ensures { All (IsTriedAt site.now extension.now) attempts.new }
+    requires { IsRaisedFor site.now.target extension.now }
+    ensures { All (IsTriedFor site.now.target extension.now) attempts.new }
 {
     if threads > 1 {
         let size = attempts.len().div_ceil(threads).max(1);
@@ -126,16 +115,16 @@ fn make_in_turn<R: Threads + Sync>(
     extension: &Extension,
     attempts: &mut [Attempt],
 )
-    requires { IsAt site.now extension.now }
-    ensures { All (IsTriedAt site.now extension.now) attempts.new }
+    requires { IsRaisedFor site.now.target extension.now }
+    ensures { All (IsTriedFor site.now.target extension.now) attempts.new }
 {
     thread::for_each_mut(
         rt,
         attempts,
         1,
         &|_, attempt: &mut Attempt|
-            requires { IsAt site.now extension.now }
-            ensures { IsTriedAt site.entry.now extension.entry.now attempt.exit.now }
+            requires { IsRaisedFor site.now.target extension.now }
+            ensures { IsTriedFor site.entry.now.target extension.entry.now attempt.exit.now }
         { attempt.make(alloc, site, extension) },
     );
 }
@@ -152,8 +141,8 @@ fn make_apart<R: Threads + Sync>(
     attempts: &mut [Attempt],
 )
     requires size { 0 < size }
-    requires at { IsAt site.now extension.now }
-    ensures { All (IsTriedAt site.now extension.now) attempts.new }
+    requires at { IsRaisedFor site.now.target extension.now }
+    ensures { All (IsTriedFor site.now.target extension.now) attempts.new }
 {
     if attempts.is_empty() {
         return;
@@ -161,12 +150,12 @@ fn make_apart<R: Threads + Sync>(
     let few = size.min(attempts.len());
     let (first, rest) = attempts.split_at_mut(few);
     let mut one = ||
-        requires { IsSync R.row × IsAt site.now extension.now }
-        ensures { All (IsTriedAt site.entry.now extension.entry.now) first.exit.now }
+        requires { IsSync R.row × IsRaisedFor site.now.target extension.now }
+        ensures { All (IsTriedFor site.entry.now.target extension.entry.now) first.exit.now }
     { make_in_turn(rt, alloc, site, extension, first) };
     let mut others = ||
-        requires { IsSync R.row × (0 < size) × IsAt site.now extension.now }
-        ensures { All (IsTriedAt site.entry.now extension.entry.now) rest.exit.now }
+        requires { IsSync R.row × (0 < size) × IsRaisedFor site.now.target extension.now }
+        ensures { All (IsTriedFor site.entry.now.target extension.entry.now) rest.exit.now }
     { make_apart(rt, alloc, site, extension, size, rest) };
     join_mut(rt, &mut one, &mut others);
 }

@@ -1,7 +1,7 @@
 use crate::room::Room;
+use better_trees::Place;
 use better_trees::by_vertex::at;
 use cut_packing::Packing;
-use graph_store::Whole;
 use st_model::Sides;
 use std::alloc::{AllocError, Global};
 
@@ -9,13 +9,13 @@ use std::alloc::{AllocError, Global};
 /// arcs that bear more of its cuts than they cost. Those whose prizes the packing counts are with them.
 pub fn needed(
     alloc: Global,
-    whole: &Whole,
-    branch: &Sides,
+    place: &Place<'_>,
     part: &Sides,
     packing: &Packing,
 ) -> Result<Vec<u32>, AllocError> {
+    let whole = place.whole;
     let vertices = whole.instance.vertices();
-    let mut room = Room::of(alloc, &whole.store, &whole.instance, branch)?;
+    let mut room = Room::of(alloc, &whole.store, &whole.instance, place.branch)?;
     let mut short = vec![in alloc; false; vertices as usize + 1]?;
     for cut in packing.cuts.as_slice() {
         room.charge(cut.set.as_slice(), cut.y, &mut short);
@@ -23,7 +23,7 @@ pub fn needed(
     let mut needed = Vec::new(alloc);
     for before in 0..vertices {
         let vertex = before + 1;
-        let is_deleted = part.is_outside(vertex) && !branch.is_outside(vertex);
+        let is_deleted = part.is_outside(vertex) && !place.branch.is_outside(vertex);
         if is_deleted && (at(&short, vertex, false) || whole.instance.prize(vertex) > 0) {
             needed.push(vertex)?;
         }

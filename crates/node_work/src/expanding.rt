@@ -5,7 +5,6 @@ ghost use Rattle.st_model.specs.Network.{IsInstance, pays};
 ghost use Rattle.cut_packing.specs.Full.{IsFull};
 ghost use Rattle.cut_packing.specs.Packing.{weight};
 ghost use Rattle.cut_packing.specs.ProofTree.{IsSplit};
-ghost use Rattle.dual_ascent.specs.Extension.{IsRootFor, IsStart};
 ghost use Rattle.branching.specs.Choice.{IsChoice, IsDecided};
 ghost use Rattle.better_trees.specs.Better.{IsBetter, least_after};
 ghost use Rattle.node_work.specs.Finding.{IsFinding};
@@ -19,48 +18,51 @@ use crate::guessing::{guess, together};
 use crate::node::{OpenNode, node_of};
 use crate::picking::pick;
 use crate::plan::Plan;
-use crate::refining::Guide;
 use crate::rounds::{Rounds, work_by_rounds};
 use crate::step::{End, Finding, Step};
-use better_trees::{Effort, Priced, gap, least_after, near_root, priced, tree_of};
+use crate::target::Target;
+use better_trees::{
+    Effort, Incumbent, Means, Place, Priced, gap, least_after, near_root, priced, tree_of,
+};
 use branching::{Node, choose};
 use cut_packing::{Packing, weight};
 use dual_ascent::{Ascent, Extension};
 use graph_store::Whole;
 use level_packing::{Leaf, close_all};
-use st_model::{Instance, Sides, Tree, VertexSet};
+use st_model::{Instance, Sides};
 use std::alloc::{AllocError, Global};
 use std::thread::Threads;
 
-/// Works on a node. It closes where its packing weighs as much as `least`, the least cost known of
-/// a tree, or where nothing is left to decide. Else its packing is extended until it weighs so
-/// much, or is full; a full one leads to a tree, which may be cheaper, and unless it weighs as much
-/// as the cheapest one known the node splits. `known` is the best tree that is known: where it
-/// branches a split tells most. Where a plan was made for the node, it is followed. Trees are drawn in
-/// `threads` threads, at most.
+/// Works on a node. It closes where its packing weighs as much as the incumbent costs, or where nothing
+/// is left to decide. Else its packing is extended until it weighs so much, or is full; a full one leads
+/// to a tree, which may be cheaper, and unless it weighs as much as the cheapest one known the node
+/// splits. At key vertices of the incumbent a split tells most. Where a plan was made for the node, it is
+/// followed. Trees are looked for in `threads` threads, at most.
 pub fn expand<R: Threads + Sync>(
     rt: &R,
     alloc: Global,
     whole: &Whole,
     node: Node,
-    least: u64,
-    known: &Tree,
+    incumbent: &Incumbent<'_>,
     plan: Option<Plan>,
     threads: usize,
 ) -> Result<Step, AllocError>
     requires instance { IsInstance whole.now.instance }
     requires node { IsWritableNode whole.now.instance node }
     requires cheap { NoneIsCertain whole.now.instance node.branch
-        → least ≤ sum_to (pays whole.now.instance) whole.now.instance.n }
-    ensures { IfOk result (IsStep whole.now.instance node least) }
+        → incumbent.now.cost ≤ sum_to (pays whole.now.instance) whole.now.instance.n }
+    ensures { IfOk result (IsStep whole.now.instance node incumbent.now.cost) }
 {
-    if weight(&whole.instance, &node.branch, &node.packing) >= u128::from(least) {
+    if weight(&whole.instance, &node.branch, &node.packing) >= u128::from(incumbent.cost) {
         return Ok(closed(node.packing));
     }
-    match choose(&node, &whole.instance) {
-        Some(vertex) => take_up(rt, alloc, whole, node, vertex, least, known, plan, threads),
-        None => close(alloc, &whole.instance, node, least),
-    }
+    let Some(vertex) = choose(&node, &whole.instance) else {
+        return close(alloc, &whole.instance, node, incumbent.cost);
+    };
+    let is_bare = node.packing.cuts.as_slice().is_empty();
+    let effort = Effort::at(&node.branch, is_bare, threads);
+    let means = Means { rt, alloc, effort };
+    take_up(&means, whole, node, vertex, incumbent, plan)
 }
 
 // Closes a node with nothing left to decide, by a level packing that weighs what a tree costs, or
@@ -97,28 +99,25 @@ pub fn closed(packing: Packing) -> Step
 // Works on a node that weighs less than the least cost known, and that can be split at the vertex
 // given. Where no vertex is certain, so that there is no root for cuts, it splits there.
 fn take_up<R: Threads + Sync>(
-    rt: &R,
-    alloc: Global,
+    means: &Means<'_, R>,
     whole: &Whole,
     node: Node,
     given: u32,
-    least: u64,
-    known: &Tree,
+    incumbent: &Incumbent<'_>,
     plan: Option<Plan>,
-    threads: usize,
 ) -> Result<Step, AllocError>
     requires instance { IsInstance whole.now.instance }
     requires node { IsWritableNode whole.now.instance node }
     requires given { IsChoice whole.now.instance node.branch given }
-    requires light { weight whole.now.instance node.branch node.packing < least }
-    ensures { IfOk result (IsStep whole.now.instance node least) }
+    requires light { weight whole.now.instance node.branch node.packing < incumbent.now.cost }
+    ensures { IfOk result (IsStep whole.now.instance node incumbent.now.cost) }
 {
     let Node {
         id,
         branch,
         packing,
     } = node;
-    let branch = Sides::of(alloc, branch)?;
+    let branch = Sides::of(means.alloc, branch)?;
     let Some(root) = root_of(&whole.instance, &branch, &packing) else {
         return Ok(split(node_of(id, branch, packing), given));
     };
@@ -130,24 +129,20 @@ fn take_up<R: Threads + Sync>(
         given,
     };
     match plan {
-        Some(plan) => follow(rt, alloc, whole, node, least, known, plan, threads),
-        None => work_on(rt, alloc, whole, node, least, known, threads),
+        Some(plan) => follow(means, whole, node, incumbent, plan),
+        None => work_on(means, whole, node, incumbent),
     }
 }
 
 /// Refines the packing of a node and looks for trees: it closes, or splits where it tells most.
 pub fn work_on<R: Threads + Sync>(
-    rt: &R,
-    alloc: Global,
+    means: &Means<'_, R>,
     whole: &Whole,
     node: OpenNode,
-    least: u64,
-    known: &Tree,
-    threads: usize,
+    incumbent: &Incumbent<'_>,
 ) -> Result<Step, AllocError>
-    requires instance { IsInstance whole.now.instance }
-    requires node { IsOpen whole.now.instance node least }
-    ensures { IfOk result (IsStep whole.now.instance (as_node node) least) }
+    requires node { IsOpen whole.now.instance node incumbent.now.cost }
+    ensures { IfOk result (IsStep whole.now.instance (as_node node) incumbent.now.cost) }
 {
     let OpenNode {
         id,
@@ -156,15 +151,19 @@ pub fn work_on<R: Threads + Sync>(
         root,
         given,
     } = node;
-    let is_bare = packing.cuts.as_slice().is_empty();
-    let effort = Effort::at(branch.branch(), is_bare, threads);
+    let place = Place {
+        whole,
+        branch: &branch,
+    };
+    let least = incumbent.cost;
+    // So that what closes the branch can be written.
+    prove!(least <= u64::MAX);
+    let target = Target { place, root, least };
     let Rounds {
         extension,
         better,
-        joints,
-    } = work_by_rounds(
-        rt, alloc, whole, &branch, packing, root, least, known, effort,
-    )?;
+        key_vertices,
+    } = work_by_rounds(means, &target, packing, incumbent)?;
     let Extension { ascent, left } = extension;
     match ascent {
         Ascent::Reached(packing) => Ok(Step {
@@ -172,51 +171,24 @@ pub fn work_on<R: Threads + Sync>(
             end: End::Close(packing),
         }),
         Ascent::Full(packing) => {
-            let price = least_after(least, &better);
-            let limit = gap(&whole.instance, &branch, &packing, price);
-            let near = near_root(alloc, &left.arcs, limit)?;
-            let more = guessed(
-                rt,
-                alloc,
-                whole,
-                &branch,
-                &packing,
-                &near,
+            let known = Incumbent {
+                tree: tree_of(incumbent.tree, &better),
+                cost: least_after(least, &better),
+            };
+            let limit = gap(&whole.instance, &branch, &packing, known.cost);
+            let near = near_root(means.alloc, &left.arcs, limit)?;
+            let below = Target {
+                place,
                 root,
-                price,
-                tree_of(known, &better),
-                effort,
-            )?;
-            let vertex = pick(&left.arcs, &whole.instance, &branch, &near, &joints, given);
+                least: known.cost,
+            };
+            let more = guess(means, &below, &packing, &near, &known)?;
+            let arcs = &left.arcs;
+            let vertex = pick(arcs, &whole.instance, &branch, &near, &key_vertices, given);
             let node = node_of(id, branch, packing);
             Ok(concluded(&whole.instance, node, vertex, together(better, more), least))
         }
     }
-}
-
-// What is found by a guess, by a tree that costs so much.
-fn guessed<R: Threads + Sync>(
-    rt: &R,
-    alloc: Global,
-    whole: &Whole,
-    branch: &Sides,
-    packing: &Packing,
-    near: &VertexSet,
-    root: u32,
-    price: u64,
-    tree: &Tree,
-    effort: Effort,
-) -> Result<Finding, AllocError>
-    requires instance { IsInstance whole.now.instance }
-    requires start { IsStart whole.now.instance branch.now packing.now }
-    requires rooted { IsRootFor whole.now.instance branch.now packing.now root }
-    ensures { IfOk result (IsFinding whole.now.instance branch.now price) }
-{
-    let mut guide = Guide::at(tree, price, effort);
-    let found = guess(
-        rt, alloc, whole, branch, packing, near, root, price, &mut guide,
-    )?;
-    Ok(found)
 }
 
 // A split, with no better tree.

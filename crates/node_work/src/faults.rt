@@ -1,10 +1,9 @@
 use crate::rooted::Rooted;
-use better_trees::Draws;
 use better_trees::by_vertex::{at, put};
+use better_trees::{Draws, Place};
 use cut_packing::{Cut, Packing};
 use dual_ascent::Extension;
 use graph_store::Whole;
-use st_model::Sides;
 use std::alloc::{AllocError, Global};
 
 /// What parts a packing from a tree: where there is no fault, they weigh the same.
@@ -17,16 +16,16 @@ pub enum Fault {
     Vertex(u32),
 }
 
-/// A fault that is drawn of those of an extension's packing, if there are any. Nothing is claimed of it:
+/// A random fault of an extension's packing, if there are any. Nothing is claimed of it:
 /// what is changed there is judged.
-pub fn drawn_fault(
+pub fn random_fault(
     alloc: Global,
-    whole: &Whole,
-    branch: &Sides,
+    place: &Place<'_>,
     extension: &Extension,
     tree: &Rooted,
     draws: &mut Draws,
 ) -> Result<Option<Fault>, AllocError> {
+    let whole = place.whole;
     let packing = extension.ascent.packing();
     let mut faults = faulty_cuts(alloc, whole, packing, tree)?;
     let named = named(alloc, whole, packing)?;
@@ -36,7 +35,7 @@ pub fn drawn_fault(
             Some(tail) => extension.left.arcs.remaining(tail, vertex).unwrap_or(0) > 0,
             None => {
                 !tree.has(vertex)
-                    && branch.is_free(&whole.instance, vertex)
+                    && place.branch.is_free(&whole.instance, vertex)
                     && whole.instance.prize(vertex) > at(&named, vertex, 0)
             }
         };
@@ -44,8 +43,8 @@ pub fn drawn_fault(
             faults.push(Fault::Vertex(vertex))?;
         }
     }
-    let place = draws.below(faults.len() as u64) as usize;
-    Ok(faults.get(place).copied())
+    let index = draws.below(faults.len() as u64) as usize;
+    Ok(faults.get(index).copied())
 }
 
 // The cuts that the tree enters more often than it has to.

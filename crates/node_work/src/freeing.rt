@@ -1,11 +1,10 @@
-use crate::faults::{Fault, drawn_fault};
+use crate::faults::{Fault, random_fault};
 use crate::rooted::Rooted;
-use better_trees::Draws;
 use better_trees::by_vertex::{at, put};
+use better_trees::{Draws, Place};
 use cut_packing::{Cut, Packing};
 use dual_ascent::Extension;
-use graph_store::Whole;
-use st_model::{Instance, Sides};
+use st_model::Instance;
 use std::alloc::{AllocError, Global};
 
 // Of the cuts round a fault each is freed with a chance of so many percent at least.
@@ -26,26 +25,26 @@ pub struct Freeing {
 }
 
 impl Freeing {
-    /// Round a fault of an extension's packing that is drawn, or where there is none round a vertex.
-    pub fn drawn(
+    /// Round a random fault of an extension's packing, or where there is none round a vertex.
+    pub fn random(
         alloc: Global,
-        whole: &Whole,
-        branch: &Sides,
+        place: &Place<'_>,
         extension: &Extension,
         tree: &Option<Rooted>,
         draws: &mut Draws,
     ) -> Result<Freeing, AllocError> {
         let fault = match tree {
-            Some(tree) => drawn_fault(alloc, whole, branch, extension, tree, draws)?,
+            Some(tree) => random_fault(alloc, place, extension, tree, draws)?,
             None => None,
         };
-        let centre = centre(&whole.instance, extension.ascent.packing(), fault, draws);
+        let instance = &place.whole.instance;
+        let centre = centre(instance, extension.ascent.packing(), fault, draws);
         Ok(Freeing {
             faulty: match fault {
                 Some(Fault::Cut(place)) => Some(place),
                 Some(Fault::Vertex(_)) | None => None,
             },
-            ball: ball(alloc, whole, branch, centre, size(&whole.instance, draws))?,
+            ball: ball(alloc, place, centre, size(instance, draws))?,
             percent: draws
                 .below(100 - LEAST_PERCENT)
                 .saturating_add(LEAST_PERCENT),
@@ -80,20 +79,20 @@ impl Freeing {
     }
 }
 
-// Where a fault is; a vertex that is drawn where there is none.
+// Where a fault is; a random vertex where there is none.
 fn centre(instance: &Instance, packing: &Packing, fault: Option<Fault>, draws: &mut Draws) -> u32 {
     match fault {
         Some(Fault::Vertex(vertex)) => vertex,
         Some(Fault::Cut(place)) => match packing.cuts.as_slice().get(place) {
-            Some(cut) => drawn_of(cut.set.as_slice(), draws),
+            Some(cut) => random_of(cut.set.as_slice(), draws),
             None => 0,
         },
         None => draws.vertex(instance.vertices()),
     }
 }
 
-// One of some vertices that is drawn; 0 where there are none.
-fn drawn_of(vertices: &[u32], draws: &mut Draws) -> u32 {
+// A random one of some vertices; 0 where there are none.
+fn random_of(vertices: &[u32], draws: &mut Draws) -> u32 {
     let place = draws.below(vertices.len() as u64) as usize;
     vertices.get(place).copied().unwrap_or(0)
 }
@@ -109,25 +108,24 @@ fn size(instance: &Instance, draws: &mut Draws) -> usize {
 // those that are outside.
 fn ball(
     alloc: Global,
-    whole: &Whole,
-    branch: &Sides,
+    place: &Place<'_>,
     centre: u32,
     size: usize,
 ) -> Result<Vec<bool>, AllocError> {
-    let store = &whole.store;
+    let store = &place.whole.store;
     let mut marks = vec![in alloc; false; store.vertices() as usize + 1]?;
     let mut reached = Vec::new(alloc);
     put(&mut marks, centre, true);
     reached.push(centre)?;
-    for place in 0..size {
-        let Some(vertex) = reached.get(place).copied() else {
+    for index in 0..size {
+        let Some(vertex) = reached.get(index).copied() else {
             break;
         };
         if vertex < 1 || store.vertices() < vertex {
             break;
         }
         for half in store.neighbours(vertex) {
-            let is_new = !at(&marks, half.to, true) && !branch.is_outside(half.to);
+            let is_new = !at(&marks, half.to, true) && !place.branch.is_outside(half.to);
             if is_new && reached.len() < size {
                 put(&mut marks, half.to, true);
                 reached.push(half.to)?;

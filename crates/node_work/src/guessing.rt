@@ -1,9 +1,10 @@
 ghost use Rattle.std.specs.Prelude.{◌≡◌, All, IfOk, None};
-ghost use Rattle.st_model.specs.Branch.{IsBranch, IsVertexSet, LeavesRequired};
+ghost use Rattle.st_model.specs.Branch.{IsVertexSet, LeavesRequired};
 ghost use Rattle.st_model.specs.Network.{IsInstance};
 ghost use Rattle.dual_ascent.specs.Extension.{IsRootFor, IsStart};
-ghost use Rattle.node_work.specs.Finding.{IsFinding, together};
+ghost use Rattle.node_work.specs.Finding.{together};
 ghost use Rattle.node_work.specs.Raising.{IsExtendable};
+ghost use Rattle.node_work.specs.Target.{IsFindingFor};
 
 use crate::deleting::needed;
 use crate::node::no_cuts;
@@ -11,12 +12,12 @@ use crate::plan::Plan;
 use crate::refining::{Guide, raise_refined};
 use crate::repairing::repaired;
 use crate::step::Finding;
-use better_trees::{Priced, better_tree, later, narrowed};
+use crate::target::Target;
+use better_trees::{Incumbent, Means, Place, Priced, better_tree, later, narrowed};
 use cut_packing::{Packing, weight};
 use dual_ascent::{Ascent, Extension};
-use graph_store::Whole;
 use st_model::{Instance, Sides, VertexSet};
-use std::alloc::{AllocError, Global};
+use std::alloc::AllocError;
 use std::thread::Threads;
 
 // Of how many free vertices one at least has to be far, for a guess to be worth its time.
@@ -33,60 +34,61 @@ const TURNS: u64 = 10;
 /// it by few deletions. `packing` is one of the branch for this root. (Duin 1993 deletes vertices that are
 /// too far by bound.)
 pub fn guess<R: Threads + Sync>(
-    rt: &R,
-    alloc: Global,
-    whole: &Whole,
-    branch: &Sides,
+    means: &Means<'_, R>,
+    target: &Target<'_>,
     packing: &Packing,
     near: &VertexSet,
-    root: u32,
-    least: u64,
-    guide: &mut Guide<'_>,
+    incumbent: &Incumbent<'_>,
 ) -> Result<Finding, AllocError>
-    requires instance { IsInstance whole.now.instance }
-    requires start { IsStart whole.now.instance branch.now packing.now }
-    requires rooted { IsRootFor whole.now.instance branch.now packing.now root }
-    ensures { IfOk result (IsFinding whole.now.instance branch.now least) }
+    requires instance { IsInstance target.now.place.whole.now.instance }
+    requires start { IsStart target.now.place.whole.now.instance target.now.place.branch.now packing.now }
+    requires rooted { IsRootFor target.now.place.whole.now.instance target.now.place.branch.now packing.now
+        target.now.root }
+    ensures { IfOk result (IsFindingFor target.now) }
 {
-    if !are_many_far(&whole.instance, branch, near) {
+    let instance = &target.place.whole.instance;
+    let branch = target.place.branch;
+    if !are_many_far(instance, branch, near) {
         return Ok(nothing());
     }
-    let part = narrowed(alloc, &whole.instance, branch, near)?;
-    let part = Sides::of(alloc, part)?;
-    let bare = no_cuts(alloc);
-    if weight(&whole.instance, part.branch(), &bare) >= u128::from(least) {
+    let part = narrowed(means.alloc, instance, branch, near)?;
+    let part = Sides::of(means.alloc, part)?;
+    let bare = no_cuts(means.alloc);
+    if weight(instance, part.branch(), &bare) >= u128::from(target.least) {
         return Ok(nothing());
     }
-    guess_within(rt, alloc, whole, branch, &part, bare, root, least, guide)
+    guess_within(means, target, &part, bare, incumbent)
 }
 
 // What is found by cuts that are raised for the root of a part of the branch.
 fn guess_within<R: Threads + Sync>(
-    rt: &R,
-    alloc: Global,
-    whole: &Whole,
-    branch: &Sides,
+    means: &Means<'_, R>,
+    target: &Target<'_>,
     part: &Sides,
     bare: Packing,
-    root: u32,
-    least: u64,
-    guide: &mut Guide<'_>,
+    incumbent: &Incumbent<'_>,
 ) -> Result<Finding, AllocError>
-    requires instance { IsInstance whole.now.instance }
-    requires branch { IsBranch whole.now.instance branch.now }
-    requires required { LeavesRequired whole.now.instance branch.now }
-    requires able { IsExtendable whole.now.instance part.now bare root least }
-    ensures { IfOk result (IsFinding whole.now.instance branch.now least) }
+    requires instance { IsInstance target.now.place.whole.now.instance }
+    requires required { LeavesRequired target.now.place.whole.now.instance target.now.place.branch.now }
+    requires able { IsExtendable target.now.place.whole.now.instance part.now bare target.now.root
+        target.now.least }
+    ensures { IfOk result (IsFindingFor target.now) }
 {
-    let Extension { ascent, left } = raise_refined(
-        rt, alloc, whole, part, bare, root, least, TURNS, guide,
-    )?;
+    let inside = Target {
+        place: Place {
+            whole: target.place.whole,
+            branch: part,
+        },
+        root: target.root,
+        least: target.least,
+    };
+    let mut guide = Guide::at(*incumbent, means.effort.seed);
+    let Extension { ascent, left } = raise_refined(means, &inside, bare, TURNS, &mut guide)?;
     match ascent {
-        Ascent::Reached(packing) => carried_over(
-            rt, alloc, whole, branch, part, packing, root, least, guide,
-        ),
+        Ascent::Reached(packing) => carried_over(means, target, part, packing, &mut guide),
         Ascent::Full(_) => {
-            let better = better_tree(alloc, whole, branch, &left.arcs, least, guide.effort)?;
+            let place = &target.place;
+            let better = better_tree(means.alloc, place, &left.arcs, target.least, means.effort)?;
             Ok(Finding {
                 better,
                 closing: None,
@@ -99,27 +101,22 @@ fn guess_within<R: Threads + Sync>(
 // What is made for the branch of a packing that closes a part of it: a plan, where few vertices are to be
 // deleted, and else a packing that closes the branch, if one comes of it.
 fn carried_over<R: Threads + Sync>(
-    rt: &R,
-    alloc: Global,
-    whole: &Whole,
-    branch: &Sides,
+    means: &Means<'_, R>,
+    target: &Target<'_>,
     part: &Sides,
     packing: Packing,
-    root: u32,
-    least: u64,
     guide: &mut Guide<'_>,
 ) -> Result<Finding, AllocError>
-    requires instance { IsInstance whole.now.instance }
-    requires branch { IsBranch whole.now.instance branch.now }
-    requires required { LeavesRequired whole.now.instance branch.now }
-    requires sets { All (λ c. IsVertexSet whole.now.instance.n c.set) packing.cuts }
-    ensures { IfOk result (IsFinding whole.now.instance branch.now least) }
+    requires instance { IsInstance target.now.place.whole.now.instance }
+    requires required { LeavesRequired target.now.place.whole.now.instance target.now.place.branch.now }
+    requires sets { All (λ c. IsVertexSet target.now.place.whole.now.instance.n c.set) packing.cuts }
+    ensures { IfOk result (IsFindingFor target.now) }
 {
-    let vertices = needed(alloc, whole, branch, part, &packing)?;
+    let vertices = needed(means.alloc, &target.place, part, &packing)?;
     if are_few(&vertices) {
-        return Ok(planned(Plan::of(&whole.instance, vertices, packing)));
+        return Ok(planned(Plan::of(&target.place.whole.instance, vertices, packing)));
     }
-    let closing = repaired(rt, alloc, whole, branch, packing, root, least, guide)?;
+    let closing = repaired(means, target, packing, guide)?;
     Ok(Finding {
         better: None,
         closing,

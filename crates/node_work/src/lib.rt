@@ -26,6 +26,7 @@ mod room;
 mod rooted;
 mod rounds;
 mod step;
+mod target;
 
 pub use attempt::{Attempt, Site, make_all};
 pub use deciding::root_of;
@@ -36,3 +37,4 @@ pub use raising::raise;
 pub use refining::{Guide, raise_refined};
 pub use rooted::Rooted;
 pub use step::{End, Step};
+pub use target::Target;

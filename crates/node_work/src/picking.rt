@@ -1,19 +1,19 @@
 ghost use Rattle.std.specs.Prelude.{◌≡◌};
 ghost use Rattle.cut_packing.specs.ProofTree.{IsSplit};
 
-use better_trees::Joints;
+use better_trees::KeyVertices;
 use bidirected_form::{Arc, Arcs};
 use st_model::{Instance, Sides, VertexSet};
 
 /// The vertex to split at, of those near the root at which the branch can be split: one at which most
-/// links of trees meet that branch there, of these one into which most arcs with nothing left lead,
+/// links of trees meet that branch there, of these one into which most saturated arcs lead,
 /// and of these one with most arcs; or the one given where none of this tells any of them.
 pub fn pick(
     arcs: &Arcs,
     instance: &Instance,
     branch: &Sides,
     near: &VertexSet,
-    joints: &Joints,
+    key_vertices: &KeyVertices,
     given: u32,
 ) -> u32
     requires count { arcs.now.n ≡ instance.now.n }
@@ -25,7 +25,7 @@ pub fn pick(
     for before in 0..instance.vertices() {
         let vertex = before + 1;
         let into = arcs.arcs_into(vertex);
-        let rank = (joints.at(vertex), saturated_of(into), into.len());
+        let rank = (key_vertices.at(vertex), saturated_of(into), into.len());
         if rank > most && near.contains(vertex) && branch.is_free(instance, vertex) {
             best = vertex;
             most = rank;
@@ -34,7 +34,7 @@ pub fn pick(
     best
 }
 
-// How many of the arcs have nothing left.
+// How many of the arcs are saturated.
 fn saturated_of(arcs: &[Arc]) -> usize {
     arcs.iter().filter(|arc| arc.remaining == 0).count()
 }

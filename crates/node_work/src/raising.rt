@@ -1,63 +1,55 @@
 ghost use Rattle.std.specs.Prelude.{◌≤◌, IfOk};
 ghost use Rattle.std.specs.Bool.{OnTrue, OnFalse};
-ghost use Rattle.st_model.specs.Branch.{IsBranch};
 ghost use Rattle.cut_packing.specs.Packing.{Fits, weight};
 ghost use Rattle.dual_ascent.specs.Extension.{packing_of};
-ghost use Rattle.node_work.specs.Raising.{IsExtendable, IsExtendedTo, IsHeavier, IsNoWorse};
+ghost use Rattle.node_work.specs.Raising.{IsHeavier, IsNoWorse};
+ghost use Rattle.node_work.specs.Target.{IsExtendableFor, IsExtendedFor};
 
 use crate::node::no_cuts;
+use crate::target::Target;
+use better_trees::{Place, gap};
 use cut_packing::{Packing, fits, weight};
 use dual_ascent::{Ascent, Extension, extend};
-use graph_store::Whole;
-use st_model::{Instance, Sides};
 use std::alloc::{AllocError, Global};
 
-/// Extends a packing of a branch for a root, so that it weighs `least` or is full. Where it is
+/// Extends a packing for a target, so that it weighs `least` or is full. Where it is
 /// only full, cuts are also raised from nothing for the same root, and the heavier packing is
 /// given: the cuts of earlier branches leave little to raise.
-pub fn raise(
-    alloc: Global,
-    whole: &Whole,
-    branch: &Sides,
-    packing: Packing,
-    root: u32,
-    least: u64,
-) -> Result<Extension, AllocError>
-    requires { IsExtendable whole.now.instance branch.now packing root least }
-    ensures { IfOk result (IsExtendedTo whole.now.instance whole.now.store branch.now packing root least) }
+pub fn raise(alloc: Global, target: &Target<'_>, packing: Packing) -> Result<Extension, AllocError>
+    requires { IsExtendableFor target.now packing }
+    ensures { IfOk result (IsExtendedFor target.now packing) }
 {
     let has_cuts = !packing.cuts.as_slice().is_empty();
-    let first = raise_from(alloc, whole, branch, packing, root, &[], least)?;
+    let first = raise_from(alloc, target, packing, &[])?;
     if has_cuts && !first.ascent.is_reached() {
-        let second = raise_from(alloc, whole, branch, no_cuts(alloc), root, &[], least)?;
-        return Ok(heavier(&whole.instance, branch, first, second));
+        let second = raise_from(alloc, target, no_cuts(alloc), &[])?;
+        return Ok(heavier(&target.place, first, second));
     }
     Ok(first)
 }
 
-/// Extends a packing for a root, so that it weighs `least` or is full. Vertices that `order` names are
+/// Extends a packing for a target, so that it weighs `least` or is full. Vertices that `order` names are
 /// raised first.
 pub fn raise_from(
     alloc: Global,
-    whole: &Whole,
-    branch: &Sides,
+    target: &Target<'_>,
     packing: Packing,
-    root: u32,
     order: &[u32],
-    least: u64,
 ) -> Result<Extension, AllocError>
-    requires { IsExtendable whole.now.instance branch.now packing root least }
-    ensures { IfOk result (IsExtendedTo whole.now.instance whole.now.store branch.now packing root least) }
+    requires { IsExtendableFor target.now packing }
+    ensures { IfOk result (IsExtendedFor target.now packing) }
 {
-    let start = weight(&whole.instance, branch.branch(), &packing) as u64;
+    let whole = target.place.whole;
+    let branch = target.place.branch;
+    let below = gap(&whole.instance, branch, &packing, target.least);
     let raised = extend(
         alloc,
         &whole.store,
         branch,
         packing,
-        root,
+        target.root,
         order,
-        least - start,
+        below,
     )?;
     Ok(raised)
 }
@@ -65,32 +57,26 @@ pub fn raise_from(
 /// Whether a packing fits the branch, and weighs no more than the least cost known.
 pub fn is_start(
     alloc: Global,
-    instance: &Instance,
-    branch: &Sides,
+    place: &Place<'_>,
     packing: &Packing,
     least: u64,
 ) -> Result<bool, AllocError>
-    requires { IsBranch instance.now branch.now }
-    ensures { IfOk result (λ yes. OnTrue yes (Fits instance.now branch.now packing.now
-        × (weight instance.now branch.now packing.now ≤ least))) }
+    ensures { IfOk result (λ yes. OnTrue yes
+        (Fits place.now.whole.now.instance place.now.branch.now packing.now
+        × (weight place.now.whole.now.instance place.now.branch.now packing.now ≤ least))) }
 {
-    if !fits(alloc, instance, branch, packing)? {
+    let instance = &place.whole.instance;
+    if !fits(alloc, instance, place.branch, packing)? {
         return Ok(false);
     }
-    Ok(weight(instance, branch.branch(), packing) <= u128::from(least))
+    Ok(weight(instance, place.branch.branch(), packing) <= u128::from(least))
 }
 
 /// Of two extensions the second, where it weighs enough or more than the first.
-pub fn heavier(
-    instance: &Instance,
-    branch: &Sides,
-    first: Extension,
-    second: Extension,
-) -> Extension
-    requires { IsBranch instance.now branch.now }
-    ensures { IsHeavier instance.now branch.now first second result }
+pub fn heavier(place: &Place<'_>, first: Extension, second: Extension) -> Extension
+    ensures { IsHeavier place.now.whole.now.instance place.now.branch.now first second result }
 {
-    if is_heavier(instance, branch, &first.ascent, &second.ascent) {
+    if is_heavier(place, &first.ascent, &second.ascent) {
         second
     } else {
         first
@@ -98,16 +84,18 @@ pub fn heavier(
 }
 
 // Whether the second weighs enough, or more than the first.
-fn is_heavier(instance: &Instance, branch: &Sides, first: &Ascent, second: &Ascent) -> bool
-    requires { IsBranch instance.now branch.now }
-    ensures heavier { OnTrue result (IsNoWorse instance.now branch.now first.now second.now) }
-    ensures lighter { OnFalse result (weight instance.now branch.now (packing_of second.now)
-        ≤ weight instance.now branch.now (packing_of first.now)) }
+fn is_heavier(place: &Place<'_>, first: &Ascent, second: &Ascent) -> bool
+    ensures heavier { OnTrue result
+        (IsNoWorse place.now.whole.now.instance place.now.branch.now first.now second.now) }
+    ensures lighter { OnFalse result
+        (weight place.now.whole.now.instance place.now.branch.now (packing_of second.now)
+        ≤ weight place.now.whole.now.instance place.now.branch.now (packing_of first.now)) }
 {
     match second {
         Ascent::Reached(_) => true,
         Ascent::Full(packing) => {
-            let branch = branch.branch();
+            let instance = &place.whole.instance;
+            let branch = place.branch.branch();
             weight(instance, branch, packing) > weight(instance, branch, first.packing())
         }
     }

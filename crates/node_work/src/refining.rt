@@ -1,16 +1,14 @@
 ghost use Rattle.std.specs.Prelude.{◌≡◌, ◌⊎◌, IfOk};
-ghost use Rattle.st_model.specs.Branch.{IsBranch};
-ghost use Rattle.node_work.specs.Raising.{IsExtendable, IsExtendedTo, IsRaised, IsRefined};
-ghost use Rattle.node_work.specs.Trying.{IsAt, RefinesAt};
+ghost use Rattle.node_work.specs.Target.{IsExtendableFor, IsExtendedFor, IsRaisedFor, IsRefinedFor};
 
 use crate::attempt::{Attempt, Site, make_all};
 use crate::raising::raise;
 use crate::rooted::Rooted;
-use better_trees::{Draws, Effort};
+use crate::target::Target;
+use better_trees::{Draws, Effort, Incumbent, Means, Place};
 use cut_packing::{Packing, weight};
 use dual_ascent::Extension;
 use graph_store::Whole;
-use st_model::{Instance, Sides, Tree};
 use std::alloc::{AllocError, Global};
 use std::thread::Threads;
 
@@ -26,84 +24,84 @@ const PATIENCE: u64 = 3;
 // How many links there are for each thread, at least: to start one takes as long as an attempt over few.
 const LINKS_FOR_A_THREAD: usize = 100;
 
-/// What refining goes by: the best tree that is known, what it costs, draws, and how much work there is.
+/// What refining goes by: the incumbent, and draws.
 #[derive(Drop)]
 pub struct Guide<'a> {
-    known: &'a Tree,
-    price: u64,
+    incumbent: Incumbent<'a>,
     draws: Draws,
-    pub effort: Effort,
 }
 
 impl<'a> Guide<'a> {
-    /// By a tree that costs so much.
-    pub fn at(known: &'a Tree, price: u64, effort: Effort) -> Guide<'a> {
+    /// By an incumbent, with the draws of a seed.
+    pub fn at(incumbent: Incumbent<'a>, seed: u64) -> Guide<'a> {
         Guide {
-            known,
-            price,
-            draws: Draws::of(effort.seed),
-            effort,
+            incumbent,
+            draws: Draws::of(seed),
         }
     }
 }
 
 /// Raises a packing, and refines what comes of it for some turns.
 pub fn raise_refined<R: Threads + Sync>(
-    rt: &R,
-    alloc: Global,
-    whole: &Whole,
-    branch: &Sides,
+    means: &Means<'_, R>,
+    target: &Target<'_>,
     packing: Packing,
-    root: u32,
-    least: u64,
     turns: u64,
     guide: &mut Guide<'_>,
 ) -> Result<Extension, AllocError>
-    requires able { IsExtendable whole.now.instance branch.now packing root least }
-    ensures { IfOk result (IsExtendedTo whole.now.instance whole.now.store branch.now packing root least) }
+    requires able { IsExtendableFor target.now packing }
+    ensures { IfOk result (IsExtendedFor target.now packing) }
 {
-    let raised = raise(alloc, whole, branch, packing, root, least)?;
-    let refined = refine(rt, alloc, whole, branch, raised, root, least, turns, guide)?;
+    let raised = raise(means.alloc, target, packing)?;
+    let refined = refine(means, target, raised, turns, guide)?;
     Ok(refined)
 }
 
 /// Refines the packing of an extension, so that it weighs `least` or is full, and is no lighter. In each
-/// attempt cuts round a fault are freed, and cuts are raised again in an order that is drawn; `turns` is how
+/// attempt cuts round a fault are freed, and cuts are raised again in a random order; `turns` is how
 /// many attempts there are, and of those that are made at one packing the heaviest counts. It ends where
-/// the packing weighs what the best tree costs.
+/// the packing weighs what the incumbent costs.
 pub fn refine<R: Threads + Sync>(
-    rt: &R,
-    alloc: Global,
-    whole: &Whole,
-    branch: &Sides,
+    means: &Means<'_, R>,
+    target: &Target<'_>,
     extension: Extension,
-    root: u32,
-    least: u64,
     turns: u64,
     guide: &mut Guide<'_>,
 ) -> Result<Extension, AllocError>
-    requires branch { IsBranch whole.now.instance branch.now }
-    requires raised { IsRaised whole.now.instance whole.now.store branch.now root least extension }
-    ensures { IfOk result (IsRefined whole.now.instance whole.now.store branch.now root least extension) }
+    requires raised { IsRaisedFor target.now extension }
+    ensures { IfOk result (IsRefinedFor target.now extension) }
 {
-    let tree = Rooted::of(alloc, &whole.instance, branch, guide.known, root)?;
+    let place = &target.place;
+    let known = guide.incumbent.tree;
+    let tree = Rooted::of(
+        means.alloc,
+        &place.whole.instance,
+        place.branch,
+        known,
+        target.root,
+    )?;
     let site = Site {
-        whole,
-        branch,
-        root,
+        target: Target {
+            place: Place {
+                whole: place.whole,
+                branch: place.branch,
+            },
+            root: target.root,
+            least: target.least,
+        },
         tree: &tree,
-        least,
     };
-    let patience = patience_for(whole, guide.effort);
+    let patience = patience_for(place.whole, means.effort);
     let mut refined = extension;
     let mut idle: u64 = 0;
-    for _ in 0..turns_for(whole, turns) / guide.effort.attempts() {
-        let before = weight_of(&whole.instance, branch, &refined);
-        if refined.ascent.is_reached() || before >= u128::from(guide.price) || idle >= patience {
+    for _ in 0..turns_for(place.whole, turns) / means.effort.attempts() {
+        let before = weight_of(place, &refined);
+        let enough = u128::from(guide.incumbent.cost);
+        if refined.ascent.is_reached() || before >= enough || idle >= patience {
             break;
         }
-        refined = turn(rt, alloc, &site, refined, guide)?;
-        let has_gained = weight_of(&whole.instance, branch, &refined) > before;
+        refined = turn(means, &site, refined, &mut guide.draws)?;
+        let has_gained = weight_of(place, &refined) > before;
         idle = if has_gained {
             0
         } else {
@@ -113,11 +111,11 @@ pub fn refine<R: Threads + Sync>(
     Ok(refined)
 }
 
-// The attempts of a turn.
-fn new_attempts(alloc: Global, guide: &mut Guide<'_>) -> Result<Vec<Attempt>, AllocError> {
+// So many attempts.
+fn new_attempts(alloc: Global, count: u64, draws: &mut Draws) -> Result<Vec<Attempt>, AllocError> {
     let mut attempts = Vec::new(alloc);
-    for _attempt in 0..guide.effort.attempts() {
-        let seed = guide.draws.below(u64::MAX);
+    for _attempt in 0..count {
+        let seed = draws.below(u64::MAX);
         attempts.push(Attempt::of(seed))?;
     }
     Ok(attempts)
@@ -125,20 +123,20 @@ fn new_attempts(alloc: Global, guide: &mut Guide<'_>) -> Result<Vec<Attempt>, Al
 
 // The heaviest of what attempts at an extension give, or this where all were lighter.
 fn turn<R: Threads + Sync>(
-    rt: &R,
-    alloc: Global,
+    means: &Means<'_, R>,
     site: &Site<'_>,
     extension: Extension,
-    guide: &mut Guide<'_>,
+    draws: &mut Draws,
 ) -> Result<Extension, AllocError>
-    requires { IsAt site.now extension }
-    ensures { IfOk result (RefinesAt site.now extension) }
+    requires raised { IsRaisedFor site.now.target extension }
+    ensures { IfOk result (IsRefinedFor site.now.target extension) }
 {
-    let mut attempts = new_attempts(alloc, guide)?;
-    let threads = threads_for(site.whole, guide.effort.threads);
+    let place = &site.target.place;
+    let mut attempts = new_attempts(means.alloc, means.effort.attempts(), draws)?;
+    let threads = threads_for(place.whole, means.effort.threads);
     make_all(
-        rt,
-        alloc,
+        means.rt,
+        means.alloc,
         site,
         &extension,
         attempts.as_mut_slice(),
@@ -146,24 +144,22 @@ fn turn<R: Threads + Sync>(
     );
     let mut best = None;
     for attempt in attempts {
-        best = heaviest(&site.whole.instance, site.branch, best, attempt.raised?);
+        best = heaviest(place, best, attempt.raised?);
     }
     Ok(best.unwrap_or(extension))
 }
 
 // The heavier of two extensions; the one there is, where there is one.
 fn heaviest(
-    instance: &Instance,
-    branch: &Sides,
+    place: &Place<'_>,
     best: Option<Extension>,
     raised: Option<Extension>,
 ) -> Option<Extension>
-    requires { IsBranch instance.now branch.now }
     ensures { (result ≡ best) ⊎ (result ≡ raised) }
 {
     match (&best, &raised) {
         (Some(old), Some(new)) => {
-            if weight_of(instance, branch, new) > weight_of(instance, branch, old) {
+            if weight_of(place, new) > weight_of(place, old) {
                 raised
             } else {
                 best
@@ -197,8 +193,10 @@ fn threads_for(whole: &Whole, threads: usize) -> usize {
 }
 
 // What the packing of an extension weighs.
-fn weight_of(instance: &Instance, branch: &Sides, extension: &Extension) -> u128
-    requires { IsBranch instance.now branch.now }
-{
-    weight(instance, branch.branch(), extension.ascent.packing())
+fn weight_of(place: &Place<'_>, extension: &Extension) -> u128 {
+    weight(
+        &place.whole.instance,
+        place.branch.branch(),
+        extension.ascent.packing(),
+    )
 }

@@ -1,18 +1,17 @@
 ghost use Rattle.std.specs.Prelude.{IfOk, IfSome};
-ghost use Rattle.st_model.specs.Branch.{IsBranch};
-ghost use Rattle.better_trees.specs.Better.{IsBetter};
-ghost use Rattle.node_work.specs.Raising.{IsExtendable, IsExtendedTo, IsRaised, IsRefined};
+ghost use Rattle.better_trees.specs.Better.{IsBetterAt};
+ghost use Rattle.node_work.specs.Target.{IsExtendableFor, IsExtendedFor, IsRaisedFor, IsRefinedFor};
 
 use crate::raising::raise;
 use crate::refining::{Guide, refine};
+use crate::target::Target;
 use better_trees::{
-    Effort, Elite, Joints, Priced, Trees, gap, later, least_after, tree_of, trees_at,
+    Elite, Incumbent, KeyVertices, Means, Place, Priced, Trees, gap, later, least_after, tree_of,
+    trees_at,
 };
 use cut_packing::Packing;
 use dual_ascent::Extension;
-use graph_store::Whole;
-use st_model::{Sides, Tree};
-use std::alloc::{AllocError, Global};
+use std::alloc::AllocError;
 use std::thread::Threads;
 
 // After how many rounds in a row without a gain no more follow, and which part of what is left at a
@@ -25,48 +24,42 @@ const GAIN: u64 = 8;
 #[derive(Drop)]
 pub struct Rounds {
     pub extension: Extension,
-    /// A tree that costs less than the least cost known, if one was found.
+    /// A tree that costs less than the incumbent, if one was found.
     pub better: Option<Priced>,
-    /// Where the trees branch.
-    pub joints: Joints,
+    /// Those of the trees.
+    pub key_vertices: KeyVertices,
 }
 
 /// Raises a node's packing, and then refines it and looks for trees by turns, as long as that gains
 /// something: a better tree says where to refine, and a better packing where trees are.
 pub fn work_by_rounds<R: Threads + Sync>(
-    rt: &R,
-    alloc: Global,
-    whole: &Whole,
-    branch: &Sides,
+    means: &Means<'_, R>,
+    target: &Target<'_>,
     packing: Packing,
-    root: u32,
-    least: u64,
-    known: &Tree,
-    effort: Effort,
+    incumbent: &Incumbent<'_>,
 ) -> Result<Rounds, AllocError>
-    requires able { IsExtendable whole.now.instance branch.now packing root least }
-    ensures extended { IfOk result (λ r. IsExtendedTo whole.now.instance whole.now.store branch.now packing
-        root least r.extension) }
-    ensures better { IfOk result (λ r. IfSome r.better (IsBetter whole.now.instance branch.now least)) }
+    requires able { IsExtendableFor target.now packing }
+    ensures extended { IfOk result (λ r. IsExtendedFor target.now packing r.extension) }
+    ensures better { IfOk result (λ r. IfSome r.better (IsBetterAt target.now.place incumbent.now.cost)) }
 {
-    let raised = raise(alloc, whole, branch, packing, root, least)?;
-    let mut elite = Elite::new(alloc);
+    let instance = &target.place.whole.instance;
+    let raised = raise(means.alloc, target, packing)?;
+    let mut elite = Elite::new(means.alloc);
     let mut rounds = Rounds {
         extension: raised,
         better: None,
-        joints: Joints::of_none(alloc, &whole.instance)?,
+        key_vertices: KeyVertices::of_none(means.alloc, instance)?,
     };
     let mut idle: u64 = 0;
-    for place in 0..effort.rounds(whole.instance.links().len()) {
-        let before = left(whole, branch, &rounds, least);
+    for index in 0..means.effort.rounds(instance.links().len()) {
+        let before = left(&target.place, &rounds, incumbent.cost);
         if before == 0 || idle >= PATIENCE {
             break;
         }
-        let work = effort.of_round(place);
-        rounds = round(
-            rt, alloc, whole, branch, rounds, root, least, known, work, &mut elite,
-        )?;
-        let has_gained = left(whole, branch, &rounds, least) < before.saturating_sub(before / GAIN);
+        let work = means.with(means.effort.of_round(index));
+        rounds = round(&work, target, rounds, incumbent, &mut elite)?;
+        let after = left(&target.place, &rounds, incumbent.cost);
+        let has_gained = after < before.saturating_sub(before / GAIN);
         idle = if has_gained {
             0
         } else {
@@ -77,99 +70,66 @@ pub fn work_by_rounds<R: Threads + Sync>(
 }
 
 // What the packing weighs less than the cheapest tree known costs.
-fn left(whole: &Whole, branch: &Sides, rounds: &Rounds, least: u64) -> u64
-    requires { IsBranch whole.now.instance branch.now }
-{
+fn left(place: &Place<'_>, rounds: &Rounds, least: u64) -> u64 {
     let known = least_after(least, &rounds.better);
-    gap(
-        &whole.instance,
-        branch,
-        rounds.extension.ascent.packing(),
-        known,
-    )
+    let packing = rounds.extension.ascent.packing();
+    gap(&place.whole.instance, place.branch, packing, known)
 }
 
 // One more round.
 #[tactic(auto, using(better_trees::proofs::Found::found_later))]
 fn round<R: Threads + Sync>(
-    rt: &R,
-    alloc: Global,
-    whole: &Whole,
-    branch: &Sides,
+    means: &Means<'_, R>,
+    target: &Target<'_>,
     rounds: Rounds,
-    root: u32,
-    least: u64,
-    known: &Tree,
-    effort: Effort,
+    incumbent: &Incumbent<'_>,
     elite: &mut Elite,
 ) -> Result<Rounds, AllocError>
-    requires branch { IsBranch whole.now.instance branch.now }
-    requires raised { IsRaised whole.now.instance whole.now.store branch.now root least rounds.extension }
-    requires better { IfSome rounds.better (IsBetter whole.now.instance branch.now least) }
-    ensures refined { IfOk result (λ r. IsRefined whole.now.instance whole.now.store branch.now root least
-        rounds.extension r.extension) }
-    ensures better { IfOk result (λ r. IfSome r.better (IsBetter whole.now.instance branch.now least)) }
+    requires raised { IsRaisedFor target.now rounds.extension }
+    requires better { IfSome rounds.better (IsBetterAt target.now.place incumbent.now.cost) }
+    ensures refined { IfOk result (λ r. IsRefinedFor target.now rounds.extension r.extension) }
+    ensures better { IfOk result (λ r. IfSome r.better (IsBetterAt target.now.place incumbent.now.cost)) }
 {
     let Rounds {
         extension,
         better,
-        joints: _,
+        key_vertices: _,
     } = rounds;
-    let price = least_after(least, &better);
-    let tree = tree_of(known, &better);
-    let extension = refined(
-        rt, alloc, whole, branch, extension, root, least, tree, price, effort,
-    )?;
+    let known = Incumbent {
+        tree: tree_of(incumbent.tree, &better),
+        cost: least_after(incumbent.cost, &better),
+    };
+    let extension = refine_by(means, target, extension, known)?;
     let Trees {
         better: more,
-        joints,
+        key_vertices,
     } = trees_at(
-        rt,
-        alloc,
-        whole,
-        branch,
+        means,
+        &target.place,
         extension.ascent.packing(),
         &extension.left.arcs,
-        tree,
-        price,
-        effort,
+        &known,
         elite,
     )?;
     Ok(Rounds {
         extension,
         better: later(better, more),
-        joints,
+        key_vertices,
     })
 }
 
-// An extension, refined by a tree that costs so much.
-fn refined<R: Threads + Sync>(
-    rt: &R,
-    alloc: Global,
-    whole: &Whole,
-    branch: &Sides,
+// Refines an extension by an incumbent.
+fn refine_by<R: Threads + Sync>(
+    means: &Means<'_, R>,
+    target: &Target<'_>,
     extension: Extension,
-    root: u32,
-    least: u64,
-    known: &Tree,
-    price: u64,
-    effort: Effort,
+    incumbent: Incumbent<'_>,
 ) -> Result<Extension, AllocError>
-    requires branch { IsBranch whole.now.instance branch.now }
-    requires raised { IsRaised whole.now.instance whole.now.store branch.now root least extension }
-    ensures { IfOk result (IsRefined whole.now.instance whole.now.store branch.now root least extension) }
+    requires raised { IsRaisedFor target.now extension }
+    ensures { IfOk result (IsRefinedFor target.now extension) }
 {
-    let mut guide = Guide::at(known, price, effort);
-    let refined = refine(
-        rt,
-        alloc,
-        whole,
-        branch,
-        extension,
-        root,
-        least,
-        effort.turns(),
-        &mut guide,
-    )?;
+    let mut guide = Guide::at(incumbent, means.effort.seed);
+    let turns = means.effort.turns();
+    let refined = refine(means, target, extension, turns, &mut guide)?;
     Ok(refined)
 }

@@ -1,4 +1,4 @@
--- The workers of a team in their slots, before and after they run. Helpers' clauses cite this, and no public one.
+-- Workers before and after they run, and in the slots of a team. Of this the clauses of `Worker::run` cite `MayRun` and `Brings`.
 use Rattle.std.specs.Prelude.{◌≡◌, ℕ, ◌+◌, ◌<◌, List, [], ◌∷◌, length, slice_index_or, Option, IfSome, ⊤}
 use Rattle.st_model.specs.declared.branch.Branch.{Branch}
 use Rattle.st_model.specs.Network.{Network}
@@ -7,8 +7,19 @@ use Rattle.open_ledger.specs.Seat.{Known as Account}
 use Rattle.node_pool.specs.Pool.{Station}
 use Rattle.search_core.specs.declared.gathered.Segment.{Segment}
 use Rattle.worker_loop.specs.declared.team.Slot.{Slot}
-use Rattle.worker_loop.specs.Progress.{SameWorker}
+use Rattle.worker_loop.specs.declared.worker.Worker.{Worker}
+use Rattle.worker_loop.specs.Progress.{IsAim, IsUnused, SameWorker}
 use Rattle.worker_loop.specs.Run.{HasRun, Task}
+
+-- a worker that has done nothing yet may run for an aim in this instance
+pub record MayRun {Q : Type 0} (J I : Network) (R : Branch) (start : ℕ) (w : Worker Q) : Type 0 where
+  pub whole : J ≡ I
+  pub aim : IsAim I R start
+  pub unused : IsUnused start w
+
+-- what a worker brings back of a whole run
+abbrev pub Brings : {Q : Type 0} → Network → Branch → ℕ → Worker Q → Worker Q → Segment → Type 0
+Brings I R start before after s = (tasks : List Task) × HasRun I R start before.seat before.workers before.pass after.pass after.ledger after.best tasks s
 
 abbrev pub pass_of : {Q : Type 0} → Slot Q → Station
 pass_of s = s.worker.pass
@@ -36,8 +47,7 @@ AreSeated workers seat (s ∷ ss) = IsSeated workers seat s × AreSeated workers
 -- a worker ran in its slot, and left there what it brings back, unless it was refused memory
 pub record HasRunIn {Q : Type 0} (I : Network) (R : Branch) (start : ℕ) (before after : Slot Q) : Type 0 where
   pub same : SameWorker before.worker after.worker
-  pub run : IfSome after.segment (λ s. (tasks : List Task)
-      × HasRun I R start before.worker.seat before.worker.workers before.worker.pass after.worker.pass after.worker.ledger after.worker.best tasks s)
+  pub run : IfSome after.segment (Brings I R start before.worker after.worker)
 
 -- each worker of a team ran in its slot
 abbrev pub HaveRunIn : {Q : Type 0} → Network → Branch → ℕ → List (Slot Q) → List (Slot Q) → Type 0

@@ -113,11 +113,6 @@ impl<'a> Known<'a> {
         }
     }
 
-    /// What the workers let each other know.
-    pub fn hint(&self) -> &'a Hint {
-        self.hint
-    }
-
     /// The tree.
     pub fn tree(&self) -> &Tree {
         tree_of(self.start, &self.better)

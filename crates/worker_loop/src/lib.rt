@@ -10,6 +10,7 @@
 #![tactic(auto)]
 
 mod aim;
+mod crew;
 mod gate;
 mod hint;
 mod processors;
@@ -22,6 +23,7 @@ mod work;
 mod worker;
 
 pub use aim::{Aim, SoundFor};
+pub use crew::Crew;
 pub use gate::{Gate, OpenGate};
 pub use hint::Hint;
 pub use root::root_of;

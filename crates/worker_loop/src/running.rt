@@ -10,6 +10,7 @@ ghost use Rattle.worker_loop.specs.Team.{IsSearched};
 
 use crate::Gate;
 use crate::aim::{Aim, SoundFor};
+use crate::crew::Crew;
 use crate::hint::Hint;
 use crate::root::root_of;
 use crate::team::{handed_back, run_team, team_of};
@@ -67,25 +68,28 @@ pub fn run_all<R: Threads + Wait + Sync, G: Gate>(
     prove!(whole.instance.vertices() <= MAX_VERTICES);
     let first = tree_cost(&whole.instance, start);
     let seats = workers.clamp(1, MOST_WORKERS);
-    let gathered = searched::<Brand, R, G>(
-        rt, alloc, whole, branch, start, first, seats, budget, gate,
-    )?;
+    let hint = Hint::none();
+    let crew = Crew {
+        rt,
+        alloc,
+        whole,
+        start,
+        hint: &hint,
+        gate,
+    };
+    let gathered = searched::<Brand, R, G>(&crew, branch, first, seats, budget)?;
     Ok(gathered)
 }
 
 // The search for an aim, from a tree of this cost.
 fn searched<Q: Aim + Send, R: Threads + Wait + Sync, G: Gate>(
-    rt: &R,
-    alloc: Global,
-    whole: &Whole,
+    crew: &Crew<'_, R, G>,
     branch: &Branch,
-    start: &Tree,
     first: u64,
     workers: u32,
     budget: u64,
-    gate: &G,
 ) -> Result<Gathered, AllocError>
-    requires whole { whole.now.instance ≡ Q.instance }
+    requires whole { crew.now.whole.now.instance ≡ Q.instance }
     requires same { branch.now ≡ Q.branch }
     requires first { first ≡ Q.start }
     requires aim { IsAim Q.instance Q.branch Q.start }
@@ -94,22 +98,14 @@ fn searched<Q: Aim + Send, R: Threads + Wait + Sync, G: Gate>(
     requires few { (0 < workers) × (workers ≤ 64) }
     ensures { IfOk result (λ G. IsSearched G Q.instance Q.branch Q.start budget) }
 {
+    let alloc = crew.alloc;
     let allowed = budget.min(MOST_CLAIMS);
     let root = root_of(alloc, branch)?;
     let passes = begin::<SoundFor<Q>>(alloc, workers, root)?;
     let (ledger, accounts) = Ledger::begin(alloc, allowed, workers)?;
     let (incumbent, sights) = Incumbent::begin(alloc, first, workers)?;
     let mut team = team_of(alloc, workers, passes, accounts, sights)?;
-    run_team(
-        rt,
-        alloc,
-        whole,
-        start,
-        &Hint::none(),
-        team.as_mut_slice(),
-        workers as usize,
-        gate,
-    );
+    run_team(crew, team.as_mut_slice(), workers as usize);
     let returned = handed_back(alloc, team)?;
     passes_stay_a_pool();
     let queued = close(alloc, returned.passes)?;

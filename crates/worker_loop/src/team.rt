@@ -1,17 +1,15 @@
 ghost use Rattle.std.specs.Prelude.{◌≡◌, ◌++◌, ◌∷◌, [], ◌<◌, All, IfOk, IsOk, OnOk, Some, length, map};
 ghost use Rattle.worker_loop.specs.Progress.{IsAim, IsUnused};
-ghost use Rattle.worker_loop.specs.Slots.{AreSeated, HasRunIn, HaveRunIn, account_of, pass_of, segment_of, sight_of};
+ghost use Rattle.worker_loop.specs.Slots.{AreSeated, HasRunIn, HaveRunIn, MayRun, account_of, pass_of, segment_of, sight_of};
 
 use crate::aim::{Aim, SoundFor};
+use crate::crew::Crew;
 use crate::gate::Gate;
-use crate::hint::Hint;
 use crate::worker::Worker;
-use graph_store::Whole;
 use incumbent::BestSeat;
 use node_pool::Pass;
 use open_ledger::LedgerSeat;
 use search_core::Segment;
-use st_model::Tree;
 use std::alloc::{AllocError, Global};
 use std::sync::Wait;
 use std::thread;
@@ -34,21 +32,11 @@ pub struct Returned<Q: Aim> {
 }
 
 impl<Q: Aim> Slot<Q> {
-    fn run<R: Threads + Wait + Sync, G: Gate>(
-        &mut self,
-        rt: &R,
-        alloc: Global,
-        whole: &Whole,
-        start: &Tree,
-        hint: &Hint,
-        gate: &G,
-    )
-        requires whole { whole.now.instance ≡ Q.instance }
-        requires aim { IsAim Q.instance Q.branch Q.start }
-        requires unused { IsUnused Q.start self.old.worker }
+    fn run<R: Threads + Wait + Sync, G: Gate>(&mut self, crew: &Crew<'_, R, G>)
+        requires ready { MayRun crew.now.whole.now.instance Q.instance Q.branch Q.start self.old.worker }
         ensures { HasRunIn Q.instance Q.branch Q.start self.old self.new }
     {
-        self.segment = self.worker.run(rt, alloc, whole, start, hint, gate).ok();
+        self.segment = self.worker.run(crew).ok();
     }
 }
 
@@ -92,30 +80,24 @@ pub fn team_of<Q: Aim>(
 
 /// Runs each worker of a team, in a thread of its own where one can be made.
 pub fn run_team<Q: Aim + Send, R: Threads + Wait + Sync, G: Gate>(
-    rt: &R,
-    alloc: Global,
-    whole: &Whole,
-    start: &Tree,
-    hint: &Hint,
+    crew: &Crew<'_, R, G>,
     team: &mut [Slot<Q>],
     threads: usize,
-    gate: &G,
 )
     requires threads { 0 < threads }
-    requires whole { whole.now.instance ≡ Q.instance }
+    requires whole { crew.now.whole.now.instance ≡ Q.instance }
     requires aim { IsAim Q.instance Q.branch Q.start }
     requires unused { All (λ s. IsUnused Q.start s.worker) team.old }
     ensures { HaveRunIn Q.instance Q.branch Q.start team.old team.new }
 {
     thread::for_each_mut(
-        rt,
+        crew.rt,
         team,
         threads,
         &|_, slot: &mut Slot<Q>|
-            requires { (whole.now.instance ≡ Q.instance) × IsAim Q.instance Q.branch Q.start
-                × IsUnused Q.start slot.now.worker }
+            requires { MayRun crew.now.whole.now.instance Q.instance Q.branch Q.start slot.now.worker }
             ensures { HasRunIn Q.instance Q.branch Q.start slot.entry.now slot.exit.now }
-        { slot.run(rt, alloc, whole, start, hint, gate) },
+        { slot.run(crew) },
     );
 }
 

@@ -7,19 +7,19 @@ ghost use Rattle.worker_loop.specs.Progress.{Adopts, HasTurned, HasWorked, IsAim
 ghost use Rattle.worker_loop.specs.Sound.{IsSound};
 
 use crate::aim::Aim;
+use crate::crew::Crew;
 use crate::gate::Gate;
-use crate::hint::{Hint, Known};
+use crate::hint::Known;
 use crate::work::Work;
 use crate::worker::Worker;
-use better_trees::Priced;
+use better_trees::{Incumbent, Priced};
 use branching::{Node, halves};
 use cut_packing::Packing;
-use graph_store::Whole;
 use node_work::{End, Step, expand};
 use open_ledger::Why;
 use search_core::{Done, End as Ending};
 use st_model::SplitAt;
-use std::alloc::{AllocError, Global};
+use std::alloc::AllocError;
 use std::sync::Wait;
 use std::thread::Threads;
 
@@ -40,15 +40,12 @@ impl<Q: Aim> Worker<Q> {
     // One turn with a node in hand.
     pub(crate) fn turn<R: Threads + Wait + Sync, G: Gate>(
         &mut self,
-        rt: &R,
-        alloc: Global,
-        whole: &Whole,
+        crew: &Crew<'_, R, G>,
         known: &mut Known<'_>,
-        gate: &G,
         node: Node,
         work: &mut Work,
     ) -> Result<Turn, AllocError>
-        requires whole { whole.now.instance ≡ Q.instance }
+        requires whole { crew.now.whole.now.instance ≡ Q.instance }
         requires aim { IsAim Q.instance Q.branch Q.start }
         requires node { IsSound Q.instance Q.branch node }
         requires low { self.old.best.lowest ≤ Q.start }
@@ -66,22 +63,20 @@ impl<Q: Aim> Worker<Q> {
             self.ledger.halt(Why::Refused);
             return Ok(Turn::Left(node, Ending::ClaimRefused));
         }
-        gate.at(self.seat, node.id);
-        let half = self.work_on(rt, alloc, whole, known, node, work)?;
+        crew.gate.at(self.seat, node.id);
+        let half = self.work_on(crew, known, node, work)?;
         Ok(Turn::Next(half))
     }
 
     // Works on a node that was claimed: the half to go on with, if it was split.
-    fn work_on<R: Threads + Wait + Sync>(
+    fn work_on<R: Threads + Wait + Sync, G: Gate>(
         &mut self,
-        rt: &R,
-        alloc: Global,
-        whole: &Whole,
+        crew: &Crew<'_, R, G>,
         known: &mut Known<'_>,
         node: Node,
         work: &mut Work,
     ) -> Result<Option<Node>, AllocError>
-        requires whole { whole.now.instance ≡ Q.instance }
+        requires whole { crew.now.whole.now.instance ≡ Q.instance }
         requires aim { IsAim Q.instance Q.branch Q.start }
         requires node { IsSound Q.instance Q.branch node }
         requires low { self.old.best.lowest ≤ Q.start }
@@ -91,23 +86,26 @@ impl<Q: Aim> Worker<Q> {
     {
         let id = node.id;
         work.seen = self.best.see();
-        known.catch_up(alloc, work.seen)?;
+        known.catch_up(crew.alloc, work.seen)?;
         let plan = known.plan.take();
         let has_all = known.take_processors(&node);
         let threads = if has_all { self.workers } else { 1 };
+        let incumbent = Incumbent {
+            tree: known.tree(),
+            cost: work.seen,
+        };
         let step = expand(
-            rt,
-            alloc,
-            whole,
+            crew.rt,
+            crew.alloc,
+            crew.whole,
             node,
-            work.seen,
-            known.tree(),
+            &incumbent,
             plan,
             threads as usize,
         );
         known.give_back(has_all);
         let Step { better, end } = step?;
-        known.show(alloc, &better)?;
+        known.show(crew.alloc, &better)?;
         self.adopt(better, work);
         match end {
             End::Close(packing) => {
@@ -117,7 +115,7 @@ impl<Q: Aim> Worker<Q> {
             End::Split(node, vertex, plan) => {
                 let is_deleted = plan.is_some();
                 known.plan = plan;
-                let half = self.split(alloc, known.hint(), id, node, vertex, is_deleted, work)?;
+                let half = self.split(crew, id, node, vertex, is_deleted, work)?;
                 Ok(Some(half))
             }
         }
@@ -148,10 +146,9 @@ impl<Q: Aim> Worker<Q> {
     // Splits the node under an id, with the packing with which its halves begin: answers the half to
     // go on with, the one outside where the vertex is deleted and else the one inside, and gives the
     // other one to the pool.
-    fn split(
+    fn split<R, G>(
         &mut self,
-        alloc: Global,
-        hint: &Hint,
+        crew: &Crew<'_, R, G>,
         id: u64,
         node: Node,
         vertex: u32,
@@ -166,8 +163,8 @@ impl<Q: Aim> Worker<Q> {
     {
         self.ledger.up();
         let (first, second) = self.draw()?;
-        let packing = node.packing.shared(alloc)?;
-        let Ok((inside, outside)) = halves(alloc, node, vertex, first, second) else {
+        let packing = node.packing.shared(crew.alloc)?;
+        let Ok((inside, outside)) = halves(crew.alloc, node, vertex, first, second) else {
             return Err(AllocError);
         };
         work.done.push(Done::Split {
@@ -183,7 +180,7 @@ impl<Q: Aim> Worker<Q> {
             (inside, outside)
         };
         let is_shared = is_for_others(id, work.done.len());
-        self.give(hint, other, is_shared)?;
+        self.give(crew.hint, other, is_shared)?;
         Ok(half)
     }
 }

@@ -3,6 +3,7 @@ ghost use Rattle.dual_ascent.specs.Extension.{IsRootFor};
 ghost use Rattle.node_work.specs.Node.{no_cuts};
 
 use super::roots::{ring, root_of_all, tree_of_ring};
+use better_trees::Incumbent;
 use branching::Node;
 use graph_store::Whole;
 use node_work::{End, expand, no_cuts};
@@ -18,8 +19,7 @@ fn closes<R: Threads + Sync>(
     alloc: Global,
     whole: &Whole,
     root: u32,
-    least: u64,
-    known: &Tree,
+    incumbent: &Incumbent<'_>,
     threads: usize,
 ) -> Result<Option<Option<u64>>, AllocError>
     requires { IsRootFor whole.now.instance all_trees no_cuts root }
@@ -30,7 +30,7 @@ fn closes<R: Threads + Sync>(
         branch: Branch::all(alloc),
         packing: no_cuts(alloc),
     };
-    let step = expand(rt, alloc, whole, node, least, known, None, threads)?;
+    let step = expand(rt, alloc, whole, node, incumbent, None, threads)?;
     match step.end {
         End::Close(_) => Ok(Some(step.better.map(|better| better.price))),
         End::Split(_, _, _) => Ok(None),
@@ -60,8 +60,10 @@ fn closes_both_ways<R: Threads + Sync>(
     let Some(root) = root_of_all(alloc, &whole.instance)? else {
         return Ok(false);
     };
-    let better = closes(rt, alloc, whole, root, 8, tree, threads)?;
-    let none = closes(rt, alloc, whole, root, 7, tree, threads)?;
+    let dear = Incumbent { tree, cost: 8 };
+    let cheap = Incumbent { tree, cost: 7 };
+    let better = closes(rt, alloc, whole, root, &dear, threads)?;
+    let none = closes(rt, alloc, whole, root, &cheap, threads)?;
     Ok(better == Some(Some(7)) && none == Some(None))
 }
 

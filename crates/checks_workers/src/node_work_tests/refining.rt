@@ -1,14 +1,14 @@
 ghost use Rattle.st_model.specs.Branch.{all_trees};
 ghost use Rattle.dual_ascent.specs.Extension.{IsRootFor};
 ghost use Rattle.node_work.specs.Node.{no_cuts};
-ghost use Rattle.node_work.specs.Trying.{IsAt};
+ghost use Rattle.node_work.specs.Target.{IsRaisedFor};
 
 use super::roots::{ring, root_of_all, tree_of_ring};
-use better_trees::Effort;
+use better_trees::{Effort, Incumbent, Means, Place};
 use cut_packing::weight;
 use dual_ascent::Extension;
 use graph_store::Whole;
-use node_work::{Attempt, Guide, Site, make_all, no_cuts, raise, raise_refined};
+use node_work::{Attempt, Guide, Site, Target, make_all, no_cuts, raise, raise_refined};
 use st_model::{Branch, Sides, Tree};
 use std::alloc::{AllocError, Global};
 use std::test::Fail;
@@ -28,11 +28,15 @@ fn refined_weight<R: Threads + Sync>(
 {
     let branch = Sides::of(alloc, Branch::all(alloc))?;
     let effort = Effort::at(branch.branch(), true, 1);
-    let mut guide = Guide::at(tree, u64::MAX, effort);
-    let bare = no_cuts(alloc);
-    let extension = raise_refined(
-        rt, alloc, whole, &branch, bare, root, least, turns, &mut guide,
-    )?;
+    let cost = u64::MAX;
+    let mut guide = Guide::at(Incumbent { tree, cost }, effort.seed);
+    let place = Place {
+        whole,
+        branch: &branch,
+    };
+    let target = Target { place, root, least };
+    let means = Means { rt, alloc, effort };
+    let extension = raise_refined(&means, &target, no_cuts(alloc), turns, &mut guide)?;
     let packing = extension.ascent.packing();
     Ok(weight(&whole.instance, branch.branch(), packing))
 }
@@ -83,14 +87,19 @@ fn raised_in<R: Threads + Sync>(
     requires { IsRootFor whole.now.instance all_trees no_cuts root }
 {
     let branch = Sides::of(alloc, Branch::all(alloc))?;
-    let bare = no_cuts(alloc);
-    let extension = raise(alloc, whole, &branch, bare, root, 100)?;
-    let site = Site {
+    let place = Place {
         whole,
         branch: &branch,
+    };
+    let target = Target {
+        place,
         root,
-        tree: &None,
         least: 100,
+    };
+    let extension = raise(alloc, &target, no_cuts(alloc))?;
+    let site = Site {
+        target,
+        tree: &None,
     };
     raised_at(rt, alloc, &site, &extension, threads)
 }
@@ -103,7 +112,7 @@ fn raised_at<R: Threads + Sync>(
     extension: &Extension,
     threads: usize,
 ) -> Result<Vec<bool>, AllocError>
-    requires { IsAt site.now extension.now }
+    requires { IsRaisedFor site.now.target extension.now }
 {
     let mut attempts = five_attempts(alloc)?;
     make_all(rt, alloc, site, extension, attempts.as_mut_slice(), threads);

@@ -13,7 +13,7 @@ use std::alloc::{AllocError, Global};
 use std::marker::Brand;
 use std::sync::Wait;
 use std::thread::Threads;
-use worker_loop::{Aim, Hint, OpenGate, SoundFor, Worker, root_of};
+use worker_loop::{Aim, Crew, Hint, OpenGate, SoundFor, Worker, root_of};
 
 // What the only worker of a team brings back of a whole instance in which somebody is required, from
 // a tree of this cost.
@@ -66,5 +66,14 @@ fn run_alone<Q: Aim, R: Threads + Wait + Sync>(
         return Ok(None);
     };
     let mut worker = Worker::of(0, 1, pass, account, sight);
-    Ok(Some(worker.run(rt, alloc, whole, start, &Hint::none(), &OpenGate)?))
+    let hint = Hint::none();
+    let crew = Crew {
+        rt,
+        alloc,
+        whole,
+        start,
+        hint: &hint,
+        gate: &OpenGate,
+    };
+    Ok(Some(worker.run(&crew)?))
 }

@@ -6,12 +6,14 @@ use Rattle.node_work.proofs.following.delete.Goals as goal
 pub returns-in-Reached : goal.returns-in-Reached
 returns-in-Reached c =
     let r = c.requires in
+    let n = r.node in
     let e = rw c.in-Reached.is at c.in_ok-ascent.ensures.extended in
-    rw c.closed.ensures (reached_step c.args.whole.now.instance (as_node c.args.node) c.in-Reached.packing c.args.node.root c.args.least None r.instance r.node.light c.ranges.least.fits tt e)
+    rw c.closed.ensures (reached_step c.args.whole.now.instance (as_node c.args.node) c.in-Reached.packing c.args.node.root c.args.least None n.instance n.light c.ranges.least.fits tt e)
 
 pub returns-in-Full : goal.returns-in-Full
 returns-in-Full c =
     let r = c.requires in
+    let n = r.node in
     let e = rw c.in-Full.is at c.in_ok-ascent.ensures.extended in
     rw c.node_of.ensures
-    (deleted_step c.args.whole.now.instance (as_node c.args.node) c.in-Full.packing c.args.node.root c.args.least c.args.vertex c.args.plan r.instance r.node.node r.vertex r.node.light c.ranges.least.fits e)
+    (deleted_step c.args.whole.now.instance (as_node c.args.node) c.in-Full.packing c.args.node.root c.args.least c.args.vertex c.args.plan n.instance n.node r.vertex n.light c.ranges.least.fits e)

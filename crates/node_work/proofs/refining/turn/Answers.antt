@@ -2,13 +2,14 @@ use Rattle.std.proofs.Common.{rules, ◌≡◌, ◌∷◌, ◌++◌, drop, lengt
 use Rattle.std.specs.Prelude.{All, IfOk, IfSome}
 use Rattle.std.proofs.lemmas.List.Elements.{All-head, All-tail}
 use Rattle.better_trees.proofs.Written.{written}
-use Rattle.node_work.specs.Trying.{IsTriedAt, RefinesAt}
+use Rattle.node_work.specs.Target.{IsRefinedFor}
+use Rattle.node_work.specs.Trying.{IsTriedFor}
 use Rattle.node_work.proofs.Refined.{either_of, or_first, refined_itself}
 use Rattle.node_work.proofs.refining.turn.Goals as goal
 
 pub loop-attempt-init : goal.loop-attempt-init
 loop-attempt-init g c =
-    let P = IsTriedAt c.args.site.now c.args.extension in
+    let P = IsTriedFor c.args.site.now.target c.args.extension in
     let attempts = c.in_ok-attempts.attempts in
     let after = c.make_all.new.attempts in
     let long : length after ≡ length c.as_mut_slice.result.now = search rules in
@@ -18,8 +19,8 @@ loop-attempt-init g c =
 
 pub loop-attempt-preserved : goal.loop-attempt-preserved
 loop-attempt-preserved g c =
-    let P = IsTriedAt c.args.site.now c.args.extension in
-    let R = RefinesAt c.args.site.now c.args.extension in
+    let P = IsTriedFor c.args.site.now.target c.args.extension in
+    let R = IsRefinedFor c.args.site.now.target c.args.extension in
     let is : c.loop-attempt.attempt-iterator.rest.items ≡ c.in-Some.attempt ∷ c.next.new.self.rest.items = search rules in
     let all = subst (All P) is c.loop-attempt.invariant.2 in
     let tried : P c.in-Some.attempt = All-head P c.in-Some.attempt c.next.new.self.rest.items all in
@@ -28,7 +29,7 @@ loop-attempt-preserved g c =
 
 pub returns : goal.returns
 returns g c =
-    let R = RefinesAt c.args.site.now c.args.extension in
-    let s = c.args.site.now in
-    let itself = refined_itself s.whole.now.instance s.whole.now.store s.branch.now s.root s.least c.args.extension c.requires.raised in
+    let R = IsRefinedFor c.args.site.now.target c.args.extension in
+    let t = c.args.site.now.target in
+    let itself = refined_itself t.place.whole.now.instance t.place.whole.now.store t.place.branch.now t.root t.least c.args.extension c.requires.raised in
     rw c.unwrap_or.ensures (or_first R c.loop-attempt.best c.args.extension c.loop-attempt.invariant.3 itself)

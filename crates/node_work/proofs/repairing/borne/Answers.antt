@@ -6,7 +6,7 @@ use Rattle.node_work.proofs.repairing.borne.Goals as goal
 
 pub loop-cut-preserved-in-Continue-branch-2 : goal.loop-cut-preserved-in-Continue-branch-2
 loop-cut-preserved-in-Continue-branch-2 c =
-    let is_set : Cut → Type 0 = λ d. IsVertexSet c.args.whole.now.instance.n d.set in
+    let is_set : Cut → Type 0 = λ d. IsVertexSet c.args.place.now.whole.now.instance.n d.set in
     let popped = All-pop is_set c.loop-cut.waiting.items c.pop.new.self.items (Some c.in-Some.cut) c.in-Some.ensures.items c.loop-cut.invariant.waiting in
     let lowered : is_set c.lowered.result = rw c.lowered.ensures popped.1 in
     record {
@@ -16,7 +16,7 @@ loop-cut-preserved-in-Continue-branch-2 c =
 
 pub loop-cut-preserved : goal.loop-cut-preserved
 loop-cut-preserved c =
-    let is_set : Cut → Type 0 = λ d. IsVertexSet c.args.whole.now.instance.n d.set in
+    let is_set : Cut → Type 0 = λ d. IsVertexSet c.args.place.now.whole.now.instance.n d.set in
     let popped = All-pop is_set c.loop-cut.waiting.items c.pop.new.self.items (Some c.in-Some.cut) c.in-Some.ensures.items c.loop-cut.invariant.waiting in
     record { waiting = popped.0; cuts = c.loop-cut.invariant.cuts }
 

@@ -4,8 +4,8 @@ use Rattle.node_work.proofs.repairing.borne.Given as goal
 
 abbrev pub invariant-loop-cut : goal.invariant-loop-cut
 invariant-loop-cut l = record {
-  waiting : All (λ c. IsVertexSet l.whole.instance.n c.set) l.waiting.items;
-  cuts : All (λ c. IsVertexSet l.whole.instance.n c.set) l.cuts.items;
+  waiting : All (λ c. IsVertexSet l.place.whole.now.instance.n c.set) l.waiting.items;
+  cuts : All (λ c. IsVertexSet l.place.whole.now.instance.n c.set) l.cuts.items;
 }
 
 abbrev pub decreases-loop-cut : goal.decreases-loop-cut

@@ -1,4 +1,4 @@
 use Rattle.worker_loop.proofs.running.run_all.Given as goal
 
 abbrev pub ghosts-searched : goal.ghosts-searched
-ghosts-searched g a = record { instance = a.whole.now.instance; branch = a.branch.now; start = a.first }
+ghosts-searched g a = record { instance = a.crew.now.whole.now.instance; branch = a.branch.now; start = a.first }

@@ -3,4 +3,4 @@ use Rattle.checks_workers.proofs.node_work_tests.refining.refined_weight.Goals a
 
 pub raise_refined-requires-clause-able : goal.raise_refined-requires-clause-able
 raise_refined-requires-clause-able g c κs within =
-    rw (c.in_ok-branch.ensures, c.all.ensures, c.no_cuts-bare.ensures) (all_extendable c.args.whole.now.instance c.args.root c.args.least c.requires)
+    rw (c.in_ok-branch.ensures, c.all.ensures, c.no_cuts.ensures) (all_extendable c.args.whole.now.instance c.args.root c.args.least c.requires)

@@ -11,8 +11,8 @@ last_of : {A : Type 0} (F : A → Type 0) (xs : List A) (x : A) → All F (xs ++
 last_of F [] x all = All-head F x [] all
 last_of F (y ∷ ys) x all = last_of F ys x (All-tail F y (ys ++ x ∷ []) all)
 
-pub run-requires-clause-unused : goal.run-requires-clause-unused
-run-requires-clause-unused g c κs within =
+pub run-requires-clause-ready : goal.run-requires-clause-ready
+run-requires-clause-ready g c κs within =
     let L = c.in_ok-_ledger._ledger.ledger in
     let M = c.in_ok-_incumbent._incumbent.incumbent in
     let w = c.of-worker.result in
@@ -25,4 +25,8 @@ run-requires-clause-unused g c κs within =
     (subst (All (λ (m : Sight). m ≡ new_sight M c.args.first)) sights c.in_ok-_incumbent.ensures.seats) in
     let account_is : w.ledger ≡ new_account L 100 = search rules in
     let sight_is : w.best ≡ new_sight M g.Q.Aim.start = subst (λ (n : ℕ). w.best ≡ new_sight M n) c.requires.first (search rules) in
-    unused_one L M 100 g.Q.Aim.start 1 0 s (omega arith) (record { seat_is = search rules; workers_are = search rules; next = search rules }) account_is sight_is
+    record {
+      whole = c.requires.whole;
+      aim = c.requires.aim;
+      unused = unused_one L M 100 g.Q.Aim.start 1 0 s (omega arith) (record { seat_is = search rules; workers_are = search rules; next = search rules }) account_is sight_is;
+    }

@@ -10,7 +10,7 @@ use Rattle.worker_loop.proofs.worker.Worker.search.Goals as goal
 pub loop-init : goal.loop-init
 loop-init g c =
     let w = c.args.self.now in
-    let new = c.requires.unused in
+    let new = c.requires.ready.unused in
     let k = c.begin-work in (
       tt,
       tt,
@@ -26,7 +26,7 @@ turn-requires-clause-node g c κs within =
     let i = c.loop.invariant in
     let w = c.args.self.now in
     let had = reseated g.Q.Aim.instance g.Q.Aim.branch g.Q.Aim.start w c.loop.self w.pass (moment c.loop.self c.loop.work) (option_to_list c.loop.hand) i.2 i.4 in
-    (in_hand g.Q.Aim.instance g.Q.Aim.branch g.Q.Aim.start c.loop.self.seat c.loop.self.workers w.pass (moment c.taken_up.new.self c.loop.work) c.in-Ok.node
+    (in_hand g.Q.Aim.instance g.Q.Aim.branch g.Q.Aim.start c.loop.self.seat c.loop.self.workers w.pass (moment c.next_node.new.self c.loop.work) c.in-Ok.node
     (c.in-Ok.ensures.next w.pass c.loop.work had)).0
 
 pub turn-requires-clause-low : goal.turn-requires-clause-low
@@ -34,7 +34,7 @@ turn-requires-clause-low g c κs within =
     let i = c.loop.invariant in
     let w = c.args.self.now in
     let had = reseated g.Q.Aim.instance g.Q.Aim.branch g.Q.Aim.start w c.loop.self w.pass (moment c.loop.self c.loop.work) (option_to_list c.loop.hand) i.2 i.4 in
-    (in_hand g.Q.Aim.instance g.Q.Aim.branch g.Q.Aim.start c.loop.self.seat c.loop.self.workers w.pass (moment c.taken_up.new.self c.loop.work) c.in-Ok.node
+    (in_hand g.Q.Aim.instance g.Q.Aim.branch g.Q.Aim.start c.loop.self.seat c.loop.self.workers w.pass (moment c.next_node.new.self c.loop.work) c.in-Ok.node
     (c.in-Ok.ensures.next w.pass c.loop.work had)).1
 
 pub loop-preserved : goal.loop-preserved
@@ -44,12 +44,12 @@ loop-preserved g c =
     let start = g.Q.Aim.start in
     let i = c.loop.invariant in
     let w = c.args.self.now in
-    let taken = c.taken_up.new.self in
+    let taken = c.next_node.new.self in
     let m = moment c.turn.new.self c.turn.new.work in
     let had = reseated I R start w c.loop.self w.pass (moment c.loop.self c.loop.work) (option_to_list c.loop.hand) i.2 i.4 in
-    let up = reseated I R start c.loop.self taken w.pass (moment taken c.loop.work) (c.in-Ok.node ∷ []) c.taken_up.ensures.same (c.in-Ok.ensures.next w.pass c.loop.work had) in
+    let up = reseated I R start c.loop.self taken w.pass (moment taken c.loop.work) (c.in-Ok.node ∷ []) c.next_node.ensures.same (c.in-Ok.ensures.next w.pass c.loop.work had) in
     let turned = subst (HasTurned I R start taken.seat taken.workers w.pass m) c.in-Next.is (c.in_ok-half-in-Ok.ensures.turned w.pass up) in
-    let same = same_worker w c.loop.self taken i.2 c.taken_up.ensures.same in (
+    let same = same_worker w c.loop.self taken i.2 c.next_node.ensures.same in (
       tt,
       tt,
       same_worker w taken c.turn.new.self same c.turn.ensures.same,
@@ -64,16 +64,16 @@ returns-in-Left-clause-run g c =
     let start = g.Q.Aim.start in
     let i = c.loop.invariant in
     let w = c.args.self.now in
-    let taken = c.taken_up.new.self in
+    let taken = c.next_node.new.self in
     let last = c.turn.new.self in
     let m = moment last c.turn.new.work in
     let N = c.in-Left.node in
     let left = c.in_ok-vec-in-Left.field-0.items in
     let one : left ≡ N ∷ [] = search rules in
     let had = reseated I R start w c.loop.self w.pass (moment c.loop.self c.loop.work) (option_to_list c.loop.hand) i.2 i.4 in
-    let up = reseated I R start c.loop.self taken w.pass (moment taken c.loop.work) (c.in-Ok.node ∷ []) c.taken_up.ensures.same (c.in-Ok.ensures.next w.pass c.loop.work had) in
+    let up = reseated I R start c.loop.self taken w.pass (moment taken c.loop.work) (c.in-Ok.node ∷ []) c.next_node.ensures.same (c.in-Ok.ensures.next w.pass c.loop.work had) in
     let turned = subst (HasTurned I R start taken.seat taken.workers w.pass m) c.in-Left.is (c.in_ok-half-in-Ok.ensures.turned w.pass up) in
-    let same = same_worker w c.loop.self taken i.2 c.taken_up.ensures.same in
+    let same = same_worker w c.loop.self taken i.2 c.next_node.ensures.same in
     let done = subst (HasWorked I R start w.seat w.workers w.pass m) (sym one) (seated_back I R start w taken w.pass m (N ∷ []) same turned.0) in
     let few : length left ≤ 1 = subst (λ (Ns : List Node). length Ns ≤ 1) (sym one) (omega arith) in
     ran_so I R start w.seat w.workers w.pass last.pass last.ledger last.best last.next c.turn.new.work left c.in-Left.end c.ended.result c.ended.ensures few turned.1 done
@@ -85,7 +85,7 @@ returns-in-Err-clause-run g c =
     let start = g.Q.Aim.start in
     let i = c.loop.invariant in
     let w = c.args.self.now in
-    let taken = c.taken_up.new.self in
+    let taken = c.next_node.new.self in
     let m = moment taken c.loop.work in
     let left = c.new.result.items in
     let none : left ≡ [] = search rules in
