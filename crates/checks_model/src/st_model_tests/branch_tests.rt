@@ -38,10 +38,12 @@ fn are_split(alloc: Global, branch: &Branch) -> Result<bool, AllocError> {
     let no = branch.no_half(alloc, SplitAt::Vertex(1))?;
     let yes_again = branch.yes_half(alloc, SplitAt::Link(1, 3))?;
     let no_again = branch.no_half(alloc, SplitAt::Link(1, 3))?;
-    Ok(has(&yes, &[2, 3, 4, 9], &[3])
-        && has(&no, &[2, 4, 9], &[1, 3])
-        && has(&yes_again, &[2, 4, 9], &[3])
-        && has(&no_again, &[2, 4, 9], &[3]))
+    Ok(
+        has(&yes, &[2, 3, 4, 9], &[3])
+            && has(&no, &[2, 4, 9], &[1, 3])
+            && has(&yes_again, &[2, 4, 9], &[3])
+            && has(&no_again, &[2, 4, 9], &[3]),
+    )
 }
 
 #[test]
