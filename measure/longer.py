@@ -2,10 +2,11 @@
 
 longer.py cube DIMENSION SEED > FILE
 longer.py incidence VERTICES LINKS TERMINALS SEED > FILE
+longer.py grid WIDTH HEIGHT TERMINALS SEED > FILE
 
 `cube`: the corners of a hypercube, each second one a terminal; a link costs 100 to 110. `incidence`: a random
 connected network, in which a link costs about 100, and 100 more for each of its ends that is a terminal. Both
-are shapes of SteinLib's sets (hc and i160, i320)."""
+are shapes of SteinLib's sets (hc and i160, i320). `grid`: all links to the right and down, at 1 to 100."""
 import random
 import sys
 
@@ -28,10 +29,21 @@ def incidence(vertices, links, terminals):
     return vertices, {pair: max(1, round(random.gauss(mean, 5))) for pair, mean in means.items()}, chosen
 
 
+def grid(width, height, terminals):
+    vertices = width * height
+    links = {}
+    for vertex in range(1, vertices + 1):
+        if vertex % width:
+            links[vertex, vertex + 1] = random.randint(1, 100)
+        if vertex + width <= vertices:
+            links[vertex, vertex + width] = random.randint(1, 100)
+    return vertices, links, sorted(random.sample(range(1, vertices + 1), terminals))
+
+
 def main():
     shape, *numbers, seed = sys.argv[1:]
     random.seed(int(seed))
-    vertices, links, terminals = {"cube": cube, "incidence": incidence}[shape](*map(int, numbers))
+    vertices, links, terminals = {"cube": cube, "incidence": incidence, "grid": grid}[shape](*map(int, numbers))
     print("33D32945 STP File, STP Format Version 1.0")
     print(f"SECTION Graph\nNodes {vertices}\nEdges {len(links)}")
     for (a, b), cost in links.items():

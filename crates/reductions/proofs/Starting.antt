@@ -9,6 +9,7 @@ use Rattle.std.proofs.lemmas.Bool.Decides.{nat_tests}
 use Rattle.std.proofs.lemmas.List.Elements.{All-nil, All-cons, All-push, All-weaker, All-from_recursion, recursion_from_All}
 use Rattle.st_model.specs.Lists.{has, up_to}
 use Rattle.st_model.specs.Network.{Network, IsInstance, IsVertex}
+use Rattle.st_model.proofs.Marked.{has-push}
 use Rattle.lift_back.proofs.Counting.{has-up_to}
 use Rattle.lift_back.specs.declared.step.Step.{Step}
 use Rattle.lift_back.specs.Reduction.{Reduction}
@@ -71,6 +72,7 @@ taken_off w queue v is work = same_but_queue w queue (v ∷ queue.items) (other_
     parts = all_parts Vertex queue.items (v ∷ []) (recursion_from_All Vertex (queue.items ++ v ∷ []) all)
 
     same : (u : ℕ) → has (v ∷ queue.items) u ≡ has w.queue.items u
+    same u = or_comm (eqb v u) (has queue.items u) ∙ sym (ap (λ xs. has xs u) is ∙ has-push queue.items v u)
 
 -- where nobody is left to be tried, no vertex goes by a step
 pub no_vertex_step : (w : Work) → IsSettled w → HasNoVertexStep w.reduced.state
