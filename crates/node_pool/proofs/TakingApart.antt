@@ -12,7 +12,7 @@ use Rattle.node_pool.specs.Sides.{all_puts, all_takes}
 use Rattle.node_pool.proofs.Lists.{map_snoc}
 
 queues_long : (k : ℕ) (s : Station) → length (queues_at k s) ≡ suc (length s.others)
-queues_long k s = with_one k (map queue_of s.others) ∙ ap suc (length-map s queue_of.others) where
+queues_long k s = with_one k (map queue_of s.others) ∙ ap suc (length-map s.others queue_of) where
   with_one : (k : ℕ) (qs : List (RowsId × Global)) → length (take k qs ++ own_queue s ∷ drop k qs) ≡ suc (length qs)
   with_one zero [] = refl
   with_one zero (q ∷ qs) = refl

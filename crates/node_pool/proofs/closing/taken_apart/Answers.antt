@@ -40,7 +40,7 @@ loop-pass-preserved g c =
     let si : c.push-in-loop-pass.new.self.items ≡ sides ++ side ∷ [] = search rules in
     let le : c.append.new.self.items ≡ left ++ c.in_ok-owner.kept.items = search rules in
     let known : map queue_of side ≡ Q = c.in_ok-owner.ensures.side ∙ ap (λ k. queues_at k p) place ∙ first.known in
-    let long : length side ≡ n = sym (length-map side queue_of) ∙ ap (λ l. length l) known ∙ length-map c own_queue.args.passes.items in
+    let long : length side ≡ n = sym (length-map side queue_of) ∙ ap (λ l. length l) known ∙ length-map c.args.passes.items own_queue in
     let here : G o = (let a = c.in_ok-owner.ensures.parts in omega arith) in
     let grown : length c.push.new.self.items ≡ length owners + 1 = search rules in (
       tt,
@@ -73,7 +73,7 @@ returns-clause-whole g c =
     let i = c.loop-pass.invariant in
     let all : map queue_of c.loop-pass.owners.items ≡ map own_queue c.args.passes.items =
     sym (append-nil (map queue_of c.loop-pass.owners.items)) ∙ ap (λ (l : List Station). map queue_of c.loop-pass.owners.items ++ map own_queue l) (sym none) ∙ i.2 in
-    let long : length c.loop-pass.owners.items ≡ length c.args.passes.items = sym (length-map c queue_of.loop-pass.owners.items) ∙ ap (λ l. length l) all ∙ length-map c own_queue.args.passes.items in
+    let long : length c.loop-pass.owners.items ≡ length c.args.passes.items = sym (length-map c.loop-pass.owners.items queue_of) ∙ ap (λ l. length l) all ∙ length-map c.args.passes.items own_queue in
     λ k d lt. let a = i.5 k d lt in let b = i.4 in omega arith
 
 pub returns-clause-gave : goal.returns-clause-gave
