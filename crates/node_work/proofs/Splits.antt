@@ -4,6 +4,7 @@ use Rattle.std.specs.Prelude.{IsTrue}
 use Rattle.std.proofs.lemmas.Bool.{and_from}
 use Rattle.std.proofs.lemmas.List.Filters.{length-filter_both}
 use Rattle.std.proofs.lemmas.List.Elements.{All-filter}
+use Rattle.st_model.specs.declared.split_at.SplitAt.TheVariants.{Vertex}
 use Rattle.st_model.specs.declared.branch.Branch.{Branch}
 use Rattle.st_model.specs.Lists.{has}
 use Rattle.st_model.specs.Network.{Network, is_required}
@@ -45,7 +46,7 @@ writable_without P v writable = record {
 pub writable_halves : (I : Network) (N : Node) (v id id' : ℕ) → IsWritableNode I N → IsSplit I N.branch v
     → IsWritableNode I (inside_half N v id) × IsWritableNode I (outside_half N v id')
 writable_halves I N v id id' h is_split =
-    let halves = halves_are_no_lighter_lem I N v id id' h.node is_split in (
+    let halves = halves_are_no_lighter_lem I N (Vertex v) id id' h.node is_split in (
       record { node = halves.0.node; writable = h.writable },
       record { node = halves.1.node; writable = writable_without N.packing v h.writable },
     )

@@ -169,7 +169,7 @@ keeps_weight I R start tasks waiting N right accounted there = elim (comes R tas
         let made = subst (λ (id : ℕ). IsMade R (map done_of tasks) id T.node.branch) (same_id I R start task.0 T N h task.1)
         (was_made I R start tasks waiting T.node right accounted (inl (among_map node_of tasks T among))) in
         let of_split = split_so I start task.0 T.node T.done h.id h.at h.i h.o h.P h.is_split task.1.done_right in
-        let weighs = halves_are_no_lighter_lem I (packed T.node.id T.node.branch h.P) h.v h.i h.o of_split.packed.node of_split.vertex in
+        let weighs = halves_are_no_lighter_lem I (packed T.node.id T.node.branch h.P) h.at h.i h.o of_split.packed.node of_split.place in
         let done = recorded tasks T N h among in
         inr (
           h.id,
