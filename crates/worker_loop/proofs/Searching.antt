@@ -3,6 +3,7 @@ use Rattle.std.proofs.Common.{◌≡◌, ℕ, zero, suc, ◌+◌, ◌%◌, ◌^�
 use Rattle.std.specs.Prelude.{All, map, slice_index_or}
 use Rattle.std.specs.List.{sum_by}
 use Rattle.std.proofs.lemmas.List.Elements.{All-cons, All-head, All-nil, All-tail}
+use Rattle.std.proofs.lemmas.List.{length-map}
 use Rattle.st_model.specs.declared.branch.Branch.{Branch}
 use Rattle.st_model.specs.Network.{Network}
 use Rattle.branching.specs.declared.node.Node.{Node}
@@ -18,7 +19,6 @@ use Rattle.worker_loop.specs.Progress.{IsUnused}
 use Rattle.worker_loop.specs.Slots.{AreSeated, HasRunIn, HaveRunIn, IsSeated, account_of, pass_of, segment_of, sight_of}
 use Rattle.worker_loop.specs.Sound.{IsSound}
 use Rattle.worker_loop.specs.Team.{IsCounted, IsLowest, IsPooled, IsSearched, Member, accounts, sights}
-use Rattle.node_pool.proofs.Lists.{map_long}
 use Rattle.worker_loop.proofs.Members.{are_members, members}
 use Rattle.worker_loop.proofs.TeamSearch.{team_searches}
 
@@ -77,7 +77,7 @@ pub still_a_pool : {Q : Type 0} (I : Network) (R : Branch) (start : ℕ) (bs as'
     → map pass_of bs ≡ before → after ≡ map pass_of as' → AreAllPasses before → AreAllPasses after
 still_a_pool I R start bs as' before after law same ran was is all =
     subst AreAllPasses (sym is)
-    (law (map pass_of bs) (map pass_of as') (subst AreAllPasses (sym was) all) (map_long pass_of as' ∙ (same ∙ sym (map_long pass_of bs))) (same_passes I R start bs as' same ran))
+    (law (map pass_of bs) (map pass_of as') (subst AreAllPasses (sym was) all) (length-map as' pass_of ∙ (same ∙ sym (length-map bs pass_of))) (same_passes I R start bs as' same ran))
 
 -- what a ledger came to, which allowed so many claims
 pub record IsTotal (allowed : ℕ) (us : List Account) (opened claimed : ℕ) : Type 0 where

@@ -1,6 +1,7 @@
 use Rattle.std.proofs.Common.{rules, ◌≡◌, ◌+◌, ◌++◌, ◌^◌, ◌<◌, ℕ, ◌≤◌, List, drop, length, take, map, min, Some, ap, ◌∙◌, subst, sym}
 use Rattle.std.specs.Prelude.{All}
 use Rattle.std.specs.List.{sum_by}
+use Rattle.std.proofs.lemmas.List.{length-map}
 use Rattle.branching.specs.declared.node.Node.{Node}
 use Rattle.incumbent.specs.Least.{least_of}
 use Rattle.incumbent.specs.Seat.{Known as Sight, all_offers, fresh as new_sight}
@@ -13,7 +14,6 @@ use Rattle.worker_loop.specs.declared.team.Slot.{Slot}
 use Rattle.worker_loop.specs.Progress.{IsUnused}
 use Rattle.worker_loop.specs.Slots.{AreSeated, account_of, pass_of, segment_of, sight_of}
 use Rattle.worker_loop.specs.Team.{IsSearched}
-use Rattle.node_pool.proofs.Lists.{map_long}
 use Rattle.worker_loop.proofs.Searching.{IsClosedTeam, IsTotal, all_unused, same_incumbents, same_ledgers, searched_so, still_a_pool}
 use Rattle.worker_loop.proofs.running.searched.Goals as goal
 
@@ -89,7 +89,7 @@ returns g c =
     (sym (long ∙ c.as_mut_slice.ensures.len)) in
     let seated = subst (AreSeated c.args.workers 0) (sym same) c.in_ok-team.ensures.seats in
     let passes : map pass_of before ≡ c.in_ok-passes.passes.items = search rules in
-    let count : length before ≡ c.args.workers = sym (map_long pass_of before) ∙ (ap (λ (ps : List Station). length ps) passes ∙ c.in_ok-passes.ensures.count) in
+    let count : length before ≡ c.args.workers = sym (length-map before pass_of) ∙ (ap (λ (ps : List Station). length ps) passes ∙ c.in_ok-passes.ensures.count) in
     let passes_back : back.passes.items ≡ map pass_of after = c.in_ok-returned.ensures.passes ∙ ap (λ (ss : List (Slot g.row.Q.Denot)). map pass_of ss) all in
     let accounts_back : back.accounts.items ≡ map account_of after = c.in_ok-returned.ensures.accounts ∙ ap (λ (ss : List (Slot g.row.Q.Denot)). map account_of ss) all in
     let sights_back : back.sights.items ≡ map sight_of after = c.in_ok-returned.ensures.sights ∙ ap (λ (ss : List (Slot g.row.Q.Denot)). map sight_of ss) all in
