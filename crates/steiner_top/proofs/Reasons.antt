@@ -225,10 +225,11 @@ lost_outcome command texts status outcome given sent answered lost = elim (write
 
 -- an answer that couldn't be handed out was cut short
 pub answer_cut_short : (command : Option Command) (old new : Texts) (failed : Type 0) (taken now : Option (List ℕ)) (status : Status) (outcome : Option Outcome) (sent bytes : List ℕ)
-    → IsAnswered command old status outcome sent → bytes ≡ sent → (status ≢ WriteFault → TakesFront taken now bytes) → IsSaved command new outcome → IsCutShort command old new failed taken now
-answer_cut_short command old new failed taken now status outcome sent bytes answered same front saved =
+    → IsAnswered command old status outcome sent → bytes ≡ sent → (status ≢ WriteFault → TakesFront taken now bytes) → IsSaved command new outcome → (outcome ≡ None → SameTexts old new)
+    → IsCutShort command old new failed taken now
+answer_cut_short command old new failed taken now status outcome sent bytes answered same front saved kept =
     let other : status ≢ WriteFault = λ e. no_write command old outcome sent (subst (λ s. IsAnswered command old s outcome sent) e answered) in
-    (status, outcome, sent, inl answered, inr (subst (λ b. TakesFront taken now b) same (front other)), λ _. saved)
+    (status, outcome, sent, inl answered, inr (record { front = subst (λ b. TakesFront taken now b) same (front other); saved = saved; kept = kept }))
 
 -- a run without an answer that ends with a write fault: its line was cut short, or its log wasn't saved and nothing was sent
 pub stop_cut_short : (command : Option Command) (old new : Texts) (failed : Type 0) (taken now : Option (List ℕ)) (status : Status) (bytes : List ℕ)
@@ -238,11 +239,12 @@ pub stop_cut_short : (command : Option Command) (old new : Texts) (failed : Type
     → (status ≡ WriteFault → failed)
     → (status ≢ WriteFault → TakesFront taken now bytes)
     → (bytes ≡ [] → now ≡ taken)
+    → (status ≢ WriteFault → SameTexts old new)
     → IsCutShort command old new failed taken now
-stop_cut_short command old new failed taken now status bytes line unanswered unsaved cause front nothing = elim (write_or_not status) [
+stop_cut_short command old new failed taken now status bytes line unanswered unsaved cause front nothing kept = elim (write_or_not status) [
   | inl lost ↦
       let u = unsaved lost in
       let empty : bytes ≡ [] = line ∙ ap line_of lost in
-      (u.0, u.1, u.2, inl u.3, inl (nothing empty), λ none. absurd (none (cause lost)))
-  | inr other ↦ (status, None, bytes, inr (unanswered other, refl, line), inr (front other), λ _. tt)
+      (u.0, u.1, u.2, inl u.3, inl (cause lost, nothing empty))
+  | inr other ↦ (status, None, bytes, inr (unanswered other, refl, line), inr (record { front = front other; saved = tt; kept = λ _. kept other }))
 ]

@@ -141,10 +141,16 @@ abbrev pub SameBut : Option (List ℕ) → Texts → Texts → Type 0
 SameBut None old new = SameTexts old new
 SameBut (Some name) old new = SameOtherTexts name old new
 
--- an answer was made and couldn't be handed out: nothing of it was taken, or a front; its log stands where no save failed
+-- a front of what was to be sent was taken, and not all; the log of an outcome stands, and without one each text is as it was
+pub record IsFrontTaken (command : Option Command) (old new : Texts) (outcome : Option Outcome) (sent : List ℕ) (taken now : Option (List ℕ)) : Type 0 where
+  pub front : TakesFront taken now sent
+  pub saved : IsSaved command new outcome
+  pub kept : outcome ≡ None → SameTexts old new
+
+-- an answer was made and couldn't be handed out: a save failed and nothing of it was taken, or a front of it was
 abbrev pub IsCutShort : Option Command → Texts → Texts → Type 0 → Option (List ℕ) → Option (List ℕ) → Type 0
 IsCutShort command old new failed taken now = (status : Status) × (outcome : Option Outcome) × (sent : List ℕ)
-    × EndsWith command old status outcome sent × ((now ≡ taken) ⊎ TakesFront taken now sent) × ((failed → ⊥) → IsSaved command new outcome)
+    × EndsWith command old status outcome sent × ((failed × (now ≡ taken)) ⊎ IsFrontTaken command old new outcome sent taken now)
 
 -- the shelf keeps each text, but for that of a log that was saved or couldn't be
 abbrev pub KeepsTexts : Option Command → Status → Option Outcome → Texts → Texts → Type 0

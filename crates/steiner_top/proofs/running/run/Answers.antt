@@ -25,11 +25,11 @@ returns-in-Err-clause-checks g c = decides_checks (command_of (map string_bytes 
 
 pub returns-in-Err-clause-cut_short : goal.returns-in-Err-clause-cut_short
 returns-in-Err-clause-cut_short g c = λ failed. stop_cut_short (command_of (map string_bytes c.args.words.now)) (g.F.Shelf.text c.args.shelf.now) (g.F.Shelf.text c.answer.new.shelf) _ (g.K.Sink.taken c.args.out.now) (g.K.Sink.taken c.send-in-Err.new.out) c.in-Err.status c.as_bytes.result.now
-    (search rules) c.in-Err.ensures.unanswered (λ e. c.in-Err.ensures.unsaved (ap Err e)) (λ e. c.in-Err.ensures.write_cause.rose (ap Err e)) (c.send-in-Err.ensures.cut_short failed) c.send-in-Err.ensures.nothing
+    (search rules) c.in-Err.ensures.unanswered (λ e. c.in-Err.ensures.unsaved (ap Err e)) (λ e. c.in-Err.ensures.write_cause.rose (ap Err e)) (c.send-in-Err.ensures.cut_short failed) c.send-in-Err.ensures.nothing c.in-Err.ensures.kept
 
 pub returns-in-Ok-clause-cut_short : goal.returns-in-Ok-clause-cut_short
 returns-in-Ok-clause-cut_short g c = λ failed. answer_cut_short (command_of (map string_bytes c.args.words.now)) (g.F.Shelf.text c.args.shelf.now) (g.F.Shelf.text c.answer.new.shelf) _ (g.K.Sink.taken c.args.out.now) (g.K.Sink.taken c.send.new.out)
-    c.in-Ok.answer.status c.in-Ok.answer.outcome c.in-Ok.answer.text.items c.deref.result.now c.in-Ok.ensures.answered (search rules) (c.send.ensures.cut_short failed) c.in-Ok.ensures.saved
+    c.in-Ok.answer.status c.in-Ok.answer.outcome c.in-Ok.answer.text.items c.deref.result.now c.in-Ok.ensures.answered (search rules) (c.send.ensures.cut_short failed) c.in-Ok.ensures.saved c.in-Ok.ensures.none
 
 pub returns-in-Ok-clause-no_outcome : goal.returns-in-Ok-clause-no_outcome
 returns-in-Ok-clause-no_outcome g c = λ failed. lost_outcome (command_of (map string_bytes c.args.words.now)) (g.F.Shelf.text c.args.shelf.now) c.in-Ok.answer.status c.in-Ok.answer.outcome c.send.result.outcome c.in-Ok.answer.text.items
