@@ -5,7 +5,7 @@ decimals and in a third with a line RootP, and may spoil the text.
 A reader of its own says what the program has to answer: the line and the reason of a refusal, or an
 instance, whose least cost a search over all sets of vertices tells: `solve` and, where nobody pays, `few` have
 to answer it, and `verify` that what they send is a tree. The log that the program saves is judged by a checker
-of its own, as it is and spoilt, beside the program's `check`. The first difference ends the script, and leaves
+of its own, as it is, with splits at links above its proof, and spoilt, beside the program's `check`. The first difference ends the script, and leaves
 the texts in a folder that it names."""
 import itertools
 import os
@@ -336,7 +336,7 @@ class Log:
         return vertices
 
     def read(self):
-        self.form(self.next(), b"STEINERLOG 1", 0)
+        self.version = self.number(self.form(self.next(), b"STEINERLOG", 1)[0], 1, 2)
         words = self.next()
         if words == [b"CLAIM", b"NONE"]:
             self.primal = None
@@ -380,6 +380,12 @@ class Log:
     def half(self, words):
         if words[0] == b"S":
             self.proof.append((self.at, "S", self.vertex(self.form(words, b"S", 1)[0])))
+            return 1
+        if words[0] == b"L" and self.version == 2:
+            a, b = map(self.vertex, self.form(words, b"L", 2))
+            if a >= b:
+                raise self.bad()
+            self.proof.append((self.at, "L", a, b))
             return 1
         words = self.form(words, b"C", 2)
         at, root, count = self.at, self.number(words[0], 0, 10**6), self.number(words[1])
@@ -471,22 +477,54 @@ class State:
         return True
 
 
-def fits(network, inside, outside, root, cuts):
-    last, certain = network.vertices, network.required | inside
+class Branch:
+    """Vertices to reach and to avoid, links to use and to do without."""
+
+    def __init__(self, inside, outside, must, barred):
+        self.inside, self.outside, self.must, self.barred = map(frozenset, (inside, outside, must, barred))
+
+    def halves(self, line):
+        """Those of a split at a vertex or a link."""
+        at = frozenset(line[2:])
+        inside, outside, must, barred = self.inside, self.outside, self.must, self.barred
+        if line[1] == "S":
+            return Branch(inside | at, outside, must, barred), Branch(inside, outside | at, must, barred)
+        link = {tuple(line[2:])}
+        return Branch(inside | at, outside, must | link, barred), Branch(inside, outside, must, barred | link)
+
+    def may_split(self, network, line):
+        if line[1] == "S":
+            v = line[2]
+            return v <= network.vertices and v not in network.required | self.inside | self.outside
+        link = tuple(line[2:])
+        return link in network.links and not self.outside & set(link) and link not in self.must | self.barred
+
+
+def load(cuts, u, v):
+    """What the cuts lay on an arc."""
+    return sum(y for members, _, y in cuts if v in members and u not in members)
+
+
+def fits(network, branch, root, cuts):
+    last, certain = network.vertices, network.required | branch.inside
     if (cuts and not root) or (root and root not in certain):
         return False
     named = {}
     for members, q, y in cuts:
-        if root in members or q not in members or q in outside or members[-1] > last:
+        if root in members or q not in members or q in branch.outside or members[-1] > last:
             return False
         named[q] = named.get(q, 0) + y
     for (a, b), cost in network.links.items():
-        if a in outside or b in outside:
+        if {a, b} & branch.outside or (a, b) in branch.barred:
             continue
-        for u, v in ((a, b), (b, a)):
-            if sum(y for members, _, y in cuts if v in members and u not in members) > cost:
-                return False
-    return all(q in certain or load <= network.pay(q) for q, load in named.items())
+        if max(load(cuts, a, b), load(cuts, b, a)) > cost:
+            return False
+    return all(q in certain or most <= network.pay(q) for q, most in named.items())
+
+
+def weight(network, branch, cuts):
+    spared = sum(network.link(a, b) - max(load(cuts, a, b), load(cuts, b, a)) for a, b in branch.must)
+    return sum(network.pay(v) for v in branch.outside) + sum(y for _, _, y in cuts) + spared
 
 
 def judge(network, log):
@@ -508,19 +546,18 @@ def judge(network, log):
     for step in log.steps:
         if not state.take(step):
             raise Refused(step[0], 6)
-    branches = [(frozenset(), frozenset(state.gone))]
+    branches = [Branch((), state.gone, (), ())]
     for line in log.proof:
-        inside, outside = branches.pop()
-        if line[1] == "S":
-            v = line[2]
-            if v > network.vertices or v in state.network.required or v in inside or v in outside:
+        branch = branches.pop()
+        if line[1] != "C":
+            if not branch.may_split(state.network, line):
                 raise Refused(line[0], 7)
-            branches += [(inside, outside | {v}), (inside | {v}, outside)]
+            yes, no = branch.halves(line)
+            branches += [no, yes]
         else:
-            if not fits(state.network, inside, outside, line[2], line[3]):
+            if not fits(state.network, branch, line[2], line[3]):
                 raise Refused(line[0], 8)
-            weight = sum(state.network.pay(v) for v in outside) + sum(y for _, _, y in line[3])
-            if weight + state.offset < log.dual:
+            if weight(state.network, branch, line[3]) + state.offset < log.dual:
                 raise Refused(line[0], 9)
     primal = network.spelled(log.primal)
     return f"optimal {primal}\n" if log.dual == log.primal else f"bound {network.spelled(log.dual)} {primal}\n"
@@ -589,7 +626,7 @@ def spelt(draw, lines):
 
 WORDS = [b"0", b"1", b"2", b"9", b"10", b"007", b"1000000", b"1000001", b"1000000000000", b"1000000000001", b"5.0",
          b"5.5", b"0.0000005", b"0.5000000", b"1000000.5", b".5", b"RootP", b"-1", b"x", b"E", b"T", b"TP", b"END", b"EOF", b"SECTION", b"A", b"18446744073709551616", b"C", b"S",
-         b"U", b"D", b"P", b"H", b"F", b""]
+         b"L", b"U", b"D", b"P", b"H", b"F", b""]
 
 
 def spoilt(draw, text):
@@ -617,6 +654,29 @@ def spoilt(draw, text):
             lines[at] = b" ".join(words)
         text = b"\n".join(lines)
     return text
+
+
+def nudged(draw, lines):
+    """These lines of a proof, one cut of which may have a value that is a little less or greater."""
+    lines = lines.split(b"\n")
+    cuts = [at for at, line in enumerate(lines) if line.startswith(b"U ")]
+    if cuts and draw.random() < 0.7:
+        at = draw.choice(cuts)
+        words = lines[at].split(b" ")
+        words[2] = b"%d" % max(0, int(words[2]) + draw.choice([-3, -2, -1, 1, 2, 3]))
+        lines[at] = b" ".join(words)
+    return b"\n".join(lines)
+
+
+def linked(draw, text, links):
+    """The log with its proof twice, below a split at one of these links: in its halves the proof holds as well, unless it splits at
+    an end; with a cut of another value it may, by what the link spares or because it is barred."""
+    head, proof, rest = text.partition(b"\nPROOF\n")
+    if not proof or not links:
+        return text
+    lines = rest[: -len(b"END\n")]
+    split = b"L %d %d\n" % draw.choice(sorted(links))
+    return head + proof + split + nudged(draw, lines) + nudged(draw, lines) + b"END\n"
 
 
 # ---------------------------------------------------------------- runs
@@ -660,7 +720,7 @@ class Run:
 
     def solve(self, network, best):
         draw = self.draw
-        words = ["--log", self.log] + (["--plain"] if draw.random() < 0.5 else [])
+        words = ["--log", self.log] + [flag for flag in ("--plain", "--links") if draw.random() < 0.5]
         budget = draw.choice([None, None, 0, 1, 2, 3])
         words += [] if budget is None else ["--nodes", str(budget)]
         words += ["--workers", str(self.workers)] if self.workers > 1 else []
@@ -673,6 +733,8 @@ class Run:
             self.found(network, status, answer, best, budget)
         self.check(network, text, status)
         for _ in range(3):
+            text = linked(draw, text, network.links)
+            self.check(network, text, None)
             self.check(network, spoilt(draw, text), None)
 
     def few(self, network, best):

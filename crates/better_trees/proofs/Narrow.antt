@@ -1,19 +1,20 @@
--- What is left of a branch where more is to be avoided.
+-- What is left of a branch where more is to be avoided, and nothing is said of links.
 use Rattle.std.proofs.Common.{◌≡◌, ℕ, Bool, true, false, not, ◌||◌, List, refl, sym, ◌∙◌}
 use Rattle.std.specs.Prelude.{IsTrue, IsFalse}
 use Rattle.std.proofs.lemmas.Bool.{or_left}
 use Rattle.st_model.specs.declared.branch.Branch.{Branch}
 use Rattle.st_model.specs.Lists.{has}
 use Rattle.st_model.specs.Network.{Network, is_required}
+use Rattle.st_model.specs.Ground.{ground}
 use Rattle.st_model.specs.Branch.{AreThose, IsBranch, LeavesRequired, deciding, is_certain}
-use Rattle.st_model.proofs.Branches.{IsVertexSet-member}
+use Rattle.st_model.proofs.Branches.{IsBranch-deciding, IsVertexSet-member}
 use Rattle.better_trees.specs.Part.{IsPartOf}
 use Rattle.better_trees.specs.Part.{is_left_out}
 
 -- a branch in which more is outside, but nothing that is certain
 pub narrow_branch : (I : Network) (B : Branch) (reached out : List ℕ) → IsBranch I B → AreThose (is_left_out I B reached) I.n out
     → IsBranch I (deciding B.inside out)
-narrow_branch I B reached out branch are = record { inside = branch.inside; outside = are.set; apart = apart }
+narrow_branch I B reached out branch are = IsBranch-deciding (ground I) B.inside out branch.inside are.set apart
   where
     apart : (v : ℕ) → IsTrue (has B.inside v) → IsFalse (has out v)
     apart v inside =

@@ -1,3 +1,4 @@
+pub mod Branched
 pub mod Part
 pub mod Better
 pub mod Grown

@@ -23,7 +23,8 @@ const MORE: u64 = 100;
 // How many steps a walk from a random tree has, or from one over saturated arcs at a first node, at most.
 const STEPS: u64 = 4;
 
-/// A tree of the branch that costs less than the least cost known, if `saturated_tree` is one.
+/// A tree that reaches what the branch says and costs less than the least cost known, if `saturated_tree`
+/// is one.
 pub fn better_tree(
     alloc: Global,
     place: &Place<'_>,
@@ -37,8 +38,8 @@ pub fn better_tree(
     Ok(cheaper(place, tree, least))
 }
 
-/// A tree of the branch over saturated arcs, if there is one: the cheapest of some that grow, led on by a
-/// walk of so many steps and improved.
+/// A tree over saturated arcs that reaches what the branch says, if there is one: the cheapest of some that
+/// grow, led on by a walk of so many steps and improved.
 pub fn saturated_tree(
     alloc: Global,
     place: &Place<'_>,
@@ -83,7 +84,7 @@ fn cheapest_path_tree(
     Ok(best)
 }
 
-// The tree that grows over saturated arcs along weights, pruned, if it is one of the branch.
+// The tree that grows over saturated arcs along weights, pruned, if it reaches what the branch says.
 fn pruned_path_tree(
     alloc: Global,
     place: &Place<'_>,
@@ -100,8 +101,8 @@ fn pruned_path_tree(
     Ok(Some(prune(alloc, instance, place.branch, tree)?))
 }
 
-/// A tree of the branch, if one is found: a first tree along weighted costs, pruned, led on by a walk and
-/// improved.
+/// A tree that reaches what the branch says, if one is found: a first tree along weighted costs, pruned, led
+/// on by a walk and improved.
 pub fn tree_along(
     alloc: Global,
     place: &Place<'_>,

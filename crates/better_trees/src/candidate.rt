@@ -38,7 +38,7 @@ impl Candidate {
         }
     }
 
-    // Makes a tree of the branch.
+    // Makes a tree that reaches what the branch says.
     fn grow(&mut self, alloc: Global, place: &Place<'_>)
         ensures { IsGrown place.now self.new }
     {
@@ -50,7 +50,7 @@ impl Candidate {
     }
 }
 
-/// The candidates, each with the tree of the branch that came of its source, if one did.
+/// The candidates, each with the tree that came of its source and reaches what the branch says, if one did.
 pub fn grow_all<R: Threads + Sync>(
     means: &Means<'_, R>,
     place: &Place<'_>,

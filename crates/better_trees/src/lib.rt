@@ -1,7 +1,7 @@
-//! Looks for trees of a branch that cost less than the incumbent: over saturated arcs, along random
-//! weights, and on walks over trees that cost the same, several side by side. Of a
-//! tree that is answered callers may rely on that it is one of the branch and costs less; nothing is claimed
-//! of whether one is found, and what is drawn is the same for the same seed.
+//! Looks for trees that reach what a branch says and cost less than the incumbent: over saturated arcs,
+//! along random weights, and on walks over trees that cost the same, several side by side. Of a tree that is
+//! answered callers may rely on that it reaches what the branch says, whatever the branch says of links, and
+//! costs less; nothing is claimed of whether one is found, and what is drawn is the same for the same seed.
 #![tactic(auto)]
 
 mod bettering;

@@ -6,8 +6,8 @@ ghost use Rattle.better_trees.specs.Part.{IsPartOf, is_left_out};
 use st_model::{Branch, Instance, Listed, Sides, VertexSet};
 use std::alloc::{AllocError, Global};
 
-/// The branch, in which each vertex is also outside that is neither required nor inside nor in a
-/// set.
+/// The branch without what it says of links, in which each vertex is also outside that is neither
+/// required nor inside nor in a set.
 pub fn narrowed(
     alloc: Global,
     instance: &Instance,
@@ -22,7 +22,7 @@ pub fn narrowed(
     let outside = left_out(alloc, instance, branch, reached)?;
     let before = branch.branch();
     let inside = Vec::from_slice(alloc, before.inside.as_slice())?;
-    Ok(Branch::of(Listed::of(inside), Listed::of(outside)))
+    Ok(Branch::of(alloc, Listed::of(inside), Listed::of(outside)))
 }
 
 // The vertices that are outside, and those that are neither required nor inside nor in a set;

@@ -1,4 +1,6 @@
+ghost use Rattle.std.proofs.Props.{props};
 ghost use Rattle.st_model.specs.Branch.{IsBranch};
+ghost use Rattle.better_trees.specs.Branched.{AreApart-prop};
 
 use graph_store::Whole;
 use st_model::Sides;
@@ -8,5 +10,5 @@ use st_model::Sides;
 pub struct Place<'a> {
     pub whole: &'a Whole,
     pub branch: &'a Sides,
-    pub ghost branched: { IsBranch whole.now.instance branch.now },
+    pub ghost branched: { IsBranch whole.now.instance branch.now } by { Prim.hlevel (AreApart-prop, props) },
 }

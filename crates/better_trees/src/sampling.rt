@@ -38,10 +38,10 @@ const NOT_SATURATED: u64 = 55;
 
 const MORE: u64 = 10;
 
-/// A tree of the branch that costs less than the least cost known, if one is found: the cheapest of trees
-/// along random costs, led on by walks and improved, and of the one over saturated arcs led on so. Costs
-/// are random alone and by what is left of the arcs, and then round two of the trees found before. There are no
-/// more where one costs what the bound is.
+/// A tree that reaches what the branch says and costs less than the least cost known, if one is found: the
+/// cheapest of trees along random costs, led on by walks and improved, and of the one over saturated arcs led
+/// on so. Costs are random alone and by what is left of the arcs, and then round two of the trees found
+/// before. There are no more where one costs what the bound is.
 #[tactic(auto, using(crate::proofs::Found::found_later))]
 pub fn random_tree<R: Threads + Sync>(
     means: &Means<'_, R>,

@@ -78,8 +78,8 @@ fn key_vertices_of(
 }
 
 // The best tree of one over saturated arcs, if there is one, of random ones beside it, and of those that walks
-// come to, if it is cheaper than the incumbent. No random one that costs less than all reaches a vertex beyond the
-// gap, so such vertices are left out of these.
+// come to, if it is cheaper than the incumbent. No random one that does without the barred links and costs less than
+// all reaches a vertex beyond the gap, so such vertices are left out of these.
 fn led_on<R: Threads + Sync>(
     means: &Means<'_, R>,
     place: &Place<'_>,

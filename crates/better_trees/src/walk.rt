@@ -36,7 +36,7 @@ impl Walk {
         })
     }
 
-    /// The tree of the branch that the walk comes to, if it begins at one.
+    /// The tree that the walk comes to, if it begins at one that reaches what the branch says; so does this.
     pub fn end(
         &self,
         alloc: Global,
@@ -56,7 +56,8 @@ impl Walk {
     }
 }
 
-/// The tree of a branch that a walk of so many steps comes to, if it begins at one.
+/// The tree that a walk of so many steps comes to, if it begins at one that reaches what the branch says; so
+/// does this.
 pub fn end_of_walk(
     alloc: Global,
     place: &Place<'_>,

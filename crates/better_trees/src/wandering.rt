@@ -23,9 +23,9 @@ const WALKS: u64 = 4;
 
 const FOR_A_WALK: u64 = 20;
 
-/// A tree of the branch that costs less than the incumbent, if one is found: walks lead from the
-/// cheapest trees over others that cost the same, among what these reach and what is near, turn by turn as
-/// long as they come to a cheaper one that costs more than the bound.
+/// A tree that reaches what the branch says and costs less than the incumbent, if one is found: walks lead
+/// from the cheapest trees over others that cost the same, among what these reach and what is near, turn by
+/// turn as long as they come to a cheaper one that costs more than the bound.
 #[tactic(auto, using(crate::proofs::Found::found_later))]
 pub fn wandered_tree<R: Threads + Sync>(
     means: &Means<'_, R>,

@@ -4,16 +4,20 @@ use Rattle.std.specs.Prelude.{IsPermutation, if◌then◌else◌, slice_index_or
 use Rattle.std.specs.Option.{is_some}
 use Rattle.std.specs.List.{IsDistinct, AllByRecursion}
 use Rattle.std.specs.List.Sorted.{IsNonDecreasingBy}
-use Rattle.std.proofs.lemmas.Bool.{cases_eq, cases_lt, ne_eqb, eq-eqb, false≢true}
+use Rattle.std.proofs.lemmas.Bool.{cases_eq, cases_lt, ne_eqb, eq-eqb, not-true, and_parts, false≢true}
 use Rattle.std.proofs.lemmas.List.{get_or-map, length-map, get_or_past, get_or_append_left, get_or_push, get_or-replicate, length-replicate}
 use Rattle.std.proofs.lemmas.List.Elements.{All-filter, All-map}
 use Rattle.std.proofs.lemmas.List.Sorted.{All-permutation, Contains-permutation, IsPermutation-sym}
 use Rattle.std.proofs.lemmas.Map.Keys.{IsDistinct-IsPermutation, IsDistinct-from_apart, IsDistinct-cons, IsDistinct-head, IsDistinct-tail, apart_from_distinct}
 use Rattle.st_model.specs.declared.branch.Branch.{Branch}
+use Rattle.st_model.specs.Ground.{ground}
 use Rattle.st_model.specs.Lists.{has}
+use Rattle.st_model.specs.Made.{has_pair}
+use Rattle.st_model.specs.Branch.{open_link}
 use Rattle.st_model.specs.Network.{Network, IsInstance, IsVertex, link, is_required, pays}
 use Rattle.st_model.proofs.Distinct.{link-comm}
 use Rattle.st_model.proofs.Links.{linked_in_range}
+use Rattle.st_model.proofs.Pairs.{open_unbarred, open_parts, open-comm}
 use Rattle.graph_store.specs.declared.half.Half.{Half}
 use Rattle.graph_store.specs.Graph.{Graph, IsGraph, is_in}
 use Rattle.graph_store.specs.Neighbours.{AreNeighbours}
@@ -21,15 +25,15 @@ use Rattle.bidirected_form.specs.declared.arc.Arc.{Arc}
 use Rattle.bidirected_form.specs.declared.kind.VertexKind.{VertexKind}
 use Rattle.bidirected_form.specs.declared.kind.VertexKind.TheVariants.{Outside, Must, May}
 use Rattle.bidirected_form.specs.Bidirected.{is_open, kind_in, arc_cost}
-use Rattle.bidirected_form.specs.Building.{is_off, is_out, cost_by, arc_of}
+use Rattle.bidirected_form.specs.Building.{is_off, is_out, is_arc, cost_by, arc_of}
 use Rattle.bidirected_form.specs.Digraph.{IsDigraph, AreArcsInto, left_from}
 use Rattle.bidirected_form.specs.Rows.{row_of, rows_from, IsLaidOut}
 use Rattle.bidirected_form.proofs.RowLemmas.{tail_of, rows_push, length-rows_from}
 use Rattle.bidirected_form.proofs.Lookups.{left_from-at, left_from-found}
 
--- the halves whose other ends aren't outside
-abbrev pub kept : List VertexKind → List Half → List Half
-kept kinds halves = filter (λ h. not (is_out kinds h.to)) halves
+-- the halves of v that are arcs
+abbrev pub kept : Branch → List VertexKind → ℕ → List Half → List Half
+kept B kinds v halves = filter (is_arc B kinds v) halves
 
 -- a filter keeps what is there and passes
 filter_keeps : {X : Type 0} (p : X → Bool) (xs : List X) (x : X) → Contains xs x → p x ≡ true → Contains (filter p xs) x
@@ -105,10 +109,10 @@ distinct_map [] h = tt
 distinct_map (x ∷ xs) h = IsDistinct-cons _ (arc_of x) (map arc_of xs) (all_arcs x.to xs (IsDistinct-head _ x xs h)) (distinct_map xs (IsDistinct-tail _ x xs h))
 
 -- what is known of the arcs that come of the halves of v, in any order
-pub arcs_of_halves : (I : Network) (kinds : List VertexKind) (v : ℕ) (halves : List Half) (row : List Arc) → AreNeighbours I v halves → IsPermutation (map arc_of (kept kinds halves)) row → IsNonDecreasingBy tail_of row → AreArcsInto I.n v row
-arcs_of_halves I kinds v halves row near moved up = record {
+pub arcs_of_halves : (I : Network) (B : Branch) (kinds : List VertexKind) (v : ℕ) (halves : List Half) (row : List Arc) → AreNeighbours I v halves → IsPermutation (map arc_of (kept B kinds v halves)) row → IsNonDecreasingBy tail_of row → AreArcsInto I.n v row
+arcs_of_halves I B kinds v halves row near moved up = record {
   ascending = λ i j d before below. strict i j d before below;
-  tails = All-permutation (λ (a : Arc). IsVertex I.n a.tail × (a.tail ≢ v)) _ _ moved (All-map (λ (a : Arc). IsVertex I.n a.tail × (a.tail ≢ v)) arc_of (kept kinds halves) (All-filter (λ h. not (is_out kinds h.to)) (λ h. IsVertex I.n h.to × (h.to ≢ v)) halves near.others));
+  tails = All-permutation (λ (a : Arc). IsVertex I.n a.tail × (a.tail ≢ v)) _ _ moved (All-map (λ (a : Arc). IsVertex I.n a.tail × (a.tail ≢ v)) arc_of (kept B kinds v halves) (All-filter (is_arc B kinds v) (λ h. IsVertex I.n h.to × (h.to ≢ v)) halves near.others));
 }
   where
     same : Arc → Arc → Bool
@@ -124,7 +128,7 @@ arcs_of_halves I kinds v halves row near moved up = record {
     apart_halves = IsDistinct-from_apart (λ (x y : Half). eqb x.to y.to) halves (λ i j d before below. ne_eqb _ _ (near.once i j d before below))
 
     apart : IsDistinct (λ (x y : Arc). eqb x.tail y.tail) row
-    apart = IsDistinct-IsPermutation (λ (x y : Arc). eqb x.tail y.tail) flips _ _ moved (distinct_map (kept kinds halves) (distinct_filter (λ h. not (is_out kinds h.to)) halves apart_halves))
+    apart = IsDistinct-IsPermutation (λ (x y : Arc). eqb x.tail y.tail) flips _ _ moved (distinct_map (kept B kinds v halves) (distinct_filter (is_arc B kinds v) halves apart_halves))
 
     strict : (i j : ℕ) (d : Arc) → i < j → j < length row → (get_or row i d).tail < (get_or row j d).tail
     strict i j d before below =
@@ -136,33 +140,32 @@ arcs_of_halves I kinds v halves row near moved up = record {
         ]
 
 -- what remains of them is what their links cost
-pub costs_of_halves : (g : Graph) (kinds : List VertexKind) (v : ℕ) (halves : List Half) (row : List Arc) → AreNeighbours g.network v halves → IsPermutation (map arc_of (kept kinds halves)) row → AreArcsInto g.network.n v row → is_out kinds v ≡ false → (u : ℕ) → left_from row u ≡ cost_by g kinds u v
-costs_of_halves g kinds v halves row near moved are here u = option_same (left_from row u) (cost_by g kinds u v) to from
+pub costs_of_halves : (g : Graph) (B : Branch) (kinds : List VertexKind) (v : ℕ) (halves : List Half) (row : List Arc) → AreNeighbours g.network v halves → IsPermutation (map arc_of (kept B kinds v halves)) row → AreArcsInto g.network.n v row → is_out kinds v ≡ false → (u : ℕ) → left_from row u ≡ cost_by g B kinds u v
+costs_of_halves g B kinds v halves row near moved are here u = option_same (left_from row u) (cost_by g B kinds u v) to from
   where
-    passed : (b : Bool) → not b ≡ true → b ≡ false
-    passed true h = sym h
-    passed false h = refl
-
     costs : (b a : Bool) (r : ℕ) (o : Option ℕ) → a ≡ false → (if not b && not a then o else None) ≡ Some r → (b ≡ false) × (o ≡ Some r)
     costs true a r o e h = absurd (let clash : ⊥ = cc in clash)
     costs false true r o e h = absurd (false≢true (sym e))
     costs false false r o e h = (refl, h)
 
-    to : (r : ℕ) → left_from row u ≡ Some r → cost_by g kinds u v ≡ Some r
+    to : (r : ℕ) → left_from row u ≡ Some r → cost_by g B kinds u v ≡ Some r
     to r h =
         let found = left_from-found row u r h in
         let in_row : Contains row (record { tail = u; remaining = r }) = (found.0, found.1, found.2 (record { tail = u; remaining = r })) in
-        let in_kept = halves_contain (kept kinds halves) u r (Contains-permutation row (map arc_of (kept kinds halves)) (record { tail = u; remaining = r }) (IsPermutation-sym (map arc_of (kept kinds halves)) row moved) in_row) in
-        let both = filter_kept (λ (h : Half). not (is_out kinds h.to)) halves (record { to = u; cost = r }) in_kept in
+        let in_kept = halves_contain (kept B kinds v halves) u r (Contains-permutation row (map arc_of (kept B kinds v halves)) (record { tail = u; remaining = r }) (IsPermutation-sym (map arc_of (kept B kinds v halves)) row moved) in_row) in
+        let both = filter_kept (is_arc B kinds v) halves (record { to = u; cost = r }) in_kept in
+        let parts = and_parts (not (is_out kinds u)) (not (has_pair B.barred u v)) both.1 in
         let linked = (near.linked u r).0 both.0 in
-        rw (passed (is_out kinds u) both.1, here) (link-comm g.network.links u v ∙ linked)
+        rw (not-true (is_out kinds u) parts.0, here, not-true (has_pair B.barred u v) parts.1) (link-comm g.network.links u v ∙ linked)
 
-    from : (r : ℕ) → cost_by g kinds u v ≡ Some r → left_from row u ≡ Some r
+    from : (r : ℕ) → cost_by g B kinds u v ≡ Some r → left_from row u ≡ Some r
     from r h =
-        let both = costs (is_out kinds u) (is_out kinds v) r (link g.network.links u v) here h in
-        let there = (near.linked u r).1 (link-comm g.network.links v u ∙ both.1) in
-        let test : not (is_out kinds u) ≡ true = ap not both.0 in
-        let in_row = Contains-permutation (map arc_of (kept kinds halves)) row (record { tail = u; remaining = r }) moved (arcs_contain (kept kinds halves) u r (filter_keeps (λ (h : Half). not (is_out kinds h.to)) halves (record { to = u; cost = r }) there test)) in
+        let both = costs (is_out kinds u) (is_out kinds v) r (open_link g.network B u v) here h in
+        let free = (open_parts (ground g.network) B u v (ap is_some both.1)).0 in
+        let cost : link g.network.links u v ≡ Some r = sym (open_unbarred (ground g.network) B u v free) ∙ both.1 in
+        let there = (near.linked u r).1 (link-comm g.network.links v u ∙ cost) in
+        let test : (not (is_out kinds u) && not (has_pair B.barred u v)) ≡ true = rw (both.0, free) refl in
+        let in_row = Contains-permutation (map arc_of (kept B kinds v halves)) row (record { tail = u; remaining = r }) moved (arcs_contain (kept B kinds v halves) u r (filter_keeps (is_arc B kinds v) halves (record { to = u; cost = r }) there test)) in
         let at = left_from-at row in_row.0 (record { tail = u; remaining = r }) are.ascending in_row.1 in
         subst (λ (a : Arc). left_from row a.tail ≡ Some a.remaining) in_row.2 at
 
@@ -170,10 +173,10 @@ costs_of_halves g kinds v halves row near moved are here u = option_same (left_f
 pub no_arcs : (n v : ℕ) → AreArcsInto n v []
 no_arcs n v = record { ascending = λ i j d before below. absurd (omega (arith, below)); tails = λ k d below. absurd (omega (arith, below)) }
 
-pub no_costs : (g : Graph) (kinds : List VertexKind) (u v : ℕ) → is_out kinds v ≡ true → None ≡ cost_by g kinds u v
-no_costs g kinds u v out = rw out (by_case (is_out kinds u))
+pub no_costs : (g : Graph) (B : Branch) (kinds : List VertexKind) (u v : ℕ) → is_out kinds v ≡ true → None ≡ cost_by g B kinds u v
+no_costs g B kinds u v out = rw out (by_case (is_out kinds u))
   where
-    by_case : (b : Bool) → ◌≡◌ {A = Option ℕ} None (if not b && false then link g.network.links u v else None)
+    by_case : (b : Bool) → ◌≡◌ {A = Option ℕ} None (if not b && false then open_link g.network B u v else None)
     by_case true = refl
     by_case false = refl
 
@@ -185,12 +188,13 @@ unlinked I u v h out = by_case (link I.links u v) refl (linked_in_range I.n I.li
     by_case None e h = e
     by_case (Some x) e h = absurd (out h.1)
 
-pub no_vertex_costs : (g : Graph) (kinds : List VertexKind) (u v : ℕ) → IsInstance g.network → (IsVertex g.network.n v → ⊥) → None ≡ cost_by g kinds u v
-no_vertex_costs g kinds u v h out = rw (unlinked g.network u v h out) (by_case (not (is_out kinds u) && not (is_out kinds v)))
+pub no_vertex_costs : (g : Graph) (B : Branch) (kinds : List VertexKind) (u v : ℕ) → IsInstance g.network → (IsVertex g.network.n v → ⊥) → None ≡ cost_by g B kinds u v
+no_vertex_costs g B kinds u v h out = rw (unlinked g.network u v h out) (by_case (not (is_out kinds u) && not (is_out kinds v)) (has_pair B.barred u v))
   where
-    by_case : (b : Bool) → ◌≡◌ {A = Option ℕ} None (if b then None else None)
-    by_case true = refl
-    by_case false = refl
+    by_case : (b c : Bool) → ◌≡◌ {A = Option ℕ} None (if b then (if c then None else None) else None)
+    by_case true true = refl
+    by_case true false = refl
+    by_case false c = refl
 
 -- a vertex that isn't outside is open
 out_is : (g : Graph) (B : Branch) (v : ℕ) → is_off (kind_in g B v) ≡ not (is_open g B v)
@@ -203,10 +207,10 @@ out_is g B v = by_case (is_open g B v) (is_required g.network v) (has B.inside v
     by_case false b c = refl
 
 -- the costs by kinds are those by the branch
-pub cost_is : (g : Graph) (B : Branch) (kinds : List VertexKind) → ((v : ℕ) → slice_index_or kinds v Outside ≡ kind_in g B v) → (u v : ℕ) → cost_by g kinds u v ≡ arc_cost g B u v
+pub cost_is : (g : Graph) (B : Branch) (kinds : List VertexKind) → ((v : ℕ) → slice_index_or kinds v Outside ≡ kind_in g B v) → (u v : ℕ) → cost_by g B kinds u v ≡ arc_cost g B u v
 cost_is g B kinds same u v = rw (ap is_off (same u) ∙ out_is g B u, ap is_off (same v) ∙ out_is g B v) (by_case (is_open g B u) (is_open g B v))
   where
-    by_case : (a b : Bool) → (if not (not a) && not (not b) then link g.network.links u v else None) ≡ (if a && b then link g.network.links u v else None)
+    by_case : (a b : Bool) → (if not (not a) && not (not b) then open_link g.network B u v else None) ≡ (if a && b then open_link g.network B u v else None)
     by_case true true = refl
     by_case true false = refl
     by_case false true = refl
@@ -227,8 +231,8 @@ kind_past g B v h past = rw absent refl
         by_case false e = e
 
 -- what is put together is a root with kinds and arcs
-pub built_digraph : (g : Graph) (kinds : List VertexKind) (rows : List (List Arc)) (root : ℕ) → slice_index_or kinds 0 Outside ≡ Outside → IsGraph g → IsVertex g.network.n root → length kinds ≡ g.network.n + 1 → length rows ≡ g.network.n + 1 → ((v : ℕ) → AreArcsInto g.network.n v (row_of rows v)) → ((u v : ℕ) → left_from (row_of rows v) u ≡ cost_by g kinds u v) → IsDigraph (record { root = root; n = g.network.n; kinds = kinds; arcs = rows })
-built_digraph g kinds rows root nobody h in_range long many arcs costs = record {
+pub built_digraph : (g : Graph) (B : Branch) (kinds : List VertexKind) (rows : List (List Arc)) (root : ℕ) → slice_index_or kinds 0 Outside ≡ Outside → IsGraph g → IsVertex g.network.n root → length kinds ≡ g.network.n + 1 → length rows ≡ g.network.n + 1 → ((v : ℕ) → AreArcsInto g.network.n v (row_of rows v)) → ((u v : ℕ) → left_from (row_of rows v) u ≡ cost_by g B kinds u v) → IsDigraph (record { root = root; n = g.network.n; kinds = kinds; arcs = rows })
+built_digraph g B kinds rows root nobody h in_range long many arcs costs = record {
   few_vertices = h.instance.few_vertices;
   root = in_range;
   kinds = long;
@@ -236,17 +240,17 @@ built_digraph g kinds rows root nobody h in_range long many arcs costs = record 
   arcs = arcs;
   both = λ u v. ap is_some (costs u v ∙ turned u v ∙ sym (costs v u));
   nobody = nobody;
-  outside = λ u v off. costs u v ∙ sym (no_costs g kinds u v (ap is_off off));
+  outside = λ u v off. costs u v ∙ sym (no_costs g B kinds u v (ap is_off off));
 }
   where
-    turned : (u v : ℕ) → cost_by g kinds u v ≡ cost_by g kinds v u
-    turned u v = rw (link-comm g.network.links u v) (by_case (is_out kinds u) (is_out kinds v))
+    turned : (u v : ℕ) → cost_by g B kinds u v ≡ cost_by g B kinds v u
+    turned u v = by_case (is_out kinds u) (is_out kinds v) (open_link g.network B u v) (open_link g.network B v u) (open-comm (ground g.network) B (link-comm g.network.links) u v)
       where
-        by_case : (a b : Bool) → (if not a && not b then link g.network.links v u else None) ≡ (if not b && not a then link g.network.links v u else None)
-        by_case true true = refl
-        by_case true false = refl
-        by_case false true = refl
-        by_case false false = refl
+        by_case : (a b : Bool) (x y : Option ℕ) → x ≡ y → (if not a && not b then x else None) ≡ (if not b && not a then y else None)
+        by_case true true x y same = refl
+        by_case true false x y same = refl
+        by_case false true x y same = refl
+        by_case false false x y same = same
 
 -- what holds of each element up to a place, and of one more
 pub pushed_all : {X : Type 0} (P : ℕ → X → Type 0) (xs : List X) (y d : X) (k : ℕ) → length xs ≡ k + 1 → ((v : ℕ) → v ≤ k → P v (get_or xs v d)) → P (k + 1) y → (v : ℕ) → v ≤ k + 1 → P v (get_or (xs ++ y ∷ []) v d)

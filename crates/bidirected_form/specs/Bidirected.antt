@@ -1,8 +1,9 @@
 -- What a vertex of a graph is in a branch, and what its links cost as arcs.
 use Rattle.std.specs.Prelude.{ℕ, Bool, ◌&&◌, ◌||◌, not, if◌then◌else◌, Option, None}
 use Rattle.st_model.specs.declared.branch.Branch.{Branch}
+use Rattle.st_model.specs.Branch.{open_link}
 use Rattle.st_model.specs.Lists.{has}
-use Rattle.st_model.specs.Network.{link, is_required, pays}
+use Rattle.st_model.specs.Network.{is_required, pays}
 use Rattle.graph_store.specs.Graph.{Graph, is_in}
 use Rattle.bidirected_form.specs.declared.kind.VertexKind.{VertexKind}
 use Rattle.bidirected_form.specs.declared.kind.VertexKind.TheVariants.{Outside, Must, May}
@@ -19,6 +20,6 @@ kind_by g here inside v = if here then (if is_required g.network v || inside the
 abbrev pub kind_in : Graph → Branch → ℕ → VertexKind
 kind_in g B v = kind_by g (is_open g B v) (has B.inside v) v
 
--- what the arc from u to v costs, if there is a link between open vertices
+-- what the arc from u to v costs, if there is a link between open vertices that isn't barred
 abbrev pub arc_cost : Graph → Branch → ℕ → ℕ → Option ℕ
-arc_cost g B u v = if is_open g B u && is_open g B v then link g.network.links u v else None
+arc_cost g B u v = if is_open g B u && is_open g B v then open_link g.network B u v else None

@@ -19,7 +19,7 @@ use std::alloc::{AllocError, Global};
 use std::marker::Model;
 
 /// The links between the vertices that a branch leaves, as two arcs each, with what remains of
-/// each arc's cost. (Wong 1984 takes from it in dual ascent.)
+/// each arc's cost. A link that is barred gives no arc. (Wong 1984 takes from it in dual ascent.)
 #[derive(Drop)]
 pub struct Arcs {
     root: u32,
@@ -46,7 +46,8 @@ impl Model for Arcs {
 
 impl Arcs {
     /// Both arcs of each link between vertices that are present in the store and not outside in
-    /// the branch, at the link's cost. Linear but for the sorting of each vertex's neighbours.
+    /// the branch, at the link's cost, unless the branch bars the link. Linear but for the sorting of
+    /// each vertex's neighbours, and a look-up for each arc where any link is barred.
     pub fn of(alloc: Global, store: &Store, branch: &Sides, root: u32) -> Result<Arcs, AllocError>
         requires { IsVertex store.now.network.n root }
         ensures root { IfOk result (λ arcs. arcs.root ≡ root) }
@@ -56,7 +57,7 @@ impl Arcs {
     {
         let vertices = store.vertices();
         let kinds = kinds_of(alloc, store, branch)?;
-        let rows = rows_of(alloc, store, &kinds)?;
+        let rows = rows_of(alloc, store, branch, &kinds)?;
         let marks = no_marks(alloc, vertices)?;
         Ok(Arcs {
             root,

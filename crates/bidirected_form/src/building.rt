@@ -3,7 +3,7 @@ ghost use Rattle.st_model.specs.Lists.{has};
 ghost use Rattle.st_model.specs.Network.{IsVertex};
 ghost use Rattle.graph_store.specs.Graph.{is_in};
 ghost use Rattle.bidirected_form.specs.Bidirected.{kind_by, kind_in};
-ghost use Rattle.bidirected_form.specs.Building.{arc_of, cost_by, is_out};
+ghost use Rattle.bidirected_form.specs.Building.{arc_of, cost_by, is_arc, is_out};
 ghost use Rattle.bidirected_form.specs.Rows.{row_of};
 ghost use Rattle.bidirected_form.specs.Digraph.{AreArcsInto, left_from};
 
@@ -44,16 +44,21 @@ fn kind_at(store: &Store, branch: &Sides, vertex: u32) -> VertexKind
     }
 }
 
-// The arcs into vertex 0, 1, .. n between vertices that aren't outside.
-pub fn rows_of(alloc: Global, store: &Store, kinds: &[VertexKind]) -> Result<Rows, AllocError>
+// The arcs into vertex 0, 1, .. n between vertices that aren't outside, of links that aren't barred.
+pub fn rows_of(
+    alloc: Global,
+    store: &Store,
+    branch: &Sides,
+    kinds: &[VertexKind],
+) -> Result<Rows, AllocError>
     ensures length { IfOk result (λ rows. length rows ≡ store.now.network.n + 1) }
     ensures arcs { IfOk result (λ rows. (v : ℕ) → AreArcsInto store.now.network.n v (row_of rows v)) }
-    ensures costs { IfOk result (λ rows. (u v : ℕ) → left_from (row_of rows v) u ≡ cost_by store.now kinds.now u v) }
+    ensures costs { IfOk result (λ rows. (u v : ℕ) → left_from (row_of rows v) u ≡ cost_by store.now branch.now kinds.now u v) }
 {
     let mut ends = vec![in alloc; 0]?;
     let mut arcs = Vec::new(alloc);
     for before in 0..store.vertices() {
-        let row = row_into(alloc, store, kinds, before + 1)?;
+        let row = row_into(alloc, store, branch, kinds, before + 1)?;
         arcs.extend_from_slice(&row)?;
         ends.push(arcs.len())?;
     }
@@ -61,33 +66,41 @@ pub fn rows_of(alloc: Global, store: &Store, kinds: &[VertexKind]) -> Result<Row
     Ok(rows)
 }
 
-// The arcs into a vertex between vertices that aren't outside, ascending by their tails.
+// The arcs into a vertex between vertices that aren't outside, of links that aren't barred, ascending
+// by their tails.
 fn row_into(
     alloc: Global,
     store: &Store,
+    branch: &Sides,
     kinds: &[VertexKind],
     vertex: u32,
 ) -> Result<Vec<Arc>, AllocError>
     requires { IsVertex store.now.network.n vertex }
     ensures arcs { IfOk result (λ row. AreArcsInto store.now.network.n vertex row.items) }
-    ensures costs { IfOk result (λ row. (u : ℕ) → left_from row.items u ≡ cost_by store.now kinds.now u vertex) }
+    ensures costs { IfOk result (λ row. (u : ℕ) → left_from row.items u ≡ cost_by store.now branch.now kinds.now u vertex) }
 {
     if is_outside(kinds, vertex) {
         return Ok(Vec::new(alloc));
     }
-    let mut row = arcs_from(alloc, store.neighbours(vertex), kinds)?;
+    let mut row = arcs_from(alloc, store.neighbours(vertex), branch, kinds, vertex)?;
     row.sort_by_key(|arc| arc.tail)?;
     Ok(row)
 }
 
-// The arcs from the other ends of these halves that aren't outside.
-fn arcs_from(alloc: Global, halves: &[Half], kinds: &[VertexKind]) -> Result<Vec<Arc>, AllocError>
-    ensures { IfOk result (λ row. row.items ≡ map arc_of (filter (λ h. not (is_out kinds.now h.to)) halves.now)) }
+// The arcs from the other ends of a vertex's halves that aren't outside, of links that aren't barred.
+fn arcs_from(
+    alloc: Global,
+    halves: &[Half],
+    branch: &Sides,
+    kinds: &[VertexKind],
+    vertex: u32,
+) -> Result<Vec<Arc>, AllocError>
+    ensures { IfOk result (λ row. row.items ≡ map arc_of (filter (is_arc branch.now kinds.now vertex) halves.now)) }
 {
     halves
         .iter()
         .copied()
-        .filter(|half| !is_outside(kinds, half.to))
+        .filter(|half| !is_outside(kinds, half.to) && !branch.is_barred(half.to, vertex))
         .map(|half| Arc {
             tail: half.to,
             remaining: half.cost,

@@ -3,7 +3,7 @@ use Rattle.std.specs.Prelude.{ℕ, ◌≤◌, ◌==◌, not, filter}
 use Rattle.st_model.specs.declared.split_at.SplitAt.{SplitAt}
 use Rattle.st_model.specs.declared.split_at.SplitAt.TheVariants.{Vertex, Link}
 use Rattle.st_model.specs.Network.{Network}
-use Rattle.st_model.specs.Branch.{IsBranch, LeavesRequired, with_inside, with_outside, yes_half, no_half}
+use Rattle.st_model.specs.Branch.{IsBranch, LeavesRequired, with_inside, with_outside, with_must, with_barred, yes_half, no_half}
 use Rattle.cut_packing.specs.declared.packing.Packing.{Packing}
 use Rattle.cut_packing.specs.Packing.{Fits, weight}
 use Rattle.branching.specs.declared.node.Node.{Node}
@@ -23,7 +23,7 @@ pub record IsNoLighter (I : Network) (N M : Node) : Type 0 where
 abbrev pub without : Packing → ℕ → Packing
 without P v = record { root = P.root; cuts = filter (λ c. not (c.q == v)) P.cuts }
 
--- the packing of the half that says no to a split: at a vertex without the cuts that name it
+-- the packing of the half that says no to a split: at a vertex without the cuts that name it, at a link the same
 abbrev pub no_packing : Packing → SplitAt → Packing
 no_packing P (Vertex v) = without P v
 no_packing P (Link a b) = P
@@ -43,3 +43,10 @@ inside_half N v id = record { id = id; branch = with_inside N.branch v; packing 
 -- the half with v outside, under this number: it keeps the cuts that don't name v
 abbrev pub outside_half : Node → ℕ → ℕ → Node
 outside_half N v id = record { id = id; branch = with_outside N.branch v; packing = without N.packing v }
+
+-- the half where the link between a and b is a must, and the one where it is barred, each under its number: both keep the packing
+abbrev pub must_half : Node → ℕ → ℕ → ℕ → Node
+must_half N a b id = record { id = id; branch = with_must N.branch a b; packing = N.packing }
+
+abbrev pub barred_half : Node → ℕ → ℕ → ℕ → Node
+barred_half N a b id = record { id = id; branch = with_barred N.branch a b; packing = N.packing }

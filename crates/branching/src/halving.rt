@@ -1,6 +1,6 @@
 ghost use Rattle.std.specs.Prelude.{◌≡◌, ◌==◌, not, IfOk, IfErr, filter};
 ghost use Rattle.st_model.specs.Branch.{yes_half, no_half};
-ghost use Rattle.branching.specs.Node.{inside_half, outside_half, no_node, no_packing, without, yes_node};
+ghost use Rattle.branching.specs.Node.{inside_half, outside_half, must_half, barred_half, no_node, no_packing, without, yes_node};
 
 use crate::Node;
 use cut_packing::{Cut, Packing};
@@ -24,9 +24,27 @@ pub fn halves(
     halves_at(alloc, node, SplitAt::Vertex(vertex), inside_id, outside_id)
 }
 
+/// The halves of a node at the link between two vertices, the lower first, each under its number:
+/// the one where the link is a must, with both ends inside, and the one where it is barred. Both
+/// keep the packing. Where memory is refused the node is handed back.
+pub fn halves_link(
+    alloc: Global,
+    node: Node,
+    low: u32,
+    high: u32,
+    must_id: u64,
+    barred_id: u64,
+) -> Result<(Node, Node), (Node, AllocError)>
+    ensures must { IfOk result (λ halves. halves.0 ≡ must_half node low high must_id) }
+    ensures barred { IfOk result (λ halves. halves.1 ≡ barred_half node low high barred_id) }
+    ensures err { IfErr result (λ refused. refused.0 ≡ node) }
+{
+    halves_at(alloc, node, SplitAt::Link(low, high), must_id, barred_id)
+}
+
 /// The halves of a node, each under its number: the one that says yes to a split, which keeps the
-/// packing, and the one that says no, which keeps the cuts that don't name the vertex. Where memory
-/// is refused the node is handed back.
+/// packing, and the one that says no, which keeps the cuts that don't name the vertex, or all where
+/// the split is at a link. Where memory is refused the node is handed back.
 pub fn halves_at(
     alloc: Global,
     node: Node,

@@ -10,7 +10,7 @@ mod halving;
 mod law;
 mod node;
 
-pub use choosing::{choose, may_split};
-pub use halving::{halves, halves_at};
+pub use choosing::{choose, may_split, may_split_at};
+pub use halving::{halves, halves_at, halves_link};
 pub use law::halves_are_no_lighter;
 pub use node::Node;

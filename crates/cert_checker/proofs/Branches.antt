@@ -1,14 +1,23 @@
 -- What splits lead to is a branch.
 use Rattle.std.proofs.Common.{List, [], ◌∷◌}
-use Rattle.st_model.specs.Network.{Network}
+use Rattle.st_model.specs.Network.{Network, IsInstance}
+use Rattle.st_model.specs.Ground.{ground}
 use Rattle.st_model.specs.Branch.{IsBranch}
-use Rattle.st_model.proofs.Branches.{IsBranch-with_inside, IsBranch-with_outside}
+use Rattle.st_model.proofs.Branches.{IsBranch-with_inside, IsBranch-with_outside, IsBranch-with_must, IsBranch-with_barred}
+use Rattle.st_model.proofs.ThinGrowth.{linked-vertices}
 use Rattle.log_format.proofs.AllTrees.{all_trees-branch}
 use Rattle.cert_checker.specs.declared.turn.Turn.{Turn}
-use Rattle.cert_checker.specs.declared.turn.Turn.TheVariants.{Inside, Outside}
+use Rattle.cert_checker.specs.declared.turn.Turn.TheVariants.{Inside, Outside, Used, Barred}
 use Rattle.cert_checker.specs.Path.{branch_of, AreSplits}
 
-pub branch_of-branch : (I : Network) (path : List Turn) → AreSplits I path → IsBranch I (branch_of path)
-branch_of-branch I [] splits = all_trees-branch I
-branch_of-branch I (Inside v ∷ path) splits = IsBranch-with_inside I (branch_of path) v splits.0.vertex splits.0.undecided (branch_of-branch I path splits.1)
-branch_of-branch I (Outside v ∷ path) splits = IsBranch-with_outside I (branch_of path) v splits.0.vertex splits.0.undecided (branch_of-branch I path splits.1)
+pub branch_of-branch : (I : Network) (path : List Turn) → IsInstance I → AreSplits I path → IsBranch I (branch_of path)
+branch_of-branch I [] instance splits = all_trees-branch I
+branch_of-branch I (Inside v ∷ path) instance splits = let at = splits.0.0 in IsBranch-with_inside (ground I) (branch_of path) v at.vertex at.undecided (branch_of-branch I path instance splits.1)
+branch_of-branch I (Outside v ∷ path) instance splits = let at = splits.0.0 in IsBranch-with_outside (ground I) (branch_of path) v at.vertex at.undecided (branch_of-branch I path instance splits.1)
+branch_of-branch I (Used a b a_came b_came ∷ path) instance splits =
+    let at = splits.0.0 in
+    let ends = linked-vertices I a b instance at.linked in
+    IsBranch-with_must (ground I) (branch_of path) a b ends.0 ends.1 at.ordered at.linked at.low at.high at.no_must at.unbarred (branch_of-branch I path instance splits.1)
+branch_of-branch I (Barred a b ∷ path) instance splits =
+    let at = splits.0.0 in
+    IsBranch-with_barred (ground I) (branch_of path) a b at.ordered at.linked at.no_must at.unbarred (branch_of-branch I path instance splits.1)

@@ -2,7 +2,6 @@
 use Rattle.std.proofs.Common.{◌≡◌, ℕ, ◌+◌, List, [], ◌∷◌, ◌++◌, Some, None, inl, inr, length, sym, ap, subst, ◌∙◌, append_assoc, arith}
 use Rattle.std.proofs.lemmas.List.{length-map}
 use Rattle.st_model.specs.declared.branch.Branch.{Branch}
-use Rattle.st_model.specs.declared.split_at.SplitAt.TheVariants.{Vertex, Link}
 use Rattle.st_model.specs.Network.{Network}
 use Rattle.st_model.specs.Branch.{yes_half, no_half}
 use Rattle.log_format.specs.declared.kind.Kind.{Kind}
@@ -12,12 +11,11 @@ use Rattle.log_format.specs.Accepts.{IsFirstWrong}
 use Rattle.log_format.specs.Text.{lines_of, cut_line}
 use Rattle.log_format.proofs.Rejecting.{IsRight}
 use Rattle.cert_checker.specs.declared.turn.Turn.{Turn}
-use Rattle.cert_checker.specs.declared.turn.Turn.TheVariants.{Inside}
-use Rattle.cert_checker.specs.Path.{branch_of, waiting, next_path, path_after, AreSplits}
+use Rattle.cert_checker.specs.Path.{branch_of, waiting, open_branches, next_path, yes_path, path_after, AreSplits}
 use Rattle.cert_checker.specs.Judging.{IsRightLine, IsWrongLine}
 use Rattle.cert_checker.specs.Following.{AreRight, GoesOn}
 use Rattle.cert_checker.proofs.Judged.{splits-next_path, waiting_is}
-use Rattle.cert_checker.proofs.Paths.{opened, waiting-next_path}
+use Rattle.cert_checker.proofs.Paths.{opened, splits-yes_path, branch_of-yes_path, waiting-yes_path, waiting-next_path}
 
 -- lines that are right are so in the words of logs
 pub are_right : (I : Network) (x : ℕ) (Bs : List Branch) (lines : List ProofLine) → AreRight I x Bs lines → IsRight I x Bs lines
@@ -39,13 +37,14 @@ begins I x first path splits alone = record {
 pub goes_on : (I : Network) (x first : ℕ) (B : Branch) (lines : List ProofLine) (path next : List Turn) (number : ℕ) (line : ProofLine) → IsRightLine I x (branch_of path) line
     → path_after path line ≡ Some next → GoesOn I x first B lines path number
     → GoesOn I x first B (lines ++ line ∷ []) next (number + length (lines_of line))
-goes_on I x first B lines path next number (Split (Link _ _)) is_right e before = absurd is_right
-goes_on I x first B lines path next number (Split (Vertex v)) is_right e before =
-    let same : Inside v ∷ path ≡ next = cc in
-    subst (λ (p : List Turn). GoesOn I x first B (lines ++ Split (Vertex v) ∷ []) p (number + 1)) same (record {
-      splits = (is_right, before.splits);
-      right = λ rest right. subst (AreRight I x (B ∷ [])) (sym (append_assoc lines (Split (Vertex v) ∷ []) rest)) (before.right (Split (Vertex v) ∷ rest) (is_right, right));
-      wrong = λ rest line kind wrong. subst (λ (ls : List ProofLine). IsFirstWrong I x (B ∷ []) first ls line kind) (sym (append_assoc lines (Split (Vertex v) ∷ []) rest)) (before.wrong (Split (Vertex v) ∷ rest) line kind (inr (is_right, wrong)));
+goes_on I x first B lines path next number (Split at) is_right e before =
+    let same : yes_path path at ≡ next = cc in
+    let opens : open_branches (yes_path path at) ≡ yes_half (branch_of path) at ∷ no_half (branch_of path) at ∷ waiting path = λ i. branch_of-yes_path path at i ∷ waiting-yes_path path at i in
+    subst (λ (p : List Turn). GoesOn I x first B (lines ++ Split at ∷ []) p (number + 1)) same (record {
+      splits = splits-yes_path I path at is_right before.splits;
+      right = λ rest right. subst (AreRight I x (B ∷ [])) (sym (append_assoc lines (Split at ∷ []) rest)) (before.right (Split at ∷ rest) (is_right, subst (λ (Bs : List Branch). AreRight I x Bs rest) opens right));
+      wrong = λ rest line kind wrong. subst (λ (ls : List ProofLine). IsFirstWrong I x (B ∷ []) first ls line kind) (sym (append_assoc lines (Split at ∷ []) rest))
+          (before.wrong (Split at ∷ rest) line kind (inr (is_right, subst (λ (Bs : List Branch). IsFirstWrong I x Bs (number + 1) rest line kind) opens wrong)));
     })
 goes_on I x first B lines path next number (Close P) is_right e before =
     let open_next = waiting_is path next e in
@@ -65,8 +64,7 @@ none_waits_after path e = waiting-next_path path ∙ ap opened e
 pub ends : (I : Network) (x first : ℕ) (B : Branch) (lines : List ProofLine) (path : List Turn) (number : ℕ) (line : ProofLine) → IsRightLine I x (branch_of path) line
     → path_after path line ≡ None → GoesOn I x first B lines path number
     → AreRight I x (B ∷ []) (lines ++ line ∷ [])
-ends I x first B lines path number (Split (Vertex v)) is_right e before = absurd cc
-ends I x first B lines path number (Split (Link _ _)) is_right e before = absurd is_right
+ends I x first B lines path number (Split at) is_right e before = absurd cc
 ends I x first B lines path number (Close P) is_right e before =
     before.right (Close P ∷ []) (is_right, subst (λ (Bs : List Branch). AreRight I x Bs []) (sym (none_waits_after path e)) tt)
 

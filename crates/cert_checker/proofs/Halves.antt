@@ -3,7 +3,6 @@ use Rattle.std.proofs.Common.{◌≡◌, ℕ, zero, suc, ◌+◌, ◌-◌, ◌<�
 use Rattle.std.proofs.lemmas.List.{append-nil, length-map}
 use Rattle.st_model.specs.declared.branch.Branch.{Branch}
 use Rattle.st_model.specs.declared.split_at.SplitAt.{SplitAt}
-use Rattle.st_model.specs.declared.split_at.SplitAt.TheVariants.{Vertex, Link}
 use Rattle.st_model.specs.Network.{Network}
 use Rattle.cut_packing.specs.declared.cut.Cut.{Cut}
 use Rattle.log_format.specs.declared.fault.LogFault.{LogFault}
@@ -25,15 +24,15 @@ use Rattle.cert_checker.specs.declared.stage.Stage.{Stage}
 use Rattle.cert_checker.specs.declared.stage.Stage.TheVariants.{BeforeHalf, AmongCuts, Right, Wrong}
 use Rattle.cert_checker.specs.declared.stage.Proving.{Proving}
 use Rattle.cert_checker.specs.declared.turn.Turn.{Turn}
-use Rattle.cert_checker.specs.declared.turn.Turn.TheVariants.{Inside}
 use Rattle.cert_checker.specs.Judging.{IsWrongLine}
-use Rattle.cert_checker.specs.Path.{branch_of, waiting}
+use Rattle.cert_checker.specs.Path.{branch_of, waiting, yes_path}
 use Rattle.cert_checker.specs.Following.{Said, AreRight, GoesOn, IsProving, IsJudged, IsNext, IsAfterLine, IsAfterCuts}
 use Rattle.cert_checker.specs.Verdict.{verdict_of}
 use Rattle.cert_checker.proofs.GoingOn.{are_right, goes_on, ends, goes_wrong, none_waits_after}
 use Rattle.cert_checker.proofs.Judged.{waiting_is}
 use Rattle.cert_checker.proofs.Judgements.{proof_rejects}
 use Rattle.cert_checker.proofs.Keeping.{right_at, proving_later}
+use Rattle.cert_checker.proofs.Paths.{waiting-yes_path}
 
 -- the claim of a proof with these lines
 abbrev claim_of : said_proving.Proving → List ProofLine → Claim
@@ -104,14 +103,13 @@ line_wrong I count p h line f claim more so_far wrong is =
 
 split_judged : (I : Network) (count later : ℕ) (p : said_proving.Proving) (h : Proving) (at : SplitAt) (next : Stage) → later < 2 ^ 63 + 2 → h.number ≤ later → IsProving I count p h
     → IsAfterLine h (Split at) next → IsJudged I later (split_at p at) next
-split_judged I count later p h (Link _ _) (BeforeHalf q) below room so_far is = absurd is.right
-split_judged I count later p h (Vertex v) (BeforeHalf q) below room so_far is =
-    let e : Some (Inside v ∷ h.path) ≡ Some q.path = is.next in
-    let same : Inside v ∷ h.path ≡ q.path = cc in
-    let wait : length (waiting q.path) ≡ p.waiting + 1 = omega (arith, ap (λ (path : List Turn). length (waiting path)) same, so_far.wait) in
-    inl (q, refl, line_next I count later p h q (Split (Vertex v)) (p.waiting + 1) so_far is below (omega (arith, room)) wait)
-split_judged I count later p h (Vertex v) (Right verdict) below room so_far is = let e = is.last in absurd cc
-split_judged I count later p h (Link _ _) (Right verdict) below room so_far is = absurd is.right
+split_judged I count later p h at (BeforeHalf q) below room so_far is =
+    let e : Some (yes_path h.path at) ≡ Some q.path = is.next in
+    let same : yes_path h.path at ≡ q.path = cc in
+    let more : length (waiting q.path) ≡ length (waiting h.path) + 1 = omega (arith, ap (λ (path : List Turn). length (waiting path)) same, ap (λ (Bs : List Branch). length Bs) (waiting-yes_path h.path at)) in
+    let wait : length (waiting q.path) ≡ p.waiting + 1 = omega (arith, more, so_far.wait) in
+    inl (q, refl, line_next I count later p h q (Split at) (p.waiting + 1) so_far is below (omega (arith, room)) wait)
+split_judged I count later p h at (Right verdict) below room so_far is = let e = is.last in absurd cc
 split_judged I count later p h at (Wrong f) below room so_far wrong = inr (f, refl, λ claim (more, is). line_wrong I count p h (Split at) f claim more so_far wrong is)
 split_judged I count later p h at next below room so_far none = absurd none
 

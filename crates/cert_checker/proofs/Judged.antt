@@ -9,7 +9,7 @@ use Rattle.log_format.specs.declared.proof_line.ProofLine.TheVariants.{Close}
 use Rattle.cert_checker.specs.declared.fault.JudgeError.{JudgeError}
 use Rattle.cert_checker.specs.declared.fault.JudgeError.TheVariants.{Fault}
 use Rattle.cert_checker.specs.declared.turn.Turn.{Turn}
-use Rattle.cert_checker.specs.declared.turn.Turn.TheVariants.{Inside, Outside}
+use Rattle.cert_checker.specs.declared.turn.Turn.TheVariants.{Inside, Outside, Used, Barred}
 use Rattle.cert_checker.specs.Path.{waiting, open_branches, next_path, AreSplits}
 use Rattle.cert_checker.specs.Judging.{IfFault, IsWrongLine}
 use Rattle.cert_checker.proofs.Paths.{opened, waiting-next_path}
@@ -19,6 +19,8 @@ pub splits-next_path : (I : Network) (path next : List Turn) → next_path path 
 splits-next_path I [] next e splits = absurd cc
 splits-next_path I (Inside v ∷ path) next e splits = let same : Outside v ∷ path ≡ next = cc in subst (AreSplits I) same splits
 splits-next_path I (Outside v ∷ path) next e splits = splits-next_path I path next e splits.1
+splits-next_path I (Used a b a_came b_came ∷ path) next e splits = let same : Barred a b ∷ path ≡ next = cc in subst (AreSplits I) same ((splits.0.0, tt), splits.1)
+splits-next_path I (Barred a b ∷ path) next e splits = splits-next_path I path next e splits.1
 
 -- what waits is what is open on the next path
 pub waiting_is : (path next : List Turn) → next_path path ≡ Some next → waiting path ≡ open_branches next

@@ -52,7 +52,7 @@ one_more I front v free below leads =
     record {
       leads = ap branch_of path ∙ (ap (λ (B : Branch). with_outside B v) leads.leads ∙ ap avoiding (with_vertex-last front v below));
       alone = ap waiting path ∙ leads.alone;
-      splits = subst (AreSplits I) (sym path) (record { vertex = free.0; undecided = subst (λ (B : Branch). IsTrue (is_undecided B v)) (sym leads.leads) undecided; free = free.1 }, leads.splits);
+      splits = subst (AreSplits I) (sym path) ((record { vertex = free.0; undecided = subst (λ (B : Branch). IsTrue (is_undecided B v)) (sym leads.leads) undecided; free = free.1 }, tt), leads.splits);
     }
 
 -- those before one are below each later one, too

@@ -11,6 +11,7 @@ use Rattle.log_format.specs.declared.item.Item.TheVariants.{Header, ClaimTree, C
 use Rattle.log_format.specs.declared.kind.Kind.{Kind}
 use Rattle.log_format.specs.declared.log.Claim.{Claim}
 use Rattle.log_format.specs.declared.log.Claim.TheVariants.{Found, NoTree}
+use Rattle.log_format.specs.declared.log.Version.{Version}
 use Rattle.log_format.specs.declared.proof_line.ProofLine.{ProofLine}
 use Rattle.log_format.specs.declared.stage.Answer.{Answer}
 use Rattle.log_format.specs.declared.stage.Stage.TheVariants.{AtHeader, AtClaim, AtTree, AtArcs, AtSteps, AtWall}
@@ -32,9 +33,9 @@ use Rattle.cert_checker.proofs.LeftOut.{none_waits, left_out_splits, leads_to_le
 
 -- ---- before the tree
 
-pub header_next : (I : Network) (count : ℕ) (s : Said) → IsJudged I count s BeforeHeader → IsJudged I (count + 1) (taken s Header) BeforeClaim
-header_next I count AtHeader judged = inl (refl, omega arith)
-header_next I count s judged = let at = right_at I count s BeforeHeader (omega arith) judged in absurd (omega (arith, at.1))
+pub header_next : (I : Network) (count : ℕ) (version : Version) (s : Said) → IsJudged I count s BeforeHeader → IsJudged I (count + 1) (taken s (Header version)) BeforeClaim
+header_next I count version AtHeader judged = inl (refl, omega arith)
+header_next I count version s judged = let at = right_at I count s BeforeHeader (omega arith) judged in absurd (omega (arith, at.1))
 
 pub claim_next : (I : Network) (count primal dual : ℕ) (s : Said) → IsJudged I count s BeforeClaim → IsJudged I (count + 1) (taken s (ClaimTree primal dual)) (BeforeTree primal dual)
 claim_next I count primal dual AtClaim judged = let at = right_at I count AtClaim BeforeClaim (omega arith) judged in inl (refl, omega (arith, at.0.1))

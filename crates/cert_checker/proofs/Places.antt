@@ -1,11 +1,13 @@
 -- A vertex put into its place in a list, and taken out of it again.
-use Rattle.std.proofs.Common.{◌≡◌, ℕ, ◌+◌, ◌≤◌, Bool, true, false, cond, List, [], ◌∷◌, length, refl, ap, arith, one-add}
+use Rattle.std.proofs.Common.{◌≡◌, ℕ, ◌+◌, ◌-◌, ◌≤◌, Bool, true, false, cond, not, List, [], ◌∷◌, ◌++◌, length, take, refl, ap, ◌∙◌, arith, one-add, length-append}
+use Rattle.std.proofs.Math.Seq.{take-append_seam}
 use Rattle.std.specs.Prelude.{nat_lt}
 use Rattle.std.specs.List.{insert, remove}
 use Rattle.std.proofs.lemmas.Grind.{common_steps}
 use Rattle.std.proofs.lemmas.Bool.Decides.{nat_tests}
-use Rattle.st_model.specs.Branch.{with_vertex}
-use Rattle.cert_checker.specs.Path.{place_of, without}
+use Rattle.st_model.specs.Branch.{joined, with_vertex}
+use Rattle.st_model.specs.Lists.{has}
+use Rattle.cert_checker.specs.Path.{place_of, without, without_new, without_last}
 
 -- the list with a vertex is what inserting makes
 pub with_vertex-insert : (xs : List ℕ) (v : ℕ) → with_vertex xs v ≡ insert xs (place_of xs v) v
@@ -38,6 +40,21 @@ without-with_vertex (x ∷ xs) v = at (nat_lt x v) refl (nat_lt v v) refl (witho
     at true e c f before = rw e (ap (λ (r : List ℕ). x ∷ r) before)
     at false e true f before = absurd (grind (arith, nat_tests, f))
     at false e false f before = rw f refl
+
+-- and so is what was put in once, where it was new
+pub without_new-joined : (xs : List ℕ) (v : ℕ) (came : Bool) → came ≡ not (has xs v) → without_new (joined xs v) v came ≡ xs
+without_new-joined xs v came told = rw told (at (has xs v))
+  where
+    at : (b : Bool) → without_new (cond b xs (with_vertex xs v)) v (not b) ≡ xs
+    at true = refl
+    at false = without-with_vertex xs v
+
+-- a pair put at the end is taken off
+pub without_last-push : (ps : List (ℕ × ℕ)) (p : ℕ × ℕ) → without_last (ps ++ p ∷ []) ≡ ps
+without_last-push ps p = ap (λ n. take n (ps ++ p ∷ [])) count ∙ take-append_seam ps (p ∷ [])
+  where
+    count : length (ps ++ p ∷ []) - 1 ≡ length ps
+    count = omega (arith, length-append ps (p ∷ []))
 
 -- nothing stands past the end
 pub remove_past : (xs : List ℕ) (i : ℕ) → length xs ≤ i → remove xs i ≡ xs

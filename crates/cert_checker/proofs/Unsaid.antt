@@ -5,6 +5,7 @@ use Rattle.st_model.specs.Network.{Network}
 use Rattle.cut_packing.specs.declared.cut.Cut.{Cut}
 use Rattle.lift_back.specs.declared.step.Step.{Step}
 use Rattle.log_format.specs.declared.item.Item.TheVariants.{Header, ClaimTree, ClaimNone, Wall, TreeHead, Arc, StepsHead, OneStep, ProofHead, Split as OneSplit, CloseHead, OneCut, Last}
+use Rattle.log_format.specs.declared.log.Version.{Version}
 use Rattle.log_format.specs.declared.stage.Stage.TheVariants.{AtHeader, AtClaim, AtTree, AtArcs, AtSteps, AtHalf, AtCuts, AtWall, AtEnd}
 use Rattle.log_format.specs.Places.{taken}
 use Rattle.cert_checker.specs.declared.stage.Stage.{Stage}
@@ -15,10 +16,10 @@ use Rattle.cert_checker.specs.Following.{Said, IsJudged}
 use Rattle.cert_checker.proofs.Keeping.{wrong_later, right_later}
 
 module _ (I : Network) (count : ℕ) (stage : Stage) where
-  pub no_header : ¬ (stage ≡ BeforeHeader) → (s : Said) → IsJudged I count s stage → IsJudged I (count + 1) (taken s Header) stage
-  no_header not AtHeader (inl is) = absurd (not is)
-  no_header not s (inl right) = inl (right_later I count s stage right)
-  no_header not s (inr wrong) = inr (wrong_later I s Header stage wrong)
+  pub no_header : ¬ (stage ≡ BeforeHeader) → (version : Version) (s : Said) → IsJudged I count s stage → IsJudged I (count + 1) (taken s (Header version)) stage
+  no_header not version AtHeader (inl is) = absurd (not is)
+  no_header not version s (inl right) = inl (right_later I count s stage right)
+  no_header not version s (inr wrong) = inr (wrong_later I s (Header version) stage wrong)
 
   pub no_claim : ¬ (stage ≡ BeforeClaim) → (primal dual : ℕ) (s : Said) → IsJudged I count s stage → IsJudged I (count + 1) (taken s (ClaimTree primal dual)) stage
   no_claim not primal dual AtClaim (inl right) = absurd (not right.0)

@@ -1,5 +1,6 @@
 ghost use Rattle.std.specs.Prelude.{ℕ, IfOk};
 ghost use Rattle.st_model.specs.Network.{Network};
+ghost use Rattle.log_format.specs.declared.log.Version.{Version};
 ghost use Rattle.log_format.specs.declared.item.Item.TheVariants.{ClaimTree, ClaimNone, Wall, TreeHead, Arc, StepsHead, OneStep, ProofHead};
 ghost use Rattle.cert_checker.specs.Following.{Follows, IsAfterStep, IsAfterTree, IsReady};
 
@@ -15,7 +16,7 @@ use std::alloc::{AllocError, Global};
 
 // After the header.
 fn after_header(stage: Stage) -> Stage
-    ensures { (I : Network) → Follows I Item.Header stage result }
+    ensures { (I : Network) (version : Version) → Follows I (Item.Header version) stage result }
 {
     match stage {
         Stage::BeforeHeader => Stage::BeforeClaim,
@@ -196,7 +197,7 @@ pub fn after_item(
     ensures { IfOk result (Follows instance.now item stage) }
 {
     match item {
-        Item::Header => Ok(after_header(stage)),
+        Item::Header(_) => Ok(after_header(stage)),
         Item::ClaimTree { primal, dual } => Ok(after_claim(stage, primal, dual)),
         Item::ClaimNone => Ok(after_none(stage)),
         Item::Wall(wall) => after_wall(alloc, instance, stage, &wall),

@@ -13,6 +13,7 @@ mod following;
 mod hearing;
 mod judging;
 mod line;
+mod lists;
 mod path;
 mod proving;
 mod splits;

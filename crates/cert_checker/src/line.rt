@@ -1,11 +1,12 @@
-ghost use Rattle.std.specs.Prelude.{◌≡◌, ◌↔◌, ◌∷◌, length, IsTrue, IfOk, OnOk, IfErr};
+ghost use Rattle.std.specs.Prelude.{◌≡◌, ◌↔◌, ◌∷◌, length, Some, IsTrue, IfOk, OnOk, IfErr};
 ghost use Rattle.cut_packing.specs.Packing.{Fits};
-ghost use Rattle.cut_packing.specs.ProofTree.{IsSplit, IsSplitAt, Closes};
+ghost use Rattle.cut_packing.specs.ProofTree.{IsSplit, IsLinkSplit, IsSplitAt, Closes};
 ghost use Rattle.log_format.specs.Text.{lines_of};
 ghost use Rattle.cert_checker.specs.Path.{IsInOrder, branch_of, next_path, yes_path, path_after, AreSplits};
 ghost use Rattle.cert_checker.specs.Judging.{IfFault, IsRightLine, IsWrongLine};
 
 use crate::JudgeError;
+use crate::lists::{has_pair, holds};
 use crate::path::Path;
 use cut_packing::{Packing, fits, weight};
 use log_format::{Kind, ProofLine};
@@ -52,24 +53,24 @@ fn judge_split(
     at: SplitAt,
 ) -> Result<Option<Path>, JudgeError>
     ensures right { OnOk result (IsSplitAt instance.now (branch_of path) at) }
-    ensures next { IfOk result (λ next. next ≡ yes_path path at) }
+    ensures next { IfOk result (λ next. next ≡ Some (yes_path path at)) }
     ensures wrong { IfErr result (λ e. IfFault e
         (IsWrongLine instance.now 0 (branch_of path) number (ProofLine.Split at))) }
 {
     if !is_split_at(instance, path.branch(), at) {
         return Err(JudgeError::at(number, Kind::BadSplit));
     }
-    Ok(path.split(at)?)
+    Ok(Some(path.split(at)?))
 }
 
-// Whether a branch can be split here: at no link so far.
+// Whether a branch can be split here.
 fn is_split_at(instance: &Instance, branch: &Branch, at: SplitAt) -> bool
     requires { IsInOrder branch.now }
     ensures { IsTrue result ↔ IsSplitAt instance.now branch.now at }
 {
     match at {
         SplitAt::Vertex(vertex) => is_split(instance, branch, vertex),
-        SplitAt::Link(_, _) => false,
+        SplitAt::Link(low, high) => is_link_split(instance, branch, low, high),
     }
 }
 
@@ -82,6 +83,21 @@ fn is_split(instance: &Instance, branch: &Branch, vertex: u32) -> bool
         return false;
     }
     instance.need(vertex) != Need::Required && branch.is_undecided(vertex)
+}
+
+// Whether a branch can be split at the link between two vertices, the lower first.
+fn is_link_split(instance: &Instance, branch: &Branch, low: u32, high: u32) -> bool
+    requires { IsInOrder branch.now }
+    ensures { IsTrue result ↔ IsLinkSplit instance.now branch.now low high }
+{
+    if low >= high || instance.link_cost(low, high).is_none() {
+        return false;
+    }
+    let outside = branch.outside.as_slice();
+    if holds(outside, low) || holds(outside, high) {
+        return false;
+    }
+    !has_pair(branch.must.as_slice(), low, high) && !has_pair(branch.barred.as_slice(), low, high)
 }
 
 // Judges a close. Where it is right, the path to the next branch that waits.
@@ -99,6 +115,7 @@ fn judge_close(
     ensures wrong { IfErr result (λ e. IfFault e
         (IsWrongLine instance.now dual (branch_of path) number (ProofLine.Close packing.now))) }
 {
+    prove!(1 <= instance.vertices());
     if !fits_branch(alloc, instance, path.branch(), packing)? {
         return Err(JudgeError::at(number, Kind::BadPacking));
     }

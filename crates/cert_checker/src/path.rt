@@ -1,10 +1,10 @@
-ghost use Rattle.std.specs.Prelude.{◌≡◌, ◌≤◌, [], ◌∷◌, length, IfOk, MatchOption};
-ghost use Rattle.std.specs.List.Sorted.{IsNonDecreasing};
-ghost use Rattle.st_model.specs.Branch.{with_vertex};
-ghost use Rattle.cert_checker.specs.Path.{IsInOrder, branch_of, leaving_out, next_path, yes_path, turned, turned_back, place_of, without};
+ghost use Rattle.std.specs.Prelude.{◌≡◌, [], ◌∷◌, IfOk, MatchOption};
+ghost use Rattle.st_model.specs.Lists.{has};
+ghost use Rattle.cert_checker.specs.Path.{IsInOrder, TellEnds, branch_of, leaving_out, next_path, yes_path, turned, turned_back};
 
+use crate::lists::{holds, joined, with, with_last, without, without_last, without_new};
 use crate::turn::Turn;
-use st_model::{Branch, Listed, SplitAt};
+use st_model::{Branch, SplitAt};
 use std::alloc::{AllocError, Global};
 use std::marker::Model;
 
@@ -71,18 +71,35 @@ impl Path {
         })
     }
 
-    // The path to the half of its branch that says yes to a split, which is at a vertex.
-    pub fn split(self, at: SplitAt) -> Result<Option<Self>, AllocError>
+    // The path to the half of its branch that says yes to a split.
+    pub fn split(self, at: SplitAt) -> Result<Self, AllocError>
         ensures { IfOk result (λ next. next ≡ yes_path self at) }
     {
         match at {
-            SplitAt::Vertex(vertex) => Ok(Some(self.push(Turn::Inside(vertex))?)),
-            SplitAt::Link(_, _) => Ok(None),
+            SplitAt::Vertex(vertex) => self.push(Turn::Inside(vertex)),
+            SplitAt::Link(low, high) => {
+                let low_came = !self.is_inside(low);
+                let high_came = !self.is_inside(high);
+                self.push(Turn::Used {
+                    low,
+                    high,
+                    low_came,
+                    high_came,
+                })
+            }
         }
+    }
+
+    // Whether a vertex is inside in the branch that the path leads to.
+    fn is_inside(&self, vertex: u32) -> bool
+        ensures { result ≡ has (branch_of self.now).inside vertex }
+    {
+        holds(self.branch.inside.as_slice(), vertex)
     }
 
     // The last turn, and the path before it.
     fn pop(self) -> Option<(Turn, Self)>
+        requires { TellEnds self }
         ensures { MatchOption result (self ≡ []) (λ last. self ≡ last.0 ∷ last.1) }
     {
         let mut turns = self.turns;
@@ -93,13 +110,18 @@ impl Path {
 
     // The path to the next branch that waits, where the one at its end is done with.
     pub fn close(self) -> Result<Option<Self>, AllocError>
+        requires { TellEnds self }
         ensures { IfOk result (λ next. next ≡ next_path self) }
     {
         let mut path = self;
         while let Some((turn, before)) = path.pop() {
             path = before;
-            if let Turn::Inside(vertex) = turn {
-                return Ok(Some(path.push(Turn::Outside(vertex))?));
+            match turn {
+                Turn::Inside(vertex) => return Ok(Some(path.push(Turn::Outside(vertex))?)),
+                Turn::Used { low, high, .. } => {
+                    return Ok(Some(path.push(Turn::Barred(low, high))?));
+                }
+                Turn::Outside(_) | Turn::Barred(_, _) => {}
             }
         }
         Ok(None)
@@ -111,10 +133,25 @@ fn turned(branch: Branch, turn: Turn) -> Result<Branch, AllocError>
     requires { IsInOrder branch }
     ensures { IfOk result (λ half. half ≡ turned branch turn) }
 {
-    match turn {
-        Turn::Inside(vertex) => Ok(Branch::of(with(branch.inside, vertex)?, branch.outside)),
-        Turn::Outside(vertex) => Ok(Branch::of(branch.inside, with(branch.outside, vertex)?)),
-    }
+    Ok(match turn {
+        Turn::Inside(vertex) => Branch {
+            inside: with(branch.inside, vertex)?,
+            ..branch
+        },
+        Turn::Outside(vertex) => Branch {
+            outside: with(branch.outside, vertex)?,
+            ..branch
+        },
+        Turn::Used { low, high, .. } => Branch {
+            inside: joined(joined(branch.inside, low)?, high)?,
+            must: with_last(branch.must, (low, high))?,
+            ..branch
+        },
+        Turn::Barred(low, high) => Branch {
+            barred: with_last(branch.barred, (low, high))?,
+            ..branch
+        },
+    })
 }
 
 // The branch whose half a turn went into.
@@ -123,40 +160,27 @@ fn turned_back(branch: Branch, turn: Turn) -> Branch
     ensures { result ≡ turned_back branch turn }
 {
     match turn {
-        Turn::Inside(vertex) => Branch::of(without(branch.inside, vertex), branch.outside),
-        Turn::Outside(vertex) => Branch::of(branch.inside, without(branch.outside, vertex)),
+        Turn::Inside(vertex) => Branch {
+            inside: without(branch.inside, vertex),
+            ..branch
+        },
+        Turn::Outside(vertex) => Branch {
+            outside: without(branch.outside, vertex),
+            ..branch
+        },
+        Turn::Used {
+            low,
+            high,
+            low_came,
+            high_came,
+        } => Branch {
+            inside: without_new(without_new(branch.inside, high, high_came), low, low_came),
+            must: without_last(branch.must),
+            ..branch
+        },
+        Turn::Barred(_, _) => Branch {
+            barred: without_last(branch.barred),
+            ..branch
+        },
     }
-}
-
-// How many vertices an ascending list has below one.
-fn place_of(vertices: &[u32], vertex: u32) -> usize
-    requires { IsNonDecreasing vertices.now }
-    ensures value { result ≡ place_of vertices.now vertex }
-    ensures in_range { result ≤ length vertices.now }
-{
-    vertices.partition_point(|other| *other < vertex)
-}
-
-// The list with a vertex in its place.
-fn with(list: Listed<u32>, vertex: u32) -> Result<Listed<u32>, AllocError>
-    requires { IsNonDecreasing list }
-    ensures { IfOk result (λ more. more ≡ with_vertex list vertex) }
-{
-    let mut vertices = list.into_vec();
-    let place = place_of(&vertices, vertex);
-    vertices.insert(place, vertex)?;
-    Ok(Listed::of(vertices))
-}
-
-// The list but for the vertex in this one's place.
-fn without(list: Listed<u32>, vertex: u32) -> Listed<u32>
-    requires { IsNonDecreasing list }
-    ensures { result ≡ without list vertex }
-{
-    let mut vertices = list.into_vec();
-    let place = place_of(&vertices, vertex);
-    if place < vertices.len() {
-        vertices.remove(place);
-    }
-    Listed::of(vertices)
 }

@@ -5,4 +5,14 @@ pub enum Turn {
     Inside(u32),
     /// The half with the vertex outside; the other one is done with.
     Outside(u32),
+    /// The half in which the link is a must, and whether each of its ends came inside by this turn;
+    /// the other one waits.
+    Used {
+        low: u32,
+        high: u32,
+        low_came: bool,
+        high_came: bool,
+    },
+    /// The half in which the link is barred; the other one is done with.
+    Barred(u32, u32),
 }

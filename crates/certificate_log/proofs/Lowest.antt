@@ -8,12 +8,17 @@ use Rattle.st_model.specs.declared.split_at.SplitAt.{SplitAt}
 use Rattle.st_model.specs.declared.split_at.SplitAt.TheVariants.{Vertex, Link}
 use Rattle.st_model.specs.declared.branch.Branch.{Branch}
 use Rattle.st_model.specs.Branch.{IsBranch, yes_half, no_half}
-use Rattle.st_model.specs.Network.{Network}
-use Rattle.st_model.proofs.Branches.{IsBranch-with_inside, IsBranch-with_outside}
+use Rattle.st_model.specs.Ground.{ground}
+use Rattle.st_model.specs.Network.{Network, IsInstance}
+use Rattle.st_model.proofs.Branches.{IsBranch-with_inside, IsBranch-with_outside, IsBranch-with_must, IsBranch-with_barred}
+use Rattle.st_model.proofs.ThinGrowth.{linked-vertices}
 use Rattle.cut_packing.specs.declared.packing.Packing.{Packing}
 use Rattle.cut_packing.specs.Packing.{weight}
 use Rattle.cut_packing.specs.ProofTree.{IsSplitAt, ProofTree}
 use Rattle.branching.specs.declared.node.Node.{Node}
+use Rattle.log_format.specs.declared.log.Version.TheVariants.{Two}
+use Rattle.log_format.specs.Text.{IsWritableSplit}
+use Rattle.log_format.proofs.Writable.{any_vertex}
 use Rattle.search_core.specs.declared.done.Done.{Done}
 use Rattle.search_core.specs.declared.done.Done.TheVariants.{Split, Close}
 use Rattle.search_core.specs.declared.gathered.Gathered.{Gathered}
@@ -24,6 +29,7 @@ use Rattle.search_core.proofs.Ids.{Among, among, one_branch}
 use Rattle.certificate_log.specs.Bound.{lowest_weight}
 use Rattle.certificate_log.specs.Standing.{StandsOnce}
 use Rattle.certificate_log.proofs.Once.{reads_split, reads_waiting}
+use Rattle.certificate_log.proofs.Proved.{SplitsFit}
 
 -- ---- the least of some numbers
 
@@ -77,14 +83,23 @@ right_record I R start least done (s ∷ ss) d all there =
       | inr h ↦ right_record I R start least done ss d (All-tail (IsRightSegment I R start least done) s ss all) h
     ]
 
+-- a split of a branch can be written in version 2
+split_fits : (I : Network) (B : Branch) (at : SplitAt) → IsInstance I → IsSplitAt I B at → IsWritableSplit Two at
+split_fits I B (Vertex v) instance may = any_vertex I v instance may.vertex
+split_fits I B (Link a b) instance may =
+    let ends = linked-vertices I a b instance may.linked in
+    (refl, record { low = any_vertex I a instance ends.0; high = any_vertex I b instance ends.1; ordered = may.ordered })
+
 -- both halves of a branch are branches
-yes_branch : (I : Network) (B : Branch) (at : SplitAt) → IsSplitAt I B at → IsBranch I B → IsBranch I (yes_half B at)
-yes_branch I B (Vertex w) may branch = IsBranch-with_inside I B w may.vertex may.undecided branch
-yes_branch I B (Link a b) may branch = branch
+yes_branch : (I : Network) (B : Branch) (at : SplitAt) → IsInstance I → IsSplitAt I B at → IsBranch I B → IsBranch I (yes_half B at)
+yes_branch I B (Vertex w) instance may branch = IsBranch-with_inside (ground I) B w may.vertex may.undecided branch
+yes_branch I B (Link a b) instance may branch =
+    let ends = linked-vertices I a b instance may.linked in
+    IsBranch-with_must (ground I) B a b ends.0 ends.1 may.ordered may.linked may.low may.high may.no_must may.unbarred branch
 
 no_branch : (I : Network) (B : Branch) (at : SplitAt) → IsSplitAt I B at → IsBranch I B → IsBranch I (no_half B at)
-no_branch I B (Vertex w) may branch = IsBranch-with_outside I B w may.vertex may.undecided branch
-no_branch I B (Link a b) may branch = branch
+no_branch I B (Vertex w) may branch = IsBranch-with_outside (ground I) B w may.vertex may.undecided branch
+no_branch I B (Link a b) may branch = IsBranch-with_barred (ground I) B a b may.ordered may.linked may.no_must may.unbarred branch
 
 module _ (G : Gathered) (I : Network) (R : Branch) (start budget : ℕ) (complete : IsComplete G I R start budget) where
   pub once : StandsOnce G
@@ -96,15 +111,21 @@ module _ (G : Gathered) (I : Network) (R : Branch) (start budget : ℕ) (complet
       let (seen, low, (C, right)) = right_record I R start G.least (records G) G.segments (Split id at i o P) complete.segments there in
       subst (λ (D : Branch). IsSplitAt I D at) (one_branch R (records G) complete.apart id id C B right.made made refl) right.vertex
 
+  -- and each split can be written in version 2
+  pub splits_fit : IsInstance I → SplitsFit G
+  splits_fit instance id at i o P there =
+      let (seen, low, (C, right)) = right_record I R start G.least (records G) G.segments (Split id at i o P) complete.segments there in
+      split_fits I C at instance right.vertex
+
   -- what was made is a branch
-  made_branch : IsBranch I R → (id : ℕ) (B : Branch) → IsMade R (records G) id B → IsBranch I B
-  made_branch branch id B root = branch
-  made_branch branch id B (inside_of {id = a} {at} {i} {o} {P} {B = C} there made) = yes_branch I C at (splits a at i o P C there made) (made_branch branch a C made)
-  made_branch branch id B (outside_of {id = a} {at} {i} {o} {P} {B = C} there made) = no_branch I C at (splits a at i o P C there made) (made_branch branch a C made)
+  made_branch : IsInstance I → IsBranch I R → (id : ℕ) (B : Branch) → IsMade R (records G) id B → IsBranch I B
+  made_branch instance branch id B root = branch
+  made_branch instance branch id B (inside_of {id = a} {at} {i} {o} {P} {B = C} there made) = yes_branch I C at instance (splits a at i o P C there made) (made_branch instance branch a C made)
+  made_branch instance branch id B (outside_of {id = a} {at} {i} {o} {P} {B = C} there made) = no_branch I C at (splits a at i o P C there made) (made_branch instance branch a C made)
 
   -- and so is that of each node that waits
-  pub waiting_branches : IsBranch I R → All (λ (N : Node). IsBranch I N.branch) (waiting G)
-  waiting_branches branch = All-weaker (IsRightNode I R (records G)) (λ (N : Node). IsBranch I N.branch) (λ N right. made_branch branch N.id N.branch right.made) (waiting G) complete.waiting
+  pub waiting_branches : IsInstance I → IsBranch I R → All (λ (N : Node). IsBranch I N.branch) (waiting G)
+  waiting_branches instance branch = All-weaker (IsRightNode I R (records G)) (λ (N : Node). IsBranch I N.branch) (λ N right. made_branch instance branch N.id N.branch right.made) (waiting G) complete.waiting
 
   module _ (p : ProofTree) (read : IsReadOff G 0 p) where
     -- the tree under an id is a part of the whole, and weighs no less

@@ -1,25 +1,25 @@
 -- The lines of a proof are those of one proof tree, and what it proves is at most the least weight of its closes. The lines of what can be written can be written.
 use Rattle.std.proofs.Common.{◌≡◌, ℕ, ◌≤◌, List, [], ◌++◌, sym, ap, ◌∙◌, append_assoc, arith}
-use Rattle.std.specs.Prelude.{All}
+use Rattle.std.specs.Prelude.{All, Contains}
 use Rattle.std.proofs.lemmas.List.{append-nil}
 use Rattle.std.proofs.lemmas.List.Elements.{All-append, All-cons, All-contains, All-nil}
 use Rattle.st_model.specs.declared.split_at.SplitAt.{SplitAt}
-use Rattle.st_model.specs.declared.split_at.SplitAt.TheVariants.{Vertex, Link}
 use Rattle.st_model.specs.declared.branch.Branch.{Branch}
-use Rattle.st_model.specs.Network.{Network, IsInstance}
+use Rattle.st_model.specs.Network.{Network}
 use Rattle.st_model.specs.Branch.{yes_half, no_half}
-use Rattle.cut_packing.specs.ProofTree.{ProofTree, Proves, close, split, IsSplitAt}
+use Rattle.cut_packing.specs.ProofTree.{ProofTree, Proves, close, split}
+use Rattle.cut_packing.specs.declared.packing.Packing.{Packing}
 use Rattle.branching.specs.declared.node.Node.{Node}
+use Rattle.log_format.specs.declared.log.Version.TheVariants.{Two}
 use Rattle.log_format.specs.declared.proof_line.ProofLine.{ProofLine}
 use Rattle.log_format.specs.declared.proof_line.ProofLine.TheVariants as line
 use Rattle.log_format.specs.Preorder.{preorder}
-use Rattle.log_format.specs.Text.{IsWritableLine, IsWritablePacking}
+use Rattle.log_format.specs.Text.{IsWritableLine, IsWritablePacking, IsWritableSplit}
 use Rattle.search_core.specs.declared.done.Done.{Done}
-use Rattle.search_core.specs.declared.done.Done.TheVariants.{Close}
+use Rattle.search_core.specs.declared.done.Done.TheVariants.{Split, Close}
 use Rattle.search_core.specs.declared.gathered.Gathered.{Gathered}
 use Rattle.search_core.specs.Complete.{AllPackings, done_packing, records, waiting}
 use Rattle.search_core.specs.ReadOff.{IsReadOff, closed, waits, was_split, least_weight}
-use Rattle.log_format.proofs.Writable.{any_vertex}
 
 -- where lines begin with a proof tree, they begin with no other, and the same lines follow
 one_in_front : (p q : ProofTree) (r s : List ProofLine) → preorder p ++ r ≡ preorder q ++ s → (p ≡ q) × (r ≡ s)
@@ -44,20 +44,19 @@ proved_below I B x (split at inside outside) proves =
     let outer = proved_below I (no_half B at) x outside proves.2 in
     omega (arith, inner, outer)
 
--- a split of a branch can be written
-split_fits : (I : Network) (B : Branch) (at : SplitAt) → IsInstance I → IsSplitAt I B at → IsWritableLine (line.Split at)
-split_fits I B (Vertex v) instance may = any_vertex I v instance may.vertex
-split_fits I B (Link a b) instance may = absurd may
+-- each split that was recorded can be written in version 2
+abbrev pub SplitsFit : Gathered → Type 0
+SplitsFit G = (id : ℕ) (at : SplitAt) (i o : ℕ) (P : Packing) → Contains (records G) (Split id at i o P) → IsWritableSplit Two at
 
 -- the lines of a tree that is read off what can be written can be written
-pub lines_fit : (G : Gathered) (I : Network) (id : ℕ) (B : Branch) (x : ℕ) (p : ProofTree) → AllPackings IsWritablePacking G → IsInstance I → IsReadOff G id p → Proves I B x p → All IsWritableLine (preorder p)
-lines_fit G I id B x p writable instance (closed {id = a} {P} there) proves =
+pub lines_fit : (G : Gathered) (id : ℕ) (p : ProofTree) → AllPackings IsWritablePacking G → SplitsFit G → IsReadOff G id p → All (IsWritableLine Two) (preorder p)
+lines_fit G id p writable splits (closed {id = a} {P} there) =
     let packing : IsWritablePacking P = All-contains (λ (d : Done). IsWritablePacking (done_packing d)) (records G) (Close a P) writable.0 there in
-    All-cons IsWritableLine (line.Close P) [] packing (All-nil IsWritableLine)
-lines_fit G I id B x p writable instance (waits {N} there) proves =
+    All-cons (IsWritableLine Two) (line.Close P) [] packing (All-nil (IsWritableLine Two))
+lines_fit G id p writable splits (waits {N} there) =
     let packing : IsWritablePacking N.packing = All-contains (λ (M : Node). IsWritablePacking M.packing) (waiting G) N writable.1 there in
-    All-cons IsWritableLine (line.Close N.packing) [] packing (All-nil IsWritableLine)
-lines_fit G I id B x p writable instance (was_split {id = a} {at} {i} {o} {P} {inside} {outside} there first second) proves =
-    let inner = lines_fit G I i (yes_half B at) x inside writable instance first proves.1 in
-    let outer = lines_fit G I o (no_half B at) x outside writable instance second proves.2 in
-    All-cons IsWritableLine (line.Split at) (preorder inside ++ preorder outside) (split_fits I B at instance proves.0) (All-append IsWritableLine (preorder inside) (preorder outside) inner outer)
+    All-cons (IsWritableLine Two) (line.Close N.packing) [] packing (All-nil (IsWritableLine Two))
+lines_fit G id p writable splits (was_split {id = a} {at} {i} {o} {P} {inside} {outside} there first second) =
+    let inner = lines_fit G i inside writable splits first in
+    let outer = lines_fit G o outside writable splits second in
+    All-cons (IsWritableLine Two) (line.Split at) (preorder inside ++ preorder outside) (splits a at i o P there) (All-append (IsWritableLine Two) (preorder inside) (preorder outside) inner outer)

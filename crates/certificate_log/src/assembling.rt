@@ -11,15 +11,18 @@ ghost use Rattle.certificate_log.specs.Assembled.{IsAssembled};
 use crate::bound::bound_of;
 use crate::lines::proof_lines;
 use lift_back::{Reduced, Step};
-use log_format::{Claim, Log, Proof};
-use search_core::{Gathered, complete_counts, complete_is_few, complete_is_proof};
+use log_format::{Claim, Log, Proof, Version};
+use search_core::{
+    Gathered, complete_counts, complete_is_few, complete_is_few_with_links, complete_is_proof,
+};
 use st_model::{Listed, Tree};
 use std::alloc::{AllocError, Global};
 
-/// The log that certifies a search over what steps left of an instance: it claims the tree that was
-/// found, led back, and the greatest bound up to its cost that the proof tree shows which is read
-/// off what was gathered. It is accepted of the first instance. Takes time linear in what was
-/// gathered, the steps and the instance.
+/// The log of version 2 that certifies a search over what steps left of an instance: it claims the
+/// tree that was found, led back, and the greatest bound up to its cost that the proof tree shows
+/// which is read off what was gathered. It is accepted of the first instance. Takes time linear in
+/// what was gathered, the steps and the instance and, for each link that is a must of a node that
+/// waits, in the sizes of all sets of its cuts.
 pub fn assemble(
     alloc: Global,
     steps: Vec<Step>,
@@ -40,6 +43,7 @@ pub fn assemble(
     complete_is_proof();
     complete_counts();
     complete_is_few();
+    complete_is_few_with_links();
     prove!(steps.len() <= usize::MAX);
     let rest = reduced.instance(alloc)?;
     let offset = reduced.offset();
@@ -51,6 +55,7 @@ pub fn assemble(
     let dual = bound_of(&rest, gathered) + offset;
     let tree = reduced.lift(alloc, tree)?;
     Ok(Log {
+        version: Version::Two,
         claim: Claim::Found {
             primal,
             dual,

@@ -8,8 +8,9 @@ use cut_packing::weight;
 use search_core::Gathered;
 use st_model::Instance;
 
-/// The least of the least value and of what the nodes that wait weigh, in time linear in their
-/// branches and cuts.
+/// The least of the least value and of what the nodes that wait weigh. Takes time linear in their
+/// branches and cuts and, for each link that is a must of a node, in the sizes of all sets of its
+/// cuts.
 pub fn bound_of(instance: &Instance, gathered: &Gathered) -> u64
     requires { All (λ N. IsBranch instance.now N.branch) (waiting gathered.now) }
     ensures { result ≡ lowest_weight instance.now gathered.now.least (waiting gathered.now) }

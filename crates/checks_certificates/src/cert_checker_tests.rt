@@ -8,6 +8,7 @@ use stp_reader::{Reason, StpFault};
 mod decimals;
 mod drawn;
 mod hostile;
+mod links;
 mod pieces;
 mod plain;
 mod steps;

@@ -91,6 +91,33 @@ fn leaves_an_outside_vertex_without_arcs(rt: HostRuntime) -> Result<(), Fail> {
     Ok(())
 }
 
+// The triangle's arcs, where the link between 2 and the centre is barred.
+fn triangle_with_barred(alloc: Global) -> Result<Arcs, AllocError>
+    ensures { IfOk result (λ arcs. arcs.n ≡ 4) }
+{
+    let store = store_of_triangle(alloc)?;
+    let sides = Sides::of(alloc, Branch::all(alloc).with_barred(alloc, 2, 4)?)?;
+    Arcs::of(alloc, &store, &sides, 1)
+}
+
+// Whether no arc joins 2 and 4, and all others are there.
+fn is_without_spoke(arcs: &Arcs) -> bool
+    requires { arcs.now.n ≡ 4 }
+{
+    arcs.arcs_into(2) == [arc(1, 4), arc(3, 4)].as_slice()
+        && arcs.arcs_into(4) == [arc(1, 2), arc(3, 2)].as_slice()
+        && arcs.neighbours(1) == [2, 3, 4].as_slice()
+        && arcs.neighbours(3) == [1, 2, 4].as_slice()
+        && arcs.remaining(2, 4) == None
+        && arcs.remaining(4, 2) == None
+}
+
+#[test]
+fn leaves_a_barred_link_without_arcs(rt: HostRuntime) -> Result<(), Fail> {
+    assert!(rt; is_without_spoke(&triangle_with_barred(rt.alloc())?));
+    Ok(())
+}
+
 // What remains of an arc is this at least.
 fn bears(arcs: &Arcs, arc: (u32, u32), y: u64) -> bool
     ensures { IsTrue result ↔ (y ≤ unwrap_or (remaining arcs.now arc.0 arc.1) 0) }

@@ -29,10 +29,11 @@ const PLAIN: SolveWords<'static> = SolveWords {
     nodes: 1_000_000,
     log_name: None,
     plain: false,
+    links: false,
 };
 
 // Lines that mean to solve a file.
-const SOLVED: [(&str, SolveWords<'static>); 6] = [
+const SOLVED: [(&str, SolveWords<'static>); 8] = [
     ("solve a.stp", PLAIN),
     (
         "solve --workers 64 a.stp",
@@ -54,6 +55,22 @@ const SOLVED: [(&str, SolveWords<'static>); 6] = [
         "solve --plain a.stp",
         SolveWords {
             plain: true,
+            ..PLAIN
+        },
+    ),
+    (
+        "solve a.stp --links",
+        SolveWords {
+            links: true,
+            ..PLAIN
+        },
+    ),
+    (
+        "solve --links --plain a.stp --nodes 3",
+        SolveWords {
+            nodes: 3,
+            plain: true,
+            links: true,
             ..PLAIN
         },
     ),
@@ -91,7 +108,7 @@ const TRIED: [(&str, [u32; 4], u32); 4] = [
 ];
 
 // Lines that mean no command.
-const REFUSED: [&str; 48] = [
+const REFUSED: [&str; 54] = [
     "",
     "solve",
     "solve a.stp b.stp",
@@ -103,6 +120,9 @@ const REFUSED: [&str; 48] = [
     "solve a.stp --nodes -1",
     "solve a.stp --nodes",
     "solve a.stp --plain --plain",
+    "solve a.stp --links --links",
+    "solve a.stp --links=1",
+    "solve a.stp --links 1",
     "solve a.stp --nodes 1 --nodes 1",
     "solve -a.stp",
     "solve -- -a.stp",
@@ -126,16 +146,19 @@ const REFUSED: [&str; 48] = [
     "gen 1 3 3 4",
     "gen 1 3 3 2 --prizes --prizes",
     "gen 1 3 3 2 --workers 2",
+    "gen 1 3 3 2 --links",
     "trial 1 3 3",
     "trial 1 3 1 2",
     "trial 1 3 3 4",
     "trial 1 3 3 2 --prizes",
+    "trial 1 3 3 2 --links",
     "trial 1 3 3 2 --workers 0",
     "trial 1 3 3 2 --workers 65",
     "trial 1 3 3 2 --workers 2 --workers 2",
     "few",
     "few a.stp b.stp",
     "few a.stp --nodes 1",
+    "few a.stp --links",
     "few -a.stp",
     "verify a.stp",
     "verify a.stp b.sol c.sol",

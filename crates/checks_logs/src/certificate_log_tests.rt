@@ -1,20 +1,35 @@
-ghost use Rattle.std.specs.Prelude.{◌≡◌, IfOk};
+ghost use Rattle.std.specs.Prelude.{◌≡◌, ℕ, IfOk};
 ghost use Rattle.st_model.specs.Arborescence.{IsTree, cost};
 ghost use Rattle.st_model.specs.Branch.{all_trees};
 ghost use Rattle.st_model.specs.Network.{IsInstance};
+ghost use Rattle.log_format.specs.Text.{IsLog, IsWritablePacking};
+ghost use Rattle.search_core.specs.Complete.{AllPackings, IsComplete};
 ghost use Rattle.search_core.specs.State.{root_of};
+ghost use Rattle.checks_logs.specs.Halved.{no_cut};
 ghost use Rattle.checks_logs.specs.Waiting.{waiting_root};
 
 use branching::Node;
 use certificate_log::assemble;
 use cut_packing::Packing;
 use lift_back::Reduced;
-use log_format::{Claim, Log};
+use log_format::{Claim, Log, Version};
 use search_core::Gathered;
 use st_model::{Branch, Instance, Listed, Tree, is_tree, tree_cost};
 use std::alloc::{AllocError, Global};
 use std::test::Fail;
 use test_instances::triangle_with_centre;
+
+mod links;
+
+// A packing without cuts.
+fn no_cut(alloc: Global) -> Packing
+    ensures { result ≡ no_cut }
+{
+    Packing {
+        root: None,
+        cuts: Listed::of(Vec::new(alloc)),
+    }
+}
 
 // The node of all trees, with no cut.
 fn root(alloc: Global) -> Node
@@ -23,10 +38,7 @@ fn root(alloc: Global) -> Node
     Node {
         id: 0,
         branch: Branch::all(alloc),
-        packing: Packing {
-            root: None,
-            cuts: Listed::of(Vec::new(alloc)),
-        },
+        packing: no_cut(alloc),
     }
 }
 
@@ -42,19 +54,30 @@ fn unsearched(alloc: Global, least: u64) -> Result<Gathered, AllocError>
     })
 }
 
-// The log of no search of an instance, from a tree.
-fn assembled(alloc: Global, instance: &Instance, tree: &Tree) -> Result<Log, AllocError>
+// The log of a search of an instance where no step was taken, with a tree of the least cost.
+fn assembled(
+    alloc: Global,
+    instance: &Instance,
+    tree: &Tree,
+    gathered: &Gathered,
+) -> Result<Log, AllocError>
     requires instance { IsInstance instance.now }
     requires tree { IsTree instance.now tree.now }
+    requires cost { gathered.now.least ≡ cost instance.now tree.now }
+    requires complete { (start : ℕ) × (budget : ℕ) × IsComplete gathered.now instance.now all_trees start budget }
+    requires writable { AllPackings IsWritablePacking gathered.now }
+    ensures { IfOk result (λ log. IsLog log) }
 {
     let reduced = Reduced::of(alloc, instance)?;
-    let gathered = unsearched(alloc, tree_cost(instance, tree))?;
-    let log = assemble(alloc, Vec::new(alloc), &reduced, tree, &gathered)?;
+    let log = assemble(alloc, Vec::new(alloc), &reduced, tree, gathered)?;
     Ok(log)
 }
 
-// Whether that log claims a primal and the bound 0, which one close shows.
+// Whether that log is of version 2, and claims a primal and the bound 0, which one close shows.
 fn claims_nothing(log: &Log, cost: u64) -> bool {
+    if log.version != Version::Two {
+        return false;
+    }
     match &log.claim {
         Claim::Found {
             primal,
@@ -80,7 +103,8 @@ fn certifies_the_centre(alloc: Global) -> Result<bool, AllocError> {
     if !is_tree(alloc, &instance, &tree)? {
         return Ok(false);
     }
-    let log = assembled(alloc, &instance, &tree)?;
+    let gathered = unsearched(alloc, tree_cost(&instance, &tree))?;
+    let log = assembled(alloc, &instance, &tree, &gathered)?;
     Ok(claims_nothing(&log, 6))
 }
 

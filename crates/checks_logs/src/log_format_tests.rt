@@ -1,11 +1,12 @@
-ghost use Rattle.log_format.specs.Text.{IsInLogRange};
+ghost use Rattle.std.specs.Prelude.{IfOk};
+ghost use Rattle.log_format.specs.Text.{IsInLogRange, IsLog};
 
 use cut_packing::{Cut, Packing};
 use lift_back::Step;
 use log_format::{
-    Claim, Item, Kind, LineError, Log, LogReader, Proof, ProofLine, ReadError, accepted_holds,
-    items_are_lines, line_items, one_item, one_spelling, read_log, refused_exactly,
-    rejected_exactly, write_log,
+    Claim, Item, Kind, LineError, Log, LogReader, Proof, ProofLine, ReadError, Version,
+    accepted_holds, items_are_lines, line_items, migrate, migrated_is_the_same, one_item,
+    one_spelling, read_log, refused_exactly, rejected_exactly, write_log,
 };
 use st_model::{Listed, SplitAt};
 use std::alloc::{AllocError, Global};
@@ -21,18 +22,30 @@ const REDUCED: &str =
     "STEINERLOG 1\nCLAIM TREE 6 6\nTREE 1 3\nA 1 4\nA 4 2\nA 4 3\nSTEPS 6\nD 1 2 1 4\n\
     D 1 3 1 4\nD 2 3 1 4\nF 1\nF 2\nF 3\nPROOF\nC 0 0\nEND\n";
 
+/// A log that no tree reaches every required vertex.
+const WALL: &str = "STEINERLOG 1\nCLAIM NONE\nWALL 2 1 2\nEND\n";
+
 /// Each kind of step, with the least and the greatest numbers.
 const STEPS: &str =
     "STEINERLOG 1\nCLAIM TREE 0 0\nTREE 1 0\nSTEPS 5\nP 1\nH 1000000\nF 7\nD 1000000 1 3 9 2 9\n\
     D 1 1 1 1000000\nPROOF\nC 0 0\nEND\n";
+
+/// A log of version 2, whose proof is split at a link.
+const LINK: &str =
+    "STEINERLOG 2\nCLAIM TREE 3 3\nTREE 1 1\nA 1 2\nSTEPS 0\nPROOF\nL 1 2\nC 0 0\nC 1 1\n\
+    U 2 3 1 2\nEND\n";
 
 /// The least and the greatest numbers that can stand in a log, and each kind of line.
 const RIGHT: &[&str] = &[
     STAR,
     REDUCED,
     STEPS,
+    LINK,
+    "STEINERLOG 2\nCLAIM TREE 1 0\nTREE 1 0\nSTEPS 0\nPROOF\nS 1\nL 999999 1000000\nC 0 0\nC 0 0\n\
+        C 0 0\nEND\n",
+    "STEINERLOG 2\nCLAIM NONE\nWALL 1 1\nEND\n",
     "STEINERLOG 1\nCLAIM TREE 3 3\nTREE 2 0\nSTEPS 0\nPROOF\nS 2\nC 2 1\nU 1 3 1 1\nC 0 0\nEND\n",
-    "STEINERLOG 1\nCLAIM NONE\nWALL 2 1 2\nEND\n",
+    WALL,
     "STEINERLOG 1\nCLAIM NONE\nWALL 1 1000000\nEND\n",
     "STEINERLOG 1\nCLAIM TREE 0 0\nTREE 1 0\nSTEPS 0\nPROOF\nC 0 0\nEND\n",
     "STEINERLOG 1\nCLAIM TREE 18446744073709551615 18446744073709551615\nTREE 1000000 1\n\
@@ -42,7 +55,7 @@ const RIGHT: &[&str] = &[
 ];
 
 /// Whether a log has this text, where it is written in so many threads.
-fn is_written<R: Threads + Sync>(
+pub(crate) fn is_written<R: Threads + Sync>(
     rt: &R,
     alloc: Global,
     log: &Log,
@@ -56,7 +69,7 @@ fn is_written<R: Threads + Sync>(
 }
 
 /// Whether a text is that of a log, and is written again as it was read, in so many threads.
-fn is_read_and_written<R: Threads + Sync>(
+pub(crate) fn is_read_and_written<R: Threads + Sync>(
     rt: &R,
     alloc: Global,
     text: &str,
@@ -70,6 +83,31 @@ fn is_read_and_written<R: Threads + Sync>(
 fn reads_and_writes_back(rt: HostRuntime) -> Result<(), Fail> {
     for text in RIGHT {
         assert!(rt; is_read_and_written(&rt, rt.alloc(), *text, 1)?, "{text}");
+    }
+    Ok(())
+}
+
+/// The log of a text, in version 2.
+fn migrated(alloc: Global, text: &str) -> Result<Log, ReadError>
+    ensures { IfOk result (λ log. IsLog log) }
+{
+    migrated_is_the_same();
+    let log = read_log(alloc, text.as_bytes())?;
+    Ok(migrate(log))
+}
+
+/// Whether the log of a text has the same text in version 2, but for its first line.
+fn is_migrated<R: Threads + Sync>(rt: &R, alloc: Global, text: &str) -> Result<bool, Fail> {
+    let (_, rest) = text.split_once("\n").ok_or("the log has no first line")?;
+    let wanted = format!(in alloc; "STEINERLOG 2\n{rest}")?;
+    let log = migrated(alloc, text)?;
+    Ok(is_written(rt, alloc, &log, wanted.as_str(), 1)?)
+}
+
+#[test]
+fn migrates_to_version_2(rt: HostRuntime) -> Result<(), Fail> {
+    for text in [STAR, REDUCED, STEPS, SPLIT, WALL, LINK] {
+        assert!(rt; is_migrated(&rt, rt.alloc(), text)?, "{text}");
     }
     Ok(())
 }
@@ -158,7 +196,10 @@ fn is_refused(alloc: Global, text: &[u8], line: u64, kind: Kind) -> bool {
 
 /// What stands in the star's log, what is written in its place, and the fault.
 const CHANGES: &[(&str, &str, u64, Kind)] = &[
+    ("STEINERLOG 1", "STEINERLOG 0", 1, Kind::BadLine),
+    ("STEINERLOG 1", "STEINERLOG 3", 1, Kind::BadLine),
     ("STEINERLOG 1", "STEINERLOG 9", 1, Kind::BadLine),
+    ("STEINERLOG 1", "STEINERLOG 12", 1, Kind::BadLine),
     ("STEINERLOG 1", "STEINERLOG 1 ", 1, Kind::BadLine),
     ("STEINERLOG 1", "STEINERLOG 1\r", 1, Kind::BadLine),
     ("STEINERLOG 1\n", "", 1, Kind::BadLine),
@@ -225,6 +266,41 @@ fn refuses_each_change(rt: HostRuntime) -> Result<(), Fail> {
         let (right, wrong, line, kind) = *row;
         assert!(rt;
             is_change_refused(rt.alloc(), STAR, right, wrong, line, kind)?,
+            "{wrong} for {right}"
+        );
+    }
+    Ok(())
+}
+
+/// What stands in the log that is split at a link, what is written in its place, and the line that is
+/// bad then.
+const LINK_CHANGES: &[(&str, &str, u64)] = &[
+    ("STEINERLOG 2", "STEINERLOG 1", 7),
+    ("STEINERLOG 2", "STEINERLOG 3", 1),
+    ("L 1 2", "L 2 1", 7),
+    ("L 1 2", "L 1 1", 7),
+    ("L 1 2", "L 0 2", 7),
+    ("L 1 2", "L 1 2 3", 7),
+    ("L 1 2", "L 1 1000001", 7),
+    ("L 1 2", "L 1", 7),
+    ("L 1 2", "L", 7),
+    ("L 1 2", "L 1 2 ", 7),
+    ("L 1 2", "L  1 2", 7),
+    ("L 1 2", "L 01 2", 7),
+    ("L 1 2", "l 1 2", 7),
+    ("L 1 2\n", "", 8),
+    ("PROOF\nL 1 2", "L 1 2\nPROOF", 6),
+    ("C 1 1", "L 1 2", 10),
+    ("U 2 3 1 2", "L 1 2", 10),
+    ("END", "L 1 2", 11),
+];
+
+#[test]
+fn refuses_each_change_of_links(rt: HostRuntime) -> Result<(), Fail> {
+    for row in LINK_CHANGES {
+        let (right, wrong, line) = *row;
+        assert!(rt;
+            is_change_refused(rt.alloc(), LINK, right, wrong, line, Kind::BadLine)?,
             "{wrong} for {right}"
         );
     }
@@ -472,7 +548,8 @@ fn takes_one_proof_tree(rt: HostRuntime) -> Result<(), Fail> {
 /// A word for an item's kind, and two of its numbers.
 fn seen(item: &Item) -> (&'static str, u64, u64) {
     match item {
-        Item::Header => ("header", 0, 0),
+        Item::Header(Version::One) => ("header", 1, 0),
+        Item::Header(Version::Two) => ("header", 2, 0),
         Item::ClaimTree { primal, dual } => ("claim", *primal, *dual),
         Item::ClaimNone => ("none", 0, 0),
         Item::Wall(set) => ("wall", set.as_slice().len() as u64, 0),
@@ -518,7 +595,7 @@ fn says(alloc: Global, text: &str, wanted: &[(&str, u64, u64)]) -> Result<bool, 
 
 /// The items of the star's log.
 const STAR_ITEMS: &[(&str, u64, u64)] = &[
-    ("header", 0, 0),
+    ("header", 1, 0),
     ("claim", 6, 6),
     ("tree", 1, 3),
     ("arc", 1, 4),
@@ -538,7 +615,7 @@ const SPLIT: &str =
     "STEINERLOG 1\nCLAIM TREE 3 2\nTREE 2 0\nSTEPS 1\nP 3\nPROOF\nS 2\nC 0 0\nC 0 0\nEND\n";
 
 const SPLIT_ITEMS: &[(&str, u64, u64)] = &[
-    ("header", 0, 0),
+    ("header", 1, 0),
     ("claim", 3, 2),
     ("tree", 2, 0),
     ("steps", 1, 0),
@@ -550,10 +627,26 @@ const SPLIT_ITEMS: &[(&str, u64, u64)] = &[
     ("end", 0, 0),
 ];
 
+/// The items of the log that is split at a link.
+const LINK_ITEMS: &[(&str, u64, u64)] = &[
+    ("header", 2, 0),
+    ("claim", 3, 3),
+    ("tree", 1, 1),
+    ("arc", 1, 2),
+    ("steps", 0, 0),
+    ("proof", 0, 0),
+    ("split at a link", 1, 2),
+    ("close", 0, 0),
+    ("close", 1, 1),
+    ("cut", 2, 3),
+    ("end", 0, 0),
+];
+
 #[test]
 fn reads_each_item(rt: HostRuntime) -> Result<(), Fail> {
     assert!(rt; says(rt.alloc(), STAR, STAR_ITEMS)?);
     assert!(rt; says(rt.alloc(), SPLIT, SPLIT_ITEMS)?);
+    assert!(rt; says(rt.alloc(), LINK, LINK_ITEMS)?);
     Ok(())
 }
 
@@ -594,4 +687,5 @@ fn states_its_laws() {
     items_are_lines();
     one_item();
     line_items();
+    migrated_is_the_same();
 }

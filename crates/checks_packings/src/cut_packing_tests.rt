@@ -2,7 +2,9 @@ ghost use Rattle.std.specs.Prelude.{◌≡◌, ◌<◌, [], length, IfOk, OnOk};
 ghost use Rattle.st_model.specs.Branch.{IsBranch, all_trees, with_outside};
 
 mod judge;
+mod links;
 
+use crate::told::{branch_of, outside};
 use cut_packing::{
     Cut, LoadedArc, LoadedArcs, Packing, SetTable, SharedSet, can_bear, fits, heads_of, is_full,
     lay, named_values, proof_tree_bounds, weak_duality, weight,
@@ -61,19 +63,21 @@ fn packing(alloc: Global, first: u64) -> Result<Packing, AllocError> {
     })
 }
 
-// Whether a packing fits the branch of all trees, whether it is full, and what it weighs.
+// Whether a packing fits a branch, whether it is full, and what it weighs.
 fn judged_in(
     alloc: Global,
     instance: &Instance,
+    branch: &Sides,
     packing: &Packing,
-) -> Result<(bool, bool, u128), AllocError> {
-    let branch = everything(alloc)?;
-    let fits = fits(alloc, instance, &branch, packing)?;
-    let is_full = is_full(alloc, instance, &branch, packing)?;
+) -> Result<(bool, bool, u128), AllocError>
+    requires { IsBranch instance.now branch.now }
+{
+    let fits = fits(alloc, instance, branch, packing)?;
+    let is_full = is_full(alloc, instance, branch, packing)?;
     Ok((fits, is_full, weight(instance, branch.branch(), packing)))
 }
 
-// The same over the triangle where the centre pays so much.
+// The same in the branch of all trees of the triangle where the centre pays so much.
 fn judged_with(
     alloc: Global,
     centre: u64,
@@ -81,7 +85,9 @@ fn judged_with(
 ) -> Result<(bool, bool, u128), AllocError>
     requires { centre < 100 }
 {
-    judged_in(alloc, &triangle(alloc, centre)?, packing)
+    let instance = triangle(alloc, centre)?;
+    let branch = branch_of(alloc, &instance, &[])?;
+    judged_in(alloc, &instance, &branch, packing)
 }
 
 // The same of the packing with this first value, where the centre pays nothing.
@@ -191,22 +197,19 @@ fn apart(alloc: Global) -> Result<Instance, AllocError>
     Instance::build(alloc, 2, &[], &[(1, Need::Required), (2, Need::Pays(7))])
 }
 
-// What no cuts weigh.
-fn no_cuts_weigh(alloc: Global, instance: &Instance, branch: &Branch) -> u128
-    requires { IsBranch instance.now branch.now }
-{
-    let nothing = Packing {
+// A packing without cuts.
+fn no_cuts(alloc: Global) -> Packing {
+    Packing {
         root: None,
         cuts: Listed::of(Vec::new(alloc)),
-    };
-    weight(instance, branch, &nothing)
+    }
 }
 
-// The same where the vertex that pays is outside.
+// What no cuts weigh where the vertex that pays is outside.
 fn outside_weight(alloc: Global) -> Result<u128, AllocError> {
     let instance = apart(alloc)?;
-    let avoided = avoiding(alloc, 2)?;
-    Ok(no_cuts_weigh(alloc, &instance, avoided.branch()))
+    let avoided = branch_of(alloc, &instance, &[outside(2)])?;
+    Ok(weight(&instance, avoided.branch(), &no_cuts(alloc)))
 }
 
 #[test]

@@ -1,13 +1,16 @@
 ghost use Rattle.std.specs.Prelude.{◌≡◌, ℕ, ◌+◌, ◌≤◌, ◌||◌, IsTrue, IfSome};
 ghost use Rattle.std.specs.Bool.{OnTrue};
-ghost use Rattle.st_model.specs.Branch.{is_certain};
+ghost use Rattle.st_model.specs.Branch.{IsBranch, is_certain};
 ghost use Rattle.st_model.specs.Lists.{has};
 ghost use Rattle.st_model.specs.Network.{IsVertex};
 ghost use Rattle.level_packing.specs.Forest.{IsPresent};
 
+mod links;
+
+use crate::told::{Told, branch_of, inside, outside};
 use cut_packing::Cut;
 use level_packing::{Leaf, close_all};
-use st_model::{Branch, Instance, Listed, Need, Sides, Tree, is_tree, tree_cost};
+use st_model::{Instance, Need, Sides, Tree, is_tree, tree_cost};
 use std::alloc::{AllocError, Global};
 use std::test::Fail;
 use test_instances::{link, triangle_with_centre};
@@ -69,7 +72,9 @@ fn closed(
     instance: &Instance,
     branch: &Sides,
     target: u64,
-) -> Result<Option<Leaf>, AllocError> {
+) -> Result<Option<Leaf>, AllocError>
+    requires { IsBranch instance.now branch.now }
+{
     let Some(_) = some_present(instance, branch) else {
         return Ok(None);
     };
@@ -164,12 +169,9 @@ fn leaf_closing(
     }
 }
 
-fn sides_of(alloc: Global, inside: &[u32], outside: &[u32]) -> Result<Sides, AllocError> {
-    let branch = Branch::of(
-        Listed::of(Vec::from_slice(alloc, inside)?),
-        Listed::of(Vec::from_slice(alloc, outside)?),
-    );
-    Sides::of(alloc, branch)
+// That the vertices 1 to 4 are inside.
+fn all_four() -> [Told; 4] {
+    [inside(1), inside(2), inside(3), inside(4)]
 }
 
 // The same of a branch with this target.
@@ -178,55 +180,57 @@ fn branch_closing(
     instance: &Instance,
     branch: &Sides,
     target: u64,
-) -> Result<Closing, AllocError> {
+) -> Result<Closing, AllocError>
+    requires { IsBranch instance.now branch.now }
+{
     match closed(alloc, instance, branch, target)? {
         Some(leaf) => leaf_closing(alloc, instance, branch.branch().outside.as_slice(), &leaf),
         None => Ok(Closing::Undecided),
     }
 }
 
-// The same of the branch with these vertices inside and outside.
+// The same of the branch that is told this.
 fn closing_of(
     alloc: Global,
     instance: &Instance,
-    inside: &[u32],
-    outside: &[u32],
+    told: &[Told],
     target: u64,
 ) -> Result<Closing, AllocError> {
-    branch_closing(alloc, instance, &sides_of(alloc, inside, outside)?, target)
+    let branch = branch_of(alloc, instance, told)?;
+    branch_closing(alloc, instance, &branch, target)
 }
 
 // The same over the triangle with a centre.
-fn triangle_closing(alloc: Global, inside: &[u32], outside: &[u32]) -> Result<Closing, AllocError> {
+fn triangle_closing(alloc: Global, told: &[Told]) -> Result<Closing, AllocError> {
     let triangle = triangle_with_centre(alloc, 4)?;
-    closing_of(alloc, &triangle, inside, outside, 9)
+    closing_of(alloc, &triangle, told, 9)
 }
 
 #[test]
 fn closes_the_triangle(rt: HostRuntime) -> Result<(), Fail> {
-    let with_centre = triangle_closing(rt.alloc(), &[4], &[])?;
+    let with_centre = triangle_closing(rt.alloc(), &[inside(4)])?;
     assert!(rt; is_tree_of(with_centre, 6));
-    let without_centre = triangle_closing(rt.alloc(), &[], &[4])?;
+    let without_centre = triangle_closing(rt.alloc(), &[outside(4)])?;
     assert!(rt; is_tree_of(without_centre, 8));
-    let undecided = triangle_closing(rt.alloc(), &[], &[])?;
+    let undecided = triangle_closing(rt.alloc(), &[])?;
     assert!(rt; matches!(undecided, Closing::Undecided));
     Ok(())
 }
 
 // The same over two pairs that are not joined.
-fn pairs_closing(alloc: Global, inside: &[u32], outside: &[u32]) -> Result<Closing, AllocError> {
+fn pairs_closing(alloc: Global, told: &[Told]) -> Result<Closing, AllocError> {
     let links = [link(1, 2, 3), link(3, 4, 5)];
     let pairs = Instance::build(alloc, 4, &links, &[(4, Need::Pays(7))])?;
-    closing_of(alloc, &pairs, inside, outside, 9)
+    closing_of(alloc, &pairs, told, 9)
 }
 
 #[test]
 fn closes_parts_that_are_not_joined(rt: HostRuntime) -> Result<(), Fail> {
-    let both = pairs_closing(rt.alloc(), &[1, 2, 3, 4], &[])?;
+    let both = pairs_closing(rt.alloc(), &all_four())?;
     assert!(rt; matches!(both, Closing::Wall { weight: 9.. }));
-    let first = pairs_closing(rt.alloc(), &[1, 2], &[3, 4])?;
+    let first = pairs_closing(rt.alloc(), &[inside(1), inside(2), outside(3), outside(4)])?;
     assert!(rt; is_tree_of(first, 10));
-    let one = pairs_closing(rt.alloc(), &[3], &[1, 2, 4])?;
+    let one = pairs_closing(rt.alloc(), &[inside(3), outside(1), outside(2), outside(4)])?;
     assert!(rt; is_tree_of(one, 7));
     Ok(())
 }
@@ -235,27 +239,27 @@ fn closes_parts_that_are_not_joined(rt: HostRuntime) -> Result<(), Fail> {
 fn ring_closing(alloc: Global) -> Result<Closing, AllocError> {
     let rising = [link(1, 4, 7), link(2, 3, 2), link(3, 4, 4), link(1, 2, 1)];
     let ring = Instance::build(alloc, 4, &rising, &[])?;
-    closing_of(alloc, &ring, &[1, 2, 3, 4], &[], 0)
+    closing_of(alloc, &ring, &all_four(), 0)
 }
 
 // The same where all links of a ring cost the same.
 fn even_closing(alloc: Global) -> Result<Closing, AllocError> {
     let equal = [link(1, 2, 5), link(2, 3, 5), link(3, 1, 5)];
     let even = Instance::build(alloc, 3, &equal, &[])?;
-    closing_of(alloc, &even, &[1, 2, 3], &[], 0)
+    closing_of(alloc, &even, &[inside(1), inside(2), inside(3)], 0)
 }
 
 // The same where links cost nothing.
 fn gift_closing(alloc: Global) -> Result<Closing, AllocError> {
     let free = [link(1, 2, 0), link(2, 3, 0)];
     let gift = Instance::build(alloc, 3, &free, &[])?;
-    closing_of(alloc, &gift, &[1, 2, 3], &[], 0)
+    closing_of(alloc, &gift, &[inside(1), inside(2), inside(3)], 0)
 }
 
 // The same over one vertex.
 fn lone_closing(alloc: Global) -> Result<Closing, AllocError> {
     let lone = Instance::build(alloc, 1, &[], &[])?;
-    closing_of(alloc, &lone, &[1], &[], 0)
+    closing_of(alloc, &lone, &[inside(1)], 0)
 }
 
 #[test]

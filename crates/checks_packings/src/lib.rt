@@ -5,3 +5,5 @@
 mod cut_packing_tests;
 #[cfg(test)]
 mod level_packing_tests;
+#[cfg(test)]
+mod told;

@@ -1,7 +1,7 @@
 ghost use Rattle.std.specs.Prelude.{◌≡◌, IfOk, IfSome};
 ghost use Rattle.branching.specs.Node.{IsNode};
 
-use branching::{Node, choose, halves, halves_are_no_lighter, halves_at, may_split};
+use branching::{Node, choose, halves, halves_are_no_lighter, halves_at, halves_link, may_split};
 use cut_packing::{Cut, Packing, SharedSet};
 use st_model::{Branch, Instance, Listed, Need, SplitAt};
 use std::alloc::{AllocError, Global};
@@ -32,6 +32,7 @@ fn split(
     requires { IsNode instance.now node }
     ensures { IfOk result (λ r. IfSome r (λ h. IsNode instance.now h.1 × IsNode instance.now h.2)) }
 {
+    prove!(instance.vertices() > 0);
     halves_are_no_lighter();
     let Some(vertex) = choose(&node, instance) else {
         return Ok(None);
@@ -202,17 +203,49 @@ fn the_half_outside_loses_the_cuts_of_its_vertex(rt: HostRuntime) -> Result<(), 
     Ok(())
 }
 
-// Both halves at a link are the node again, under their numbers.
+// Whether these links are a must of a node's branch, and those barred.
+fn has_links(node: &Node, must: &[(u32, u32)], barred: &[(u32, u32)]) -> bool {
+    node.branch.must.as_slice() == must && node.branch.barred.as_slice() == barred
+}
+
+// Whether of the halves of a node of all trees at the link between 1 and 2 one has it as a must, with both ends inside,
+// and the other has it barred.
+fn decides_a_link(alloc: Global, node: Node) -> Result<bool, AllocError> {
+    let Ok((must, barred)) = halves_link(alloc, node, 1, 2, 20, 30) else {
+        return Err(AllocError);
+    };
+    Ok(
+        is_node(&must, 20, &[1, 2], &[])
+            && has_links(&must, &[(1, 2)], &[])
+            && is_node(&barred, 30, &[], &[])
+            && has_links(&barred, &[], &[(1, 2)]),
+    )
+}
+
+// Whether those of the triangle's node do.
+fn splits_at_a_link(alloc: Global) -> Result<bool, AllocError> {
+    let instance = triangle_with_centre(alloc, 4)?;
+    let node = root(alloc, &instance);
+    decides_a_link(alloc, node)
+}
+
 #[test]
-fn the_halves_at_a_link_are_the_node_again(rt: HostRuntime) -> Result<(), Fail> {
+fn the_halves_at_a_link_say_whether_it_is_used(rt: HostRuntime) -> Result<(), Fail> {
+    assert!(rt; splits_at_a_link(rt.alloc())?);
+    Ok(())
+}
+
+// An end comes inside only where it isn't there: 7 stands once. Both halves keep all cuts, those too that name an end.
+#[test]
+fn the_halves_at_a_link_keep_what_is_there(rt: HostRuntime) -> Result<(), Fail> {
     let node = with_cuts(rt.alloc())?;
-    let Ok((yes, no)) = halves_at(rt.alloc(), node, SplitAt::Link(2, 4), 20, 30) else {
+    let Ok((must, barred)) = halves_at(rt.alloc(), node, SplitAt::Link(4, 7), 20, 30) else {
         return Err("no memory".into());
     };
-    assert!(rt; is_node(&yes, 20, &[7], &[]));
-    assert!(rt; is_node(&no, 30, &[7], &[]));
-    assert!(rt; names(rt.alloc(), &yes, &[4, 2, 4, 3])?);
-    assert!(rt; names(rt.alloc(), &no, &[4, 2, 4, 3])?);
+    assert!(rt; is_node(&must, 20, &[4, 7], &[]) && has_links(&must, &[(4, 7)], &[]));
+    assert!(rt; is_node(&barred, 30, &[7], &[]) && has_links(&barred, &[], &[(4, 7)]));
+    assert!(rt; names(rt.alloc(), &must, &[4, 2, 4, 3])?);
+    assert!(rt; names(rt.alloc(), &barred, &[4, 2, 4, 3])?);
     Ok(())
 }
 

@@ -11,6 +11,7 @@ mod draft;
 mod drawing;
 mod drawn;
 mod ground;
+mod links;
 mod notes;
 mod wheel;
 
@@ -45,7 +46,7 @@ fn packing(alloc: Global, first: u64) -> Result<Packing, AllocError> {
 }
 
 // What a worker of the triangle does, in numbers: a close says what the first cut's value is, and a split at which
-// vertex it is, which numbers the halves get, and that value.
+// vertex it is, which numbers the halves get, and that value; at a link they get 1 and 2.
 #[derive(Clone, Copy)]
 enum Act {
     Take(u64),
@@ -219,7 +220,7 @@ const SPLIT_ONCE: Rows = &[
     (0, Act::Close(2), Some(EventFault::OutOfTurn)),
     (0, Act::Split(1, 1, 2, 2), Some(EventFault::BadVertex)),
     (0, Act::Split(5, 1, 2, 2), Some(EventFault::BadVertex)),
-    (0, Act::SplitLink(1, 4, 2), Some(EventFault::BadVertex)),
+    (0, Act::SplitLink(1, 5, 2), Some(EventFault::BadLink)),
     (0, Act::Split(4, 1, 1, 2), Some(EventFault::UsedId)),
     (0, Act::Split(4, 1, 0, 2), Some(EventFault::UsedId)),
     (0, Act::Split(4, 1, 2, 1), Some(EventFault::BadPacking)),

@@ -3,7 +3,7 @@ use st_edge::{MemoryShelf, MemorySink, SaveFault, Shelf};
 use std::alloc::{AllocError, Global};
 use std::sync::Wait;
 use std::thread::Threads;
-use steiner_top::{Gate, OpenGate, Outcome, Status, run, solve_bytes};
+use steiner_top::{Gate, OpenGate, Outcome, Status, Wanted, run, solve_bytes};
 
 mod checks;
 mod decimals;
@@ -13,6 +13,7 @@ mod faults;
 mod few;
 mod gates;
 mod lines;
+mod links;
 mod meeting;
 mod reduced;
 mod solves;
@@ -21,7 +22,7 @@ mod verified;
 mod worked;
 
 const USAGE: &str =
-    "usage: steiner solve FILE [--workers W] [--nodes N] [--log NAME] [--plain] | check FILE LOG | gen SEED N M T [--prizes] | trial SEED N M T [--workers W] | few FILE | verify FILE SOLUTION\n";
+    "usage: steiner solve FILE [--workers W] [--nodes N] [--log NAME] [--plain] [--links] | check FILE LOG | gen SEED N M T [--prizes] | trial SEED N M T [--workers W] | few FILE | verify FILE SOLUTION\n";
 
 /// A triangle of required vertices with sides of cost 4, and a centre at cost 2 from each. The
 /// lines of a test's text stand apart by ` / `, and H stands for the header.
@@ -131,7 +132,13 @@ fn solved<R: Threads + Wait + Sync, G: Gate>(
     gate: &G,
 ) -> Result<Option<Solution>, AllocError> {
     let text = text_of(alloc, lines)?;
-    match solve_bytes(rt, alloc, &text, 1, nodes, plain, gate) {
+    let wanted = Wanted {
+        workers: 1,
+        nodes,
+        plain,
+        links: false,
+    };
+    match solve_bytes(rt, alloc, &text, wanted, gate) {
         Ok(outcome) => Ok(solution_of(&outcome)),
         Err(_) => Ok(None),
     }

@@ -12,7 +12,7 @@ use Rattle.command_line.specs.declared.cmd.VerifyWords.{VerifyWords}
 use Rattle.command_line.specs.Words.{SolveWords as Solved, CheckWords as Checked, DrawWords as Drawn, GenWords as Generated, TrialWords as Tried, FewWords as Counted, VerifyWords as Verified, Command, solve, check, gen, trial, few, verify}
 
 abbrev pub solve_words : SolveWords → Solved
-solve_words w = record { file = w.file.now; workers = w.workers; nodes = w.nodes; log_name = option_copied w.log_name; plain = w.plain }
+solve_words w = record { file = w.file.now; workers = w.workers; nodes = w.nodes; log_name = option_copied w.log_name; plain = w.plain; links = w.links }
 
 abbrev pub check_words : CheckWords → Checked
 check_words w = record { file = w.file.now; log_name = w.log_name.now }

@@ -22,9 +22,9 @@ option name = record (new_rule name) { long = Some name }
 abbrev pub flag : Text → Rule
 flag name = record (new_rule name) { long = Some name; action = Some SetTrue }
 
--- `solve FILE [--workers W] [--nodes N] [--log NAME] [--plain]`
+-- `solve FILE [--workers W] [--nodes N] [--log NAME] [--plain] [--links]`
 abbrev pub solve_app : App
-solve_app = with_rule (with_rule (with_rule (with_rule (with_rule (new_app (codes "solve")) (place (codes "FILE"))) (option (codes "workers"))) (option (codes "nodes"))) (option (codes "log"))) (flag (codes "plain"))
+solve_app = with_rule (with_rule (with_rule (with_rule (with_rule (with_rule (new_app (codes "solve")) (place (codes "FILE"))) (option (codes "workers"))) (option (codes "nodes"))) (option (codes "log"))) (flag (codes "plain"))) (flag (codes "links"))
 
 -- `check FILE LOG`
 abbrev pub check_app : App
@@ -59,13 +59,15 @@ program = with_subcommand (with_subcommand (with_subcommand (with_subcommand (wi
 
 -- ---- what the words mean
 
--- a file to be solved by so many workers and at most so many nodes; where a log is kept; and whether the graph is left as it is
+-- a file to be solved by so many workers and at most so many nodes; where a log is kept; whether the graph is left as it is; and whether nodes may
+-- be split at links
 pub record SolveWords : Type 0 where
   pub file : Text
   pub workers : ℕ
   pub nodes : ℕ
   pub log_name : Option Text
   pub plain : Bool
+  pub links : Bool
 
 -- a file, and a log that is to be checked
 pub record CheckWords : Type 0 where
@@ -143,7 +145,7 @@ solve_of rows = do
   workers ← number_of 1 1 64 (first_of (codes "workers") rows)
   nodes ← number_of 1000000 0 1000000 (first_of (codes "nodes") rows)
   log ← optional_name_of (first_of (codes "log") rows)
-  Some (record { file = file; workers = workers; nodes = nodes; log_name = log; plain = is_set (first_of (codes "plain") rows) })
+  Some (record { file = file; workers = workers; nodes = nodes; log_name = log; plain = is_set (first_of (codes "plain") rows); links = is_set (first_of (codes "links") rows) })
 
 -- what the words after `check` mean
 unfoldable pub check_of : List Row → Option CheckWords

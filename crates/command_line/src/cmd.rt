@@ -11,7 +11,7 @@ pub enum Cmd<'a> {
     Verify(VerifyWords<'a>),
 }
 
-/// `solve FILE [--workers W] [--nodes N] [--log NAME] [--plain]`.
+/// `solve FILE [--workers W] [--nodes N] [--log NAME] [--plain] [--links]`.
 #[derive(Clone, Copy, Debug, PartialEq, Eq)]
 pub struct SolveWords<'a> {
     /// The name of the STP file.
@@ -24,6 +24,8 @@ pub struct SolveWords<'a> {
     pub log_name: Option<&'a str>,
     /// Whether the graph is left as it is, without reductions.
     pub plain: bool,
+    /// Whether nodes may be split at links.
+    pub links: bool,
 }
 
 /// `check FILE LOG`.

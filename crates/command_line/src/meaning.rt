@@ -102,6 +102,7 @@ pub fn solve_words<'a>(matches: &ArgMatches<'a>) -> Option<SolveWords<'a>>
         nodes,
         log_name,
         plain: is_set(word(matches, "plain")),
+        links: is_set(word(matches, "links")),
     })
 }
 

@@ -40,7 +40,7 @@ fn with<'a>(command: Command<'a>, arg: Arg<'a>) -> Result<Command<'a>, AllocErro
     Ok(command)
 }
 
-// `solve FILE [--workers W] [--nodes N] [--log NAME] [--plain]`
+// `solve FILE [--workers W] [--nodes N] [--log NAME] [--plain] [--links]`
 fn solve<'a>(alloc: Global) -> Result<Command<'a>, AllocError>
     ensures app { IfOk result (λ c. app_of c ≡ solve_app) }
     ensures local { IfOk result (λ c. (out-Command c).has_globals ≡ false) }
@@ -51,6 +51,7 @@ fn solve<'a>(alloc: Global) -> Result<Command<'a>, AllocError>
     let command = with(command, option(alloc, "nodes"))?;
     let command = with(command, option(alloc, "log"))?;
     let command = with(command, flag(alloc, "plain"))?;
+    let command = with(command, flag(alloc, "links"))?;
     Ok(command)
 }
 

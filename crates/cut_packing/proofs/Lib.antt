@@ -2,6 +2,7 @@ pub mod Sums
 pub mod Loaded
 pub mod ArcLists
 pub mod Turned
+pub mod Uses
 pub mod Charged
 pub mod Duality
 pub mod Judged

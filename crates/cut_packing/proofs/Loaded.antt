@@ -3,7 +3,7 @@ use Rattle.std.proofs.Common.{◌≡◌, ◌≢◌, ℕ, zero, suc, ◌+◌, ◌
 use Rattle.std.specs.Prelude.{◌==◌, if◌then◌else◌, IsTrue, IsFalse, IsSome, All, AllPairs}
 use Rattle.std.specs.List.{list_any, AllByRecursion}
 use Rattle.std.proofs.Math.Bool.{or-true, or-false}
-use Rattle.std.proofs.lemmas.Bool.{cases_eq, cases_lt, eqb-true, eq-eqb, ne_eqb, or_cases, or_left, or_right, and_parts, and_from, both_ways, false≢true}
+use Rattle.std.proofs.lemmas.Bool.{cases_eq, cases_lt, eqb-true, eq-eqb, ne_eqb, or_cases, or_left, or_right, and_parts, not-true, both_ways, false≢true}
 use Rattle.std.proofs.lemmas.Bool.Decides.{nat_tests}
 use Rattle.std.proofs.lemmas.List.{get_or_past, length-set, take_more}
 use Rattle.std.proofs.lemmas.List.Elements.{All-push, All-map, All-weaker, All-nil}
@@ -12,7 +12,9 @@ use Rattle.st_model.specs.declared.branch.Branch.{Branch}
 use Rattle.st_model.specs.declared.link.Link.{Link}
 use Rattle.st_model.specs.Lists.{has}
 use Rattle.st_model.specs.Network.{Network, IsVertex, IsLinkBetween, IsInstance, joins, link}
-use Rattle.st_model.specs.Branch.{is_present}
+use Rattle.st_model.specs.Ground.{ground}
+use Rattle.st_model.specs.Made.{has_pair}
+use Rattle.st_model.specs.Branch.{is_present, open_link}
 use Rattle.cut_packing.specs.declared.arcs.LoadedArc.{LoadedArc}
 use Rattle.cut_packing.specs.declared.cut.Cut.{Cut}
 use Rattle.cut_packing.specs.Packing.{load}
@@ -21,6 +23,7 @@ use Rattle.st_model.proofs.Sums.{total-append}
 use Rattle.st_model.specs.VertexSet.{AllApart}
 use Rattle.st_model.proofs.Distinct.{link-comm}
 use Rattle.st_model.proofs.Marked.{AllApart-at, has_more}
+use Rattle.st_model.proofs.Pairs.{has_pair-comm, open_unbarred, open-comm}
 
 -- a link more joins what the links joined, and its ends
 link-push : (ls : List Link) (l : Link) (u v : ℕ) → IsSome (link (ls ++ l ∷ []) u v) → IsSome (link ls u v) ⊎ IsTrue (joins l u v)
@@ -92,32 +95,39 @@ linked_vertex n (l ∷ ls) u v ends some = step (joins l u v) refl some (linked_
         ]
     step false joined found rest = rest found
 
--- a link with an end outside gives no arc
-pub AreLoaded-skip : (I : Network) (B : Branch) (ls : List Link) (cuts : List Cut) (arcs : List (List LoadedArc)) (l : Link) → IsFalse (is_present B l.a && is_present B l.b) → AreLoaded I B ls cuts arcs → AreLoaded I B (ls ++ l ∷ []) cuts arcs
-AreLoaded-skip I B ls cuts arcs l outside h = record {
+-- whether neither end of a link is outside, and it isn't barred
+abbrev pub is_open : Branch → Link → Bool
+is_open B l = (is_present B l.a && is_present B l.b) && not (has_pair B.barred l.a l.b)
+
+-- a link that isn't open gives no arc
+pub AreLoaded-skip : (I : Network) (B : Branch) (ls : List Link) (cuts : List Cut) (arcs : List (List LoadedArc)) (l : Link) → IsFalse (is_open B l) → AreLoaded I B ls cuts arcs → AreLoaded I B (ls ++ l ∷ []) cuts arcs
+AreLoaded-skip I B ls cuts arcs l closed h = record {
   count = h.count;
   sound = h.sound;
-  complete = λ u v tail head some. by_link u v tail head (link-push ls l u v some);
+  complete = λ u v tail head free some. by_link u v tail head free (link-push ls l u v some);
 }
   where
-    by_link : (u v : ℕ) → IsTrue (is_present B u) → IsTrue (is_present B v) → IsSome (link ls u v) ⊎ IsTrue (joins l u v) → IsTrue (has_arc arcs u v)
-    by_link u v tail head (inl before) = h.complete u v tail head before
-    by_link u v tail head (inr joined) =
+    opened : IsTrue (is_present B l.a) → IsTrue (is_present B l.b) → IsFalse (has_pair B.barred l.a l.b) → ⊥
+    opened low high free = both_ways (is_open B l) closed (rw (low, high, free) refl)
+
+    by_link : (u v : ℕ) → IsTrue (is_present B u) → IsTrue (is_present B v) → IsFalse (has_pair B.barred u v) → IsSome (link ls u v) ⊎ IsTrue (joins l u v) → IsTrue (has_arc arcs u v)
+    by_link u v tail head free (inl before) = h.complete u v tail head free before
+    by_link u v tail head free (inr joined) =
         elim (joined_ends l u v joined) [
-          | inl e ↦ absurd (both_ways (is_present B l.a && is_present B l.b) outside (and_from (is_present B l.a) (is_present B l.b) (rw e.0 tail) (rw e.1 head)))
-          | inr e ↦ absurd (both_ways (is_present B l.a && is_present B l.b) outside (and_from (is_present B l.a) (is_present B l.b) (rw e.0 head) (rw e.1 tail)))
+          | inl e ↦ absurd (opened (rw e.0 tail) (rw e.1 head) (rw (e.0, e.1) free))
+          | inr e ↦ absurd (opened (rw e.0 head) (rw e.1 tail) (rw (e.0, e.1) (has_pair-comm B.barred v u ∙ free)))
         ]
 
 -- the arc from one end of a link with nothing on it
 abbrev pub free_arc : ℕ → ℕ → LoadedArc
 free_arc tail cost = record { tail = tail; cost = cost; load = 0 }
 
--- a link between present vertices gives two arcs
-pub AreLoaded-link : (I : Network) (B : Branch) (ls : List Link) (arcs : List (List LoadedArc)) (l : Link) → IsTrue (is_present B l.a && is_present B l.b) → IsLinkBetween I.n l → link I.links l.a l.b ≡ Some l.cost → AreLoaded I B ls [] arcs → AreLoaded I B (ls ++ l ∷ []) [] (with_arc (with_arc arcs l.b (free_arc l.a l.cost)) l.a (free_arc l.b l.cost))
-AreLoaded-link I B ls arcs l present ends cost h = record {
+-- a link that is open gives two arcs
+pub AreLoaded-link : (I : Network) (B : Branch) (ls : List Link) (arcs : List (List LoadedArc)) (l : Link) → IsTrue (is_open B l) → IsLinkBetween I.n l → link I.links l.a l.b ≡ Some l.cost → AreLoaded I B ls [] arcs → AreLoaded I B (ls ++ l ∷ []) [] (with_arc (with_arc arcs l.b (free_arc l.a l.cost)) l.a (free_arc l.b l.cost))
+AreLoaded-link I B ls arcs l opened ends cost h = record {
   count = length-set first l.a _ ∙ first_count;
   sound = sound-with_arc I B [] first l.a (free_arc l.b l.cost) low back (sound-with_arc I B [] arcs l.b (free_arc l.a l.cost) high forth h.sound);
-  complete = λ u v tail head some. by_link u v tail head (link-push ls l u v some);
+  complete = λ u v tail head free some. by_link u v tail head free (link-push ls l u v some);
 }
   where
     first : List (List LoadedArc)
@@ -132,19 +142,25 @@ AreLoaded-link I B ls arcs l present ends cost h = record {
     low : l.a < length first
     low = omega (arith, first_count, ends.ordered, ends.high)
 
+    parts : IsTrue (is_present B l.a && is_present B l.b) × IsTrue (not (has_pair B.barred l.a l.b))
+    parts = and_parts (is_present B l.a && is_present B l.b) (not (has_pair B.barred l.a l.b)) opened
+
     both : IsTrue (is_present B l.a) × IsTrue (is_present B l.b)
-    both = and_parts (is_present B l.a) (is_present B l.b) present
+    both = and_parts (is_present B l.a) (is_present B l.b) parts.0
+
+    priced : open_link I B l.a l.b ≡ Some l.cost
+    priced = open_unbarred (ground I) B l.a l.b (not-true (has_pair B.barred l.a l.b) parts.1) ∙ cost
 
     forth : IsLoaded I B [] l.b (free_arc l.a l.cost)
-    forth = record { in_range = omega (arith, ends.ordered, ends.high); tail = both.0; head = both.1; cost = cost; load = refl }
+    forth = record { in_range = omega (arith, ends.ordered, ends.high); tail = both.0; head = both.1; cost = priced; load = refl }
 
     back : IsLoaded I B [] l.a (free_arc l.b l.cost)
-    back = record { in_range = ends.high; tail = both.1; head = both.0; cost = link-comm I.links l.b l.a ∙ cost; load = refl }
+    back = record { in_range = ends.high; tail = both.1; head = both.0; cost = open-comm (ground I) B (link-comm I.links) l.b l.a ∙ priced; load = refl }
 
-    by_link : (u v : ℕ) → IsTrue (is_present B u) → IsTrue (is_present B v) → IsSome (link ls u v) ⊎ IsTrue (joins l u v) → IsTrue (has_arc (with_arc first l.a (free_arc l.b l.cost)) u v)
-    by_link u v tail head (inl before) =
-        has_arc-kept first l.a (free_arc l.b l.cost) u v low (has_arc-kept arcs l.b (free_arc l.a l.cost) u v high (h.complete u v tail head before))
-    by_link u v tail head (inr joined) =
+    by_link : (u v : ℕ) → IsTrue (is_present B u) → IsTrue (is_present B v) → IsFalse (has_pair B.barred u v) → IsSome (link ls u v) ⊎ IsTrue (joins l u v) → IsTrue (has_arc (with_arc first l.a (free_arc l.b l.cost)) u v)
+    by_link u v tail head free (inl before) =
+        has_arc-kept first l.a (free_arc l.b l.cost) u v low (has_arc-kept arcs l.b (free_arc l.a l.cost) u v high (h.complete u v tail head free before))
+    by_link u v tail head free (inr joined) =
         elim (joined_ends l u v joined) [
           | inl e ↦ rw (← e.0, ← e.1) (has_arc-kept first l.a (free_arc l.b l.cost) l.a l.b low (has_arc-new arcs l.b (free_arc l.a l.cost) high))
           | inr e ↦ rw (← e.0, ← e.1) (has_arc-new first l.a (free_arc l.b l.cost) low)
@@ -159,7 +175,7 @@ pub AreLoaded-lay : (I : Network) (B : Branch) (ls : List Link) (cuts : List Cut
 AreLoaded-lay I B ls cuts c members arcs arcs' same count is h = record {
   count = count ∙ h.count;
   sound = λ v. elim (cases_lt v (I.n + 1)) [ inl below ↦ in_range v below (has members v) refl (is v) | inr past ↦ out_of_range v (has members v) past (is v) ];
-  complete = λ u v tail head some. has_arc-laid u v (has members v) (is v) (h.complete u v tail head some);
+  complete = λ u v tail head free some. has_arc-laid u v (has members v) (is v) (h.complete u v tail head free some);
 }
   where
     Loaded : ℕ → LoadedArc → Type 0
@@ -226,13 +242,13 @@ module _ (I : Network) (B : Branch) (instance : IsInstance I) (i : ℕ) (d : Lin
   unfolding own
   ends = instance.ends i d below
 
-  -- a link with an end outside
-  pub link_skipped : (arcs : List (List LoadedArc)) → IsFalse (is_present B (get_or I.links i d).a && is_present B (get_or I.links i d).b) → AreLoaded I B (take i I.links) [] arcs → AreLoaded I B (take (i + 1) I.links) [] arcs
+  -- a link that isn't open
+  pub link_skipped : (arcs : List (List LoadedArc)) → IsFalse (is_open B (get_or I.links i d)) → AreLoaded I B (take i I.links) [] arcs → AreLoaded I B (take (i + 1) I.links) [] arcs
   unfolding own
   link_skipped arcs gone h = rw (take_more I.links i d below) (AreLoaded-skip I B (take i I.links) [] arcs (get_or I.links i d) gone h)
 
-  -- a link between present vertices
-  pub link_added : (arcs : List (List LoadedArc)) → IsTrue (is_present B (get_or I.links i d).a && is_present B (get_or I.links i d).b) → AreLoaded I B (take i I.links) [] arcs → AreLoaded I B (take (i + 1) I.links) [] (with_arc (with_arc arcs (get_or I.links i d).b (free_arc (get_or I.links i d).a (get_or I.links i d).cost)) (get_or I.links i d).a (free_arc (get_or I.links i d).b (get_or I.links i d).cost))
+  -- one that is
+  pub link_added : (arcs : List (List LoadedArc)) → IsTrue (is_open B (get_or I.links i d)) → AreLoaded I B (take i I.links) [] arcs → AreLoaded I B (take (i + 1) I.links) [] (with_arc (with_arc arcs (get_or I.links i d).b (free_arc (get_or I.links i d).a (get_or I.links i d).cost)) (get_or I.links i d).a (free_arc (get_or I.links i d).b (get_or I.links i d).cost))
   unfolding own
   link_added arcs here h = rw (take_more I.links i d below) (AreLoaded-link I B (take i I.links) arcs (get_or I.links i d) here ends (link_at I.links i d instance.one_each below) h)
 

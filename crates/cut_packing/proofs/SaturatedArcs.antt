@@ -7,7 +7,9 @@ use Rattle.std.proofs.lemmas.List.{get_or_past}
 use Rattle.std.proofs.lemmas.List.Elements.{All-head, All-tail, recursion_from_All}
 use Rattle.st_model.specs.declared.branch.Branch.{Branch}
 use Rattle.st_model.specs.Lists.{has}
-use Rattle.st_model.specs.Network.{Network, IsInstance, IsVertex, link}
+use Rattle.st_model.specs.Network.{Network, IsInstance, IsVertex}
+use Rattle.st_model.specs.Ground.{ground}
+use Rattle.st_model.specs.Branch.{open_link}
 use Rattle.st_model.specs.Led.{heads_at, IsLed, start, along, AreLed}
 use Rattle.cut_packing.specs.declared.arcs.LoadedArc.{LoadedArc}
 use Rattle.cut_packing.specs.declared.packing.Packing.{Packing}
@@ -16,6 +18,7 @@ use Rattle.cut_packing.specs.Full.{IsSaturated, IsReached, here, there}
 use Rattle.cut_packing.specs.Loads.{arcs_into, IsLoaded, AreLoaded}
 use Rattle.cut_packing.specs.Saturated.{is_saturated, AreSaturated}
 use Rattle.st_model.proofs.Marked.{has_at, place_of}
+use Rattle.st_model.proofs.Pairs.{open_parts}
 use Rattle.cut_packing.proofs.Loaded.{linked_vertex}
 
 module _ (I : Network) (B : Branch) (P : Packing) (u v : ℕ) where
@@ -54,7 +57,7 @@ module _ (I : Network) (B : Branch) (P : Packing) (u v : ℕ) where
 
       just : arc.tail ≡ u → IsTrue (arc.load == arc.cost)
       just same =
-          let price : Some arc.cost ≡ Some (load P.cuts (u, v)) = sym one.cost ∙ ap (λ w. link I.links w v) same ∙ used.used in
+          let price : Some arc.cost ≡ Some (load P.cuts (u, v)) = sym one.cost ∙ ap (λ w. open_link I B w v) same ∙ used.used in
           let cost : arc.cost ≡ load P.cuts (u, v) = cc in
           eq-eqb arc.load arc.cost (omega (arith, one.load, ap (λ w. load P.cuts (w, v)) same))
 
@@ -65,7 +68,7 @@ AreSaturated-from I B P arcs heads h count listed = record {
   in_range = λ u k d below. head_below u _ (has_at (heads_at heads u) k d below);
   exact = λ u v. (
     λ held. saturated_from I B P u v (arcs_into arcs v) (h.sound v) (sym (listed u v) ∙ held),
-    λ used. listed u v ∙ its_own_from I B P u v (arcs_into arcs v) (h.sound v) used (h.complete u v used.tail used.head (ap is_some used.used)),
+    λ used. listed u v ∙ its_own_from I B P u v (arcs_into arcs v) (h.sound v) used (let parts = open_parts (ground I) B u v (ap is_some used.used) in h.complete u v used.tail used.head parts.0 parts.1),
   );
 }
   where
@@ -104,7 +107,7 @@ root_alone : (I : Network) (B : Branch) (P : Packing) (r v : ℕ) → IsInstance
 root_alone I B P r v instance past here = refl
 root_alone I B P r v instance past (there {u} before used) =
     let same = root_alone I B P r u instance past before in
-    let in_range = linked_vertex I.n I.links u v (recursion_from_All _ I.links instance.ends) (ap is_some used.used) in
+    let in_range = linked_vertex I.n I.links u v (recursion_from_All _ I.links instance.ends) (open_parts (ground I) B u v (ap is_some used.used)).1 in
     absurd (omega (arith, in_range.1))
 
 -- so it reaches no vertex

@@ -4,8 +4,8 @@ use Rattle.std.specs.Prelude.{◌==◌, IsTrue, IsFalse, if◌then◌else◌}
 use Rattle.std.specs.List.{list_any}
 use Rattle.std.proofs.lemmas.Bool.{or_right, or_cases, eqb-true, false≢true, both_ways, cases_Bool}
 use Rattle.st_model.specs.Lists.{has}
-use Rattle.st_model.specs.Network.{Network}
-use Rattle.st_model.specs.Arborescence.{reached_from, Grows}
+use Rattle.st_model.specs.Ground.{Ground}
+use Rattle.st_model.specs.Arborescence.{reached_from, GrowsIn}
 use Rattle.st_model.proofs.Members.{has-one}
 
 -- where the way to r begins, before the arcs
@@ -38,10 +38,10 @@ top_enters S r out ((u, v) ∷ arcs) h = step (v == top arcs r) refl h (top_ente
     step false e in_set later = or_right _ _ (later in_set)
 
 -- where a vertex of the set is reached, a turned arc enters the set, or one of its vertices was reached before the arcs
-pub turned_enters : (I : Network) (S : List ℕ) (r q : ℕ) → IsFalse (has S r) → IsTrue (has S q) → (R : List ℕ) (arcs : List (ℕ × ℕ)) → Grows I R arcs → IsTrue (has (reached_from R arcs) q) → IsTrue (list_any (enters S) (turned arcs r)) ⊎ ((x : ℕ) × IsTrue (has R x) × IsTrue (has S x))
-turned_enters I S r q out in_set R [] g h = inr (q, h, in_set)
-turned_enters I S r q out in_set R ((u, v) ∷ arcs) g h =
-    elim (turned_enters I S r q out in_set (v ∷ R) arcs g.3 h) [
+pub turned_enters : (G : Ground) (S : List ℕ) (r q : ℕ) → IsFalse (has S r) → IsTrue (has S q) → (R : List ℕ) (arcs : List (ℕ × ℕ)) → GrowsIn G R arcs → IsTrue (has (reached_from R arcs) q) → IsTrue (list_any (enters S) (turned arcs r)) ⊎ ((x : ℕ) × IsTrue (has R x) × IsTrue (has S x))
+turned_enters G S r q out in_set R [] g h = inr (q, h, in_set)
+turned_enters G S r q out in_set R ((u, v) ∷ arcs) g h =
+    elim (turned_enters G S r q out in_set (v ∷ R) arcs g.3 h) [
       | inl later ↦ inl (or_right _ _ later)
       | inr found ↦ at_head found.0 (or_cases (v == found.0) (has R found.0) found.1) found.2
     ]
@@ -62,20 +62,20 @@ turned_enters I S r q out in_set R ((u, v) ∷ arcs) g h =
     at_head x (inr before) member = inr (x, before, member)
 
 -- the way to a vertex that is reached begins at a vertex that was reached before the arcs
-pub top_reached : (I : Network) (r : ℕ) (R : List ℕ) (arcs : List (ℕ × ℕ)) → Grows I R arcs → IsTrue (has (reached_from R arcs) r) → IsTrue (has R (top arcs r))
-top_reached I r R [] g h = h
-top_reached I r R ((u, v) ∷ arcs) g h = step (v == top arcs r) (top_reached I r (v ∷ R) arcs g.3 h)
+pub top_reached : (G : Ground) (r : ℕ) (R : List ℕ) (arcs : List (ℕ × ℕ)) → GrowsIn G R arcs → IsTrue (has (reached_from R arcs) r) → IsTrue (has R (top arcs r))
+top_reached G r R [] g h = h
+top_reached G r R ((u, v) ∷ arcs) g h = step (v == top arcs r) (top_reached G r (v ∷ R) arcs g.3 h)
   where
     step : (b : Bool) → IsTrue (b || has R (top arcs r)) → IsTrue (has R (cond b u (top arcs r)))
     step true later = g.1
     step false later = later
 
 -- a tree turned to a root outside the set enters the set where it reaches a vertex of it
-pub entered : (I : Network) (S : List ℕ) (s r q : ℕ) (arcs : List (ℕ × ℕ)) → Grows I (s ∷ []) arcs → IsTrue (has (reached_from (s ∷ []) arcs) r) → IsFalse (has S r) → IsTrue (has (reached_from (s ∷ []) arcs) q) → IsTrue (has S q) → IsTrue (list_any (enters S) (turned arcs r))
-entered I S s r q arcs g root out reached member =
-    elim (turned_enters I S r q out member (s ∷ []) arcs g reached) [
+pub entered : (G : Ground) (S : List ℕ) (s r q : ℕ) (arcs : List (ℕ × ℕ)) → GrowsIn G (s ∷ []) arcs → IsTrue (has (reached_from (s ∷ []) arcs) r) → IsFalse (has S r) → IsTrue (has (reached_from (s ∷ []) arcs) q) → IsTrue (has S q) → IsTrue (list_any (enters S) (turned arcs r))
+entered G S s r q arcs g root out reached member =
+    elim (turned_enters G S r q out member (s ∷ []) arcs g reached) [
       | inl found ↦ found
-      | inr found ↦ top_enters S r out arcs (from_start found.0 found.1 found.2 (top_reached I r (s ∷ []) arcs g root))
+      | inr found ↦ top_enters S r out arcs (from_start found.0 found.1 found.2 (top_reached G r (s ∷ []) arcs g root))
     ]
   where
     from_start : (x : ℕ) → IsTrue ((s == x) || false) → IsTrue (has S x) → IsTrue ((s == top arcs r) || false) → IsTrue (has S (top arcs r))

@@ -3,15 +3,15 @@ use Rattle.std.specs.Prelude.{◌≡◌, ℕ, ◌<◌, nat_lt, Bool, ◌&&◌, �
 use Rattle.st_model.specs.declared.branch.Branch.{Branch}
 use Rattle.st_model.specs.Network.{Network, IsVertex}
 use Rattle.st_model.specs.Ground.{Ground, ground}
-use Rattle.st_model.specs.Branch.{is_present, is_undecided, certain_in}
+use Rattle.st_model.specs.Branch.{is_present, is_undecided, certain_in, open_price}
 use Rattle.cut_packing.specs.declared.packing.Packing.{Packing}
 use Rattle.cut_packing.specs.Packing.{load, named}
 
--- an arc between present vertices whose whole cost the cuts take
+-- an arc between present vertices, of a link that isn't barred, whose whole cost the cuts take
 pub record IsSaturatedIn (G : Ground) (B : Branch) (P : Packing) (u v : ℕ) : Type 0 where
   pub tail : IsTrue (is_present B u)
   pub head : IsTrue (is_present B v)
-  pub used : G.price u v ≡ Some (load P.cuts (u, v))
+  pub used : open_price G B u v ≡ Some (load P.cuts (u, v))
 
 -- what a walk of such arcs from the root reaches
 pub data IsReachedIn (G : Ground) (B : Branch) (P : Packing) (r : ℕ) : ℕ → Type 0 where

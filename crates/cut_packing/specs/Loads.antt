@@ -1,11 +1,12 @@
 -- The arcs into each vertex, with what the cuts lay on them.
-use Rattle.std.specs.Prelude.{◌≡◌, ℕ, ◌+◌, ◌≤◌, ◌==◌, Bool, IsTrue, IsSome, if◌then◌else◌, List, [], ◌∷◌, ◌++◌, length, All, Some, slice_index_or, slice_set}
+use Rattle.std.specs.Prelude.{◌≡◌, ℕ, ◌+◌, ◌≤◌, ◌==◌, Bool, IsTrue, IsFalse, IsSome, if◌then◌else◌, List, [], ◌∷◌, ◌++◌, length, All, Some, slice_index_or, slice_set}
 use Rattle.std.specs.List.{list_any}
 use Rattle.st_model.specs.declared.branch.Branch.{Branch}
 use Rattle.st_model.specs.declared.link.Link.{Link}
 use Rattle.st_model.specs.Lists.{has}
 use Rattle.st_model.specs.Network.{Network, link}
-use Rattle.st_model.specs.Branch.{is_present}
+use Rattle.st_model.specs.Made.{has_pair}
+use Rattle.st_model.specs.Branch.{is_present, open_link}
 use Rattle.cut_packing.specs.declared.arcs.LoadedArc.{LoadedArc}
 use Rattle.cut_packing.specs.declared.cut.Cut.{Cut}
 use Rattle.cut_packing.specs.Packing.{load}
@@ -26,16 +27,16 @@ with_arc arcs head arc = slice_set arcs head (arcs_into arcs head ++ arc ∷ [])
 abbrev pub laid : List ℕ → ℕ → LoadedArc → LoadedArc
 laid set y arc = record arc { load = if has set arc.tail then arc.load else arc.load + y }
 
--- an arc into v between present vertices, with its link's cost and what the cuts lay on it
+-- an arc into v between present vertices, of a link that isn't barred, with its cost and what the cuts lay on it
 pub record IsLoaded (I : Network) (B : Branch) (cuts : List Cut) (v : ℕ) (arc : LoadedArc) : Type 0 where
   pub in_range : arc.tail ≤ I.n
   pub tail : IsTrue (is_present B arc.tail)
   pub head : IsTrue (is_present B v)
-  pub cost : link I.links arc.tail v ≡ Some arc.cost
+  pub cost : open_link I B arc.tail v ≡ Some arc.cost
   pub load : arc.load ≡ load cuts (arc.tail, v)
 
--- the arcs of these links between present vertices, loaded by the cuts
+-- the arcs of those of these links that join present vertices and aren't barred, loaded by the cuts
 pub record AreLoaded (I : Network) (B : Branch) (links : List Link) (cuts : List Cut) (arcs : List (List LoadedArc)) : Type 0 where
   pub count : length arcs ≡ I.n + 1
   pub sound : (v : ℕ) → All (IsLoaded I B cuts v) (arcs_into arcs v)
-  pub complete : (u v : ℕ) → IsTrue (is_present B u) → IsTrue (is_present B v) → IsSome (link links u v) → IsTrue (has_arc arcs u v)
+  pub complete : (u v : ℕ) → IsTrue (is_present B u) → IsTrue (is_present B v) → IsFalse (has_pair B.barred u v) → IsSome (link links u v) → IsTrue (has_arc arcs u v)

@@ -1,10 +1,11 @@
 -- Cuts with values for a branch: what they lay on each arc and each vertex, and what they weigh.
-use Rattle.std.specs.Prelude.{◌≡◌, ℕ, ◌+◌, ◌≤◌, ◌==◌, not, ◌&&◌, IsTrue, IsFalse, if◌then◌else◌, List, [], All, IfSome, MatchOption}
+use Rattle.std.specs.Prelude.{◌≡◌, ℕ, ◌+◌, ◌-◌, ◌≤◌, ◌==◌, max, not, ◌&&◌, IsTrue, IsFalse, if◌then◌else◌, List, [], All, IfSome, MatchOption}
 use Rattle.st_model.specs.declared.branch.Branch.{Branch}
 use Rattle.st_model.specs.Lists.{has, total, sum_to}
 use Rattle.st_model.specs.Network.{Network, IsVertex}
 use Rattle.st_model.specs.Ground.{Ground, ground}
-use Rattle.st_model.specs.Branch.{is_present, certain_in}
+use Rattle.st_model.specs.Arborescence.{arc_cost_in}
+use Rattle.st_model.specs.Branch.{is_present, certain_in, open_price}
 use Rattle.cut_packing.specs.declared.cut.Cut.{Cut}
 use Rattle.cut_packing.specs.declared.packing.Packing.{Packing}
 
@@ -33,9 +34,9 @@ pub record CutFitsIn (G : Ground) (B : Branch) (c : Cut) : Type 0 where
   pub member : IsTrue (has c.set c.q)
   pub present : IsTrue (is_present B c.q)
 
--- no arc between present vertices bears more than it costs
+-- no arc between present vertices bears more than it costs, unless its link is barred
 abbrev pub ArcsFitIn : Ground → Branch → List Cut → Type 0
-ArcsFitIn G B cuts = (u v : ℕ) → IsTrue (is_present B u) → IsTrue (is_present B v) → IfSome (G.price u v) (λ price. load cuts (u, v) ≤ price)
+ArcsFitIn G B cuts = (u v : ℕ) → IsTrue (is_present B u) → IsTrue (is_present B v) → IfSome (open_price G B u v) (λ price. load cuts (u, v) ≤ price)
 
 -- the cuts name no vertex that may be left out beyond what it pays
 abbrev pub PrizesFitIn : Ground → Branch → List Cut → Type 0
@@ -53,8 +54,16 @@ abbrev pub outside_pays_in : Ground → Branch → ℕ → ℕ
 outside_pays_in G B v = if has B.outside v then G.pays v else 0
 
 -- the prizes of the outside vertices, and the values of the cuts
+abbrev pub base_weight_in : Ground → Branch → Packing → ℕ
+base_weight_in G B P = sum_to (outside_pays_in G B) G.n + total (λ c. c.y) P.cuts
+
+-- what a link costs beyond the greater of what the cuts lay on its two arcs
+abbrev pub spare_in : Ground → List Cut → ℕ × ℕ → ℕ
+spare_in G cuts pair = arc_cost_in G pair - max (load cuts pair) (load cuts (pair.1, pair.0))
+
+-- and what the links that are a must cost beyond that
 abbrev pub weight_in : Ground → Branch → Packing → ℕ
-weight_in G B P = sum_to (outside_pays_in G B) G.n + total (λ c. c.y) P.cuts
+weight_in G B P = base_weight_in G B P + total (spare_in G P.cuts) B.must
 
 -- the same in a network
 abbrev pub IsRoot : Network → Branch → List Cut → ℕ → Type 0
@@ -77,6 +86,12 @@ Fits I B P = FitsIn (ground I) B P
 
 abbrev pub outside_pays : Network → Branch → ℕ → ℕ
 outside_pays I B v = outside_pays_in (ground I) B v
+
+abbrev pub base_weight : Network → Branch → Packing → ℕ
+base_weight I B P = base_weight_in (ground I) B P
+
+abbrev pub spare : Network → List Cut → ℕ × ℕ → ℕ
+spare I cuts pair = spare_in (ground I) cuts pair
 
 abbrev pub weight : Network → Branch → Packing → ℕ
 weight I B P = weight_in (ground I) B P

@@ -57,7 +57,7 @@ fn is_root(instance: &Instance, branch: &Sides, cuts: &[Cut], root: u32) -> bool
 }
 
 // Whether a list has a vertex.
-fn holds(vertices: &[u32], vertex: u32) -> bool
+pub fn holds(vertices: &[u32], vertex: u32) -> bool
     ensures { result ≡ has vertices.now vertex }
 {
     vertices.iter().any(|other| *other == vertex)

@@ -1,6 +1,6 @@
 ghost use Rattle.cut_packing.specs.Laws.{WeakDuality, ProofTreesBound};
 
-/// What fits a branch bounds every tree of the branch from below.
+/// What fits a branch bounds every tree of the branch from below, where no link is a must twice.
 pub fn weak_duality()
     ensures { WeakDuality }
 {}

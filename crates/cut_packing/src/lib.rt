@@ -2,7 +2,7 @@
 //!
 //! A `Packing` that *fits* a branch of an instance weighs at most what any tree of the branch
 //! costs (`weak_duality`), and so does what a proof tree of splits and packings proves
-//! (`proof_tree_bounds`). `fits`, `weight` and `is_full` compute the definitions of their names; a
+//! (`proof_tree_bounds`). `fits`, `weight`, `base_weight` and `is_full` compute the definitions of their names; a
 //! caller may rely on them exactly, for every packing, whatever stands in it. What they are made of is
 //! public where it doesn't know that links go both ways: arcs with what cuts lay on them, whichever they are.
 #![tactic(auto)]
@@ -31,4 +31,4 @@ pub use packing::Packing;
 pub use saturated::heads_of;
 pub use set_table::SetTable;
 pub use shared_set::SharedSet;
-pub use weighing::weight;
+pub use weighing::{base_weight, weight};

@@ -1,6 +1,7 @@
-ghost use Rattle.std.specs.Prelude.{◌≡◌, ℕ, ◌+◌, ◌<◌, ◌^◌, ◌&&◌, [], length, map, replicate, All, IfOk, if◌then◌else◌};
+ghost use Rattle.std.specs.Prelude.{◌≡◌, ℕ, ◌+◌, ◌<◌, ◌^◌, ◌&&◌, not, [], length, map, replicate, All, IfOk, if◌then◌else◌};
 ghost use Rattle.st_model.specs.Branch.{is_present};
 ghost use Rattle.st_model.specs.Lists.{has};
+ghost use Rattle.st_model.specs.Made.{has_pair};
 ghost use Rattle.cut_packing.specs.Loads.{arcs_into, laid, AreLoaded};
 ghost use Rattle.st_model.specs.VertexSet.{AllApart};
 
@@ -9,7 +10,7 @@ use crate::arcs::{LoadedArc, LoadedArcs, lay_into};
 use st_model::{Instance, Link, Sides, VertexSet};
 use std::alloc::{AllocError, Global};
 
-/// The arcs between present vertices, with what the cuts lay on them.
+/// The arcs between present vertices of links that aren't barred, with what the cuts lay on them.
 pub fn loads(
     alloc: Global,
     instance: &Instance,
@@ -28,7 +29,7 @@ pub fn loads(
     Ok(arcs)
 }
 
-// The arcs between present vertices, with nothing on them.
+// The arcs between present vertices of links that aren't barred, with nothing on them.
 fn free_arcs(alloc: Global, instance: &Instance, branch: &Sides) -> Result<LoadedArcs, AllocError>
     ensures { IfOk result
         (λ arcs. AreLoaded instance.now branch.now instance.now.links [] arcs) }
@@ -36,7 +37,7 @@ fn free_arcs(alloc: Global, instance: &Instance, branch: &Sides) -> Result<Loade
     let count = instance.vertices() as usize + 1;
     let mut arcs = LoadedArcs::new(alloc, count)?;
     for link in instance.links() {
-        if is_present(branch, link) {
+        if is_open(branch, link) {
             arcs.add(link.b, free(link.a, link.cost))?;
             arcs.add(link.a, free(link.b, link.cost))?;
         }
@@ -44,11 +45,12 @@ fn free_arcs(alloc: Global, instance: &Instance, branch: &Sides) -> Result<Loade
     Ok(arcs)
 }
 
-// Whether neither end of a link is outside.
-fn is_present(branch: &Sides, link: &Link) -> bool
-    ensures { result ≡ (is_present branch.now link.now.a && is_present branch.now link.now.b) }
+// Whether neither end of a link is outside, and it isn't barred.
+fn is_open(branch: &Sides, link: &Link) -> bool
+    ensures { result ≡ ((is_present branch.now link.now.a && is_present branch.now link.now.b)
+        && not (has_pair branch.now.barred link.now.a link.now.b)) }
 {
-    !branch.is_outside(link.a) && !branch.is_outside(link.b)
+    !branch.is_outside(link.a) && !branch.is_outside(link.b) && !branch.is_barred(link.a, link.b)
 }
 
 // An arc from a vertex, with nothing on it.

@@ -13,7 +13,7 @@ use Rattle.bidirected_form.specs.Bidirected.{kind_in, arc_cost}
 use Rattle.bidirected_form.specs.Digraph.{Digraph, kind_of, remaining}
 use Rattle.prize_transform.specs.Twins.{Ends, left_of, prize_for, prize_in}
 use Rattle.cut_packing.specs.declared.packing.Packing.{Packing}
-use Rattle.cut_packing.specs.Packing.{load, named, Fits, weight}
+use Rattle.cut_packing.specs.Packing.{load, named, Fits, base_weight}
 use Rattle.dual_ascent.specs.declared.ascent.Ascent.{Ascent}
 use Rattle.dual_ascent.specs.declared.ascent.Ascent.TheVariants.{Full, Reached}
 use Rattle.graph_store.specs.Whole.{IsWhole}
@@ -54,7 +54,7 @@ module _ (g : Graph) (B : Branch) (P : Packing) (D : Digraph) (E : Ends) (h : Is
 -- an ascent over what a packing leaves
 module _ (g : Graph) (B : Branch) (P : Packing) (D D' : Digraph) (E E' : Ends) (target : ℕ) (graph : IsGraph g) (vertex : IsVertex g.network.n D.root) (h : IsCharged g B P D E) where
   module _ (A : Packing) (fits : FitsLeft D E A) (ascended : IsAscended D D' E E' target A) where
-    both_fit : Fits g.network B (joined P A) × (weight g.network B (joined P A) ≡ weight g.network B P + raised A.cuts)
+    both_fit : Fits g.network B (joined P A) × (base_weight g.network B (joined P A) ≡ base_weight g.network B P + raised A.cuts)
     both_fit = together_fit g B P D E h A graph vertex fits
 
     both_extend : All (λ c. IsVertexSet g.network.n c.set) P.cuts → length (joined P A).cuts < 2 ^ 64 → IsExtended g.network B P (joined P A) D.root

@@ -1,7 +1,7 @@
 -- What is left of a packing where some of its cuts are freed.
 use Rattle.std.proofs.Common.{◌≡◌, ◌≢◌, ℕ, zero, suc, ◌+◌, ◌-◌, ◌^◌, ◌<◌, ◌≤◌, Bool, true, false, List, [], ◌∷◌, ◌++◌, length, get_or, drop, Option, Some, None, ◌⊎◌, inl, inr, refl, sym, ap, ◌∙◌, subst, arith}
 use Rattle.std.specs.Prelude.{All, IsTrue, IfSome, MatchOption, nat_lt, ◌==◌, if◌then◌else◌}
-use Rattle.std.specs.Option.{option_map}
+use Rattle.std.specs.Option.{is_some, option_map}
 use Rattle.std.specs.List.{AllByRecursion}
 use Rattle.std.proofs.lemmas.Bool.{cases_eq, cases_lt, eq-eqb, ne_eqb}
 use Rattle.std.proofs.lemmas.Bool.Decides.{nat_tests}
@@ -9,9 +9,12 @@ use Rattle.std.proofs.lemmas.List.{append-nil, append_assoc, drop_all, drop_more
 use Rattle.std.proofs.lemmas.List.Elements.{All-from_recursion, recursion_from_All}
 use Rattle.st_model.specs.declared.branch.Branch.{Branch}
 use Rattle.st_model.specs.declared.link.Link.{Link}
+use Rattle.st_model.specs.Branch.{open_link}
+use Rattle.st_model.specs.Ground.{ground}
 use Rattle.st_model.specs.Lists.{has, total, sum_to}
 use Rattle.st_model.specs.Network.{Network, IsVertex, joins, link, pays}
 use Rattle.st_model.proofs.Costs.{sum_to_part}
+use Rattle.st_model.proofs.Pairs.{open_parts, open_unbarred}
 use Rattle.st_model.proofs.Sums.{total-append}
 use Rattle.graph_store.specs.Graph.{Graph, IsGraph}
 use Rattle.bidirected_form.specs.Bidirected.{arc_cost}
@@ -66,7 +69,7 @@ fewer_fit : (I : Network) (B : Branch) (root : Option ℕ) (before : List Cut) (
 fewer_fit I B root before c after h = record {
   root = by_root root h.root;
   cuts = (all_around (CutFits I B) before c after h.cuts).1;
-  arcs = λ u v tail head. by_price u v (link I.links u v) (h.arcs u v tail head);
+  arcs = λ u v tail head. by_price u v (open_link I B u v) (h.arcs u v tail head);
   prizes = λ q vertex free. omega (arith, around (λ d. if d.q == q then d.y else 0) before c after, h.prizes q vertex free);
 }
   where
@@ -103,23 +106,24 @@ module _ (g : Graph) (B : Branch) (root : Option ℕ) (before : List Cut) (c : C
   fits_alone = (all_around (CutFits g.network B) before c after h.fits.cuts).0
 
   pub names_vertex : IsVertex D.n c.q
-  names_vertex = rw h.left.count (named_vertex g.network B c fits_alone)
+  names_vertex = rw h.left.count (named_vertex (ground g.network) B c fits_alone)
 
   -- what the cut took can be given back
   pub arcs_room : HasRoom D c.set c.y
   arcs_room u v r entering left =
       let cost = before_taking (arc_cost g B u v) (load (before ++ c ∷ after) (u, v)) r (sym (h.left.remaining u v) ∙ left) in
-      let linked = cost_linked g B u v cost.0 cost.1 in
+      let open_cost = (cost_linked g B u v cost.0 cost.1).2 in
+      let linked : link g.network.links u v ≡ Some cost.0 = sym (open_unbarred (ground g.network) B u v (open_parts (ground g.network) B u v (ap is_some open_cost)).0) ∙ open_cost in
       let one : (if enters c.set u v then c.y else 0) ≡ c.y = rw entering refl in
       let all : total (λ l. l.cost) g.network.links + sum_to (pays g.network) g.network.n < 2 ^ 63 = graph.instance.amount in
-      omega (arith, cost.2, arc_bears u v cost.0 cost.1, load_is u v, one, link_within g.network.links u v cost.0 linked.2, all)
+      omega (arith, cost.2, arc_bears u v cost.0 cost.1, load_is u v, one, link_within g.network.links u v cost.0 linked, all)
 
   pub prize_room : 0 < prize_in D c.q → left_of E c.q + c.y < 2 ^ 64
   prize_room some =
       let one : (if c.q == c.q then c.y else 0) ≡ c.y = rw (eq-eqb c.q c.q refl) refl in
       let most : prize_in D c.q ≤ pays g.network c.q = rw (h.left.kinds c.q) (prize_most g B c.q) in
       let all : total (λ l. l.cost) g.network.links + sum_to (pays g.network) g.network.n < 2 ^ 63 = graph.instance.amount in
-      omega (arith, h.left.prizes c.q, prize_bears c.q some, named_is c.q, one, most, pays_within g.network c.q (named_vertex g.network B c fits_alone), all)
+      omega (arith, h.left.prizes c.q, prize_bears c.q some, named_is c.q, one, most, pays_within g.network c.q (named_vertex (ground g.network) B c fits_alone), all)
 
   -- once it is given back, what is left is what the other cuts leave
   module _ (D' : Digraph) (E' : Ends) (back : Returns D D' c.set c.y) (paid : Alters E E' c.q (λ left. if nat_lt 0 (prize_in D c.q) then left + c.y else left)) where

@@ -6,9 +6,10 @@ use Rattle.std.specs.List.{AllByRecursion}
 use Rattle.std.proofs.lemmas.Bool.{cases_Bool, both_ways, ne_eqb, eq-eqb, or_cases, or_left, or_right}
 use Rattle.std.proofs.lemmas.List.Elements.{All-append, All-nil, All-weaker, recursion_from_All}
 use Rattle.st_model.specs.declared.branch.Branch.{Branch}
+use Rattle.st_model.specs.Ground.{ground}
 use Rattle.st_model.specs.Lists.{has, total}
-use Rattle.st_model.specs.Network.{Network, IsVertex, link, pays, is_required}
-use Rattle.st_model.specs.Branch.{IsVertexSet, is_present, is_certain, is_undecided, with_inside}
+use Rattle.st_model.specs.Network.{Network, IsVertex, pays, is_required}
+use Rattle.st_model.specs.Branch.{IsVertexSet, is_present, is_certain, is_undecided, open_link, with_inside}
 use Rattle.st_model.proofs.Halves.{has-with_vertex}
 use Rattle.st_model.proofs.Sums.{total-append}
 use Rattle.graph_store.specs.Graph.{Graph, IsGraph}
@@ -18,7 +19,7 @@ use Rattle.bidirected_form.specs.Digraph.{Digraph, kind_of, remaining}
 use Rattle.prize_transform.specs.Twins.{Ends, left_of, prize_for}
 use Rattle.cut_packing.specs.declared.cut.Cut.{Cut}
 use Rattle.cut_packing.specs.declared.packing.Packing.{Packing}
-use Rattle.cut_packing.specs.Packing.{load, named, IsRoot, CutFits, ArcsFit, PrizesFit, Fits, weight}
+use Rattle.cut_packing.specs.Packing.{load, named, IsRoot, CutFits, ArcsFit, PrizesFit, Fits, base_weight}
 use Rattle.cut_packing.specs.Full.{IsSaturated, IsReached, IsFull, here as at_root, there as along}
 use Rattle.graph_store.specs.Whole.{IsWhole}
 use Rattle.cut_packing.proofs.Duality.{named_vertex}
@@ -40,7 +41,7 @@ pub named_within : (g : Graph) (B : Branch) (P : Packing) (v : ℕ) → IsGraph 
 named_within g B P v graph whole fits free = by_open (is_open g B v) refl
   where
     other : is_open g B v ≡ false → (c : Cut) → CutFits g.network B c → c.q ≢ v
-    other gone c cut same = both_ways (is_open g B v) gone (subst (λ w. IsTrue (is_open g B w)) same (open_vertex g B c.q whole (named_vertex g.network B c cut) cut.present))
+    other gone c cut same = both_ways (is_open g B v) gone (subst (λ w. IsTrue (is_open g B w)) same (open_vertex g B c.q whole (named_vertex (ground g.network) B c cut) cut.present))
 
     unnamed : is_open g B v ≡ false → named P.cuts v ≡ 0
     unnamed gone = named_none v P.cuts (recursion_from_All (λ c. c.q ≢ v) P.cuts (All-weaker (CutFits g.network B) (λ c. c.q ≢ v) (other gone) P.cuts fits.cuts))
@@ -72,9 +73,9 @@ module _ (g : Graph) (B : Branch) (P : Packing) (D : Digraph) (E : Ends) (h : Is
   }
 
   arcs_fit : IsGraph g → ((u v r : ℕ) → remaining D u v ≡ Some r → load A.cuts (u, v) ≤ r) → ArcsFit g.network B (joined P A).cuts
-  arcs_fit graph borne u v tail head = by_price (link g.network.links u v) refl
+  arcs_fit graph borne u v tail head = by_price (open_link g.network B u v) refl
     where
-      by_price : (price : Option ℕ) → link g.network.links u v ≡ price → IfSome price (λ p. load (joined P A).cuts (u, v) ≤ p)
+      by_price : (price : Option ℕ) → open_link g.network B u v ≡ price → IfSome price (λ p. load (joined P A).cuts (u, v) ≤ p)
       by_price None cost = tt
       by_price (Some p) cost =
           let left = arc_left u v p (linked_cost g B u v p graph h.whole tail head cost) in
@@ -137,7 +138,7 @@ module _ (g : Graph) (B : Branch) (P : Packing) (D : Digraph) (E : Ends) (h : Is
   both_weigh : total (λ c. c.y) (joined P A).cuts ≡ total (λ c. c.y) P.cuts + raised A.cuts
   both_weigh = total-append (λ c. c.y) P.cuts A.cuts
 
-  pub together_fit : IsGraph g → IsVertex g.network.n D.root → FitsLeft D E A → Fits g.network B (joined P A) × (weight g.network B (joined P A) ≡ weight g.network B P + raised A.cuts)
+  pub together_fit : IsGraph g → IsVertex g.network.n D.root → FitsLeft D E A → Fits g.network B (joined P A) × (base_weight g.network B (joined P A) ≡ base_weight g.network B P + raised A.cuts)
   together_fit graph vertex a = (
     record {
       root = rw a.root root_fits;
@@ -157,7 +158,7 @@ module _ (g : Graph) (B : Branch) (P : Packing) (D : Digraph) (E : Ends) (h : Is
       }
 
   -- cuts for one vertex name no other one
-  pub inside_fit : (v : ℕ) → IsGraph g → IsVertex g.network.n D.root → IsTrue (is_undecided B v) → AreCutsFor D v A → Fits g.network (with_inside B v) (joined P A) × (weight g.network (with_inside B v) (joined P A) ≡ weight g.network B P + raised A.cuts)
+  pub inside_fit : (v : ℕ) → IsGraph g → IsVertex g.network.n D.root → IsTrue (is_undecided B v) → AreCutsFor D v A → Fits g.network (with_inside B v) (joined P A) × (base_weight g.network (with_inside B v) (joined P A) ≡ base_weight g.network B P + raised A.cuts)
   inside_fit v graph vertex undecided a = (
     record {
       root = rw a.root root_fits;

@@ -6,9 +6,11 @@ use Rattle.std.proofs.lemmas.Bool.{and_parts, and_from, or_cases, both_ways, cas
 use Rattle.std.proofs.lemmas.List.Elements.{recursion_from_All}
 use Rattle.st_model.specs.declared.branch.Branch.{Branch}
 use Rattle.st_model.specs.Lists.{has}
-use Rattle.st_model.specs.Network.{Network, IsVertex, IsLinkBetween, link, is_required, pays}
-use Rattle.st_model.specs.Branch.{IsBranch, LeavesRequired, is_present, is_certain, is_undecided}
+use Rattle.st_model.specs.Ground.{ground}
+use Rattle.st_model.specs.Network.{Network, IsVertex, IsLinkBetween, is_required, pays}
+use Rattle.st_model.specs.Branch.{IsBranch, LeavesRequired, is_present, is_certain, is_undecided, open_link}
 use Rattle.st_model.proofs.Distinct.{link-comm}
+use Rattle.st_model.proofs.Pairs.{open_parts}
 use Rattle.graph_store.specs.Graph.{Graph, IsGraph, is_in}
 use Rattle.graph_store.proofs.PutLinks.{in_range}
 use Rattle.bidirected_form.specs.declared.kind.VertexKind.TheVariants.{Outside, Must, May}
@@ -86,18 +88,19 @@ prize_most g B v = by_case (is_open g B v) (is_required g.network v || has B.ins
     by_case true false = omega arith
     by_case false certain = omega arith
 
--- a link between vertices that aren't outside is an arc
-pub linked_cost : (g : Graph) (B : Branch) (u v price : ℕ) → IsGraph g → IsWhole g → IsTrue (is_present B u) → IsTrue (is_present B v) → link g.network.links u v ≡ Some price → arc_cost g B u v ≡ Some price
+-- a link between vertices that aren't outside is an arc, unless it is barred
+pub linked_cost : (g : Graph) (B : Branch) (u v price : ℕ) → IsGraph g → IsWhole g → IsTrue (is_present B u) → IsTrue (is_present B v) → open_link g.network B u v ≡ Some price → arc_cost g B u v ≡ Some price
 linked_cost g B u v price graph whole tail head cost =
     let ends = recursion_from_All (IsLinkBetween g.network.n) g.network.links graph.instance.ends in
-    let at_tail = linked_vertex g.network.n g.network.links u v ends (ap is_some cost) in
-    let at_head = linked_vertex g.network.n g.network.links v u ends (ap is_some (link-comm g.network.links v u ∙ cost)) in
+    let linked = (open_parts (ground g.network) B u v (ap is_some cost)).1 in
+    let at_tail = linked_vertex g.network.n g.network.links u v ends linked in
+    let at_head = linked_vertex g.network.n g.network.links v u ends (ap is_some (link-comm g.network.links v u) ∙ linked) in
     rw (open_vertex g B u whole at_tail tail, open_vertex g B v whole at_head head) cost
 
 -- and an arc is such a link
-pub cost_linked : (g : Graph) (B : Branch) (u v price : ℕ) → arc_cost g B u v ≡ Some price → IsTrue (is_present B u) × IsTrue (is_present B v) × (link g.network.links u v ≡ Some price)
+pub cost_linked : (g : Graph) (B : Branch) (u v price : ℕ) → arc_cost g B u v ≡ Some price → IsTrue (is_present B u) × IsTrue (is_present B v) × (open_link g.network B u v ≡ Some price)
 cost_linked g B u v price = by_case (is_open g B u && is_open g B v) refl
   where
-    by_case : (b : Bool) → (is_open g B u && is_open g B v) ≡ b → (if b then link g.network.links u v else None) ≡ Some price → IsTrue (is_present B u) × IsTrue (is_present B v) × (link g.network.links u v ≡ Some price)
+    by_case : (b : Bool) → (is_open g B u && is_open g B v) ≡ b → (if b then open_link g.network B u v else None) ≡ Some price → IsTrue (is_present B u) × IsTrue (is_present B v) × (open_link g.network B u v ≡ Some price)
     by_case false gone e = absurd (let clash : ⊥ = cc in clash)
     by_case true both cost = let parts = and_parts (is_open g B u) (is_open g B v) both in (open_present g B u parts.0, open_present g B v parts.1, cost)

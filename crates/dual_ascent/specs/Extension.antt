@@ -4,7 +4,7 @@ use Rattle.st_model.specs.declared.branch.Branch.{Branch}
 use Rattle.st_model.specs.Network.{Network, IsVertex}
 use Rattle.st_model.specs.Branch.{IsVertexSet, IsBranch, LeavesRequired, is_certain}
 use Rattle.cut_packing.specs.declared.packing.Packing.{Packing}
-use Rattle.cut_packing.specs.Packing.{Fits, weight}
+use Rattle.cut_packing.specs.Packing.{Fits, base_weight}
 use Rattle.cut_packing.specs.Full.{IsFull}
 use Rattle.dual_ascent.specs.declared.ascent.Ascent.{Ascent}
 use Rattle.dual_ascent.specs.declared.ascent.Ascent.TheVariants.{Full, Reached}
@@ -22,19 +22,19 @@ pub record IsRootFor (I : Network) (B : Branch) (P : Packing) (root : ℕ) : Typ
   pub certain : IsTrue (is_certain I B root)
   pub same : (P.cuts ≡ []) ⊎ (P.root ≡ Some root)
 
--- a packing that fits as well, and is no lighter
+-- a packing that fits as well, of no less base weight: where two links that are a must enter a cut that is added, it may weigh less by `weight`
 pub record IsExtended (I : Network) (B : Branch) (P new : Packing) (root : ℕ) : Type 0 where
   pub rooted : new.root ≡ Some root
   pub fits : Fits I B new
-  pub no_lighter : weight I B P ≤ weight I B new
+  pub no_lighter : base_weight I B P ≤ base_weight I B new
   pub sets : All (λ c. IsVertexSet I.n c.set) new.cuts
   -- so that they can be counted in 64 bits
   pub few : length new.cuts < 2 ^ 64
 
--- it weighs just as much more as was asked for; or it weighs less, and is full
+-- its base weight is just as much more as was asked for; or it is less than that, and the packing is full
 abbrev pub IsExtension : Network → Branch → Packing → ℕ → ℕ → Ascent → Type 0
-IsExtension I B P root target (Full new) = IsExtended I B P new root × (weight I B new < weight I B P + target) × IsFull I B new
-IsExtension I B P root target (Reached new) = IsExtended I B P new root × (weight I B new ≡ weight I B P + target)
+IsExtension I B P root target (Full new) = IsExtended I B P new root × (base_weight I B new < base_weight I B P + target) × IsFull I B new
+IsExtension I B P root target (Reached new) = IsExtended I B P new root × (base_weight I B new ≡ base_weight I B P + target)
 
 -- the cuts of the packing
 abbrev pub packing_of : Ascent → Packing

@@ -7,7 +7,7 @@ use Rattle.graph_store.specs.Graph.{Graph, IsGraph}
 use Rattle.bidirected_form.specs.Digraph.{Digraph}
 use Rattle.prize_transform.specs.Twins.{Ends}
 use Rattle.cut_packing.specs.declared.packing.Packing.{Packing}
-use Rattle.cut_packing.specs.Packing.{Fits, weight}
+use Rattle.cut_packing.specs.Packing.{Fits, base_weight}
 use Rattle.cut_packing.specs.Full.{IsFull}
 use Rattle.graph_store.specs.Whole.{IsWhole}
 use Rattle.dual_ascent.specs.declared.ascent.Ascent.{Ascent}
@@ -35,15 +35,15 @@ pub record IsCharged (g : Graph) (B : Branch) (P : Packing) (D : Digraph) (E : E
   pub certain : IsTrue (is_certain g.network B D.root)
   pub root : (P.cuts ≡ []) ⊎ (P.root ≡ Some D.root)
 
--- with a packing that fits what is left it fits the branch, and both together weigh what both weigh
+-- with a packing that fits what is left it fits the branch, and the base weight of both is its own and what the other one's cuts raise it by
 abbrev pub JoinedFits : Type 0
 JoinedFits = (g : Graph) (B : Branch) (P : Packing) (D : Digraph) (E : Ends) (A : Packing) → IsGraph g → IsVertex g.network.n D.root → IsCharged g B P D E → FitsLeft D E A
-    → Fits g.network B (joined P A) × (weight g.network B (joined P A) ≡ weight g.network B P + raised A.cuts)
+    → Fits g.network B (joined P A) × (base_weight g.network B (joined P A) ≡ base_weight g.network B P + raised A.cuts)
 
 -- with cuts for an undecided vertex it fits the half where that is inside
 abbrev pub JoinedInsideFits : Type 0
 JoinedInsideFits = (g : Graph) (B : Branch) (P : Packing) (D : Digraph) (E : Ends) (v : ℕ) (A : Packing) → IsGraph g → IsVertex g.network.n D.root → IsCharged g B P D E → IsTrue (is_undecided B v) → AreCutsFor D v A
-    → Fits g.network (with_inside B v) (joined P A) × (weight g.network (with_inside B v) (joined P A) ≡ weight g.network B P + raised A.cuts)
+    → Fits g.network (with_inside B v) (joined P A) × (base_weight g.network (with_inside B v) (joined P A) ≡ base_weight g.network B P + raised A.cuts)
 
 -- with cuts past which the root reaches all it is full
 abbrev pub JoinedIsFull : Type 0

@@ -1,6 +1,6 @@
 ghost use Rattle.std.specs.Prelude.{◌≡◌, ◌≤◌, false, All, IfOk, OnOk, slice_index_or};
 ghost use Rattle.st_model.specs.Branch.{IsVertexSet};
-ghost use Rattle.cut_packing.specs.Packing.{weight};
+ghost use Rattle.cut_packing.specs.Packing.{base_weight};
 ghost use Rattle.dual_ascent.specs.Freed.{without_freed};
 ghost use Rattle.dual_ascent.specs.Laws.{IsCharged};
 ghost use Rattle.dual_ascent.specs.Left.{AreEndsOf};
@@ -33,7 +33,7 @@ pub fn free(
     ensures root { OnOk result (left.new.arcs.root ≡ left.old.arcs.root) }
     ensures sets { IfOk result (λ P. All (λ c. IsVertexSet store.now.network.n c.set) P.cuts) }
     ensures lighter { IfOk result (λ P.
-        weight store.now.network branch.now P ≤ weight store.now.network branch.now packing.now) }
+        base_weight store.now.network branch.now P ≤ base_weight store.now.network branch.now packing.now) }
 {
     prove!(left.arcs.vertices() == store.vertices());
     let mut cuts = Vec::new(alloc);

@@ -1,8 +1,8 @@
 //! The program `known_optima`: solves each file that its words name, with a log, and checks the
-//! log; once more plainly, without reduction steps, and once more by four workers. It writes the
-//! file's name, how each solving ended, and what each check says, and of logs that delete five vertices
-//! or more in a row that they do. Its own data are files whose optimum programs apart from this project
-//! found.
+//! log; once more plainly, without reduction steps, once more by four workers, and once more with splits
+//! at links. It writes the file's name, how each solving ended, and what each check says, and of logs
+//! that delete five vertices or more in a row that they do. Its own data are files whose optimum programs
+//! apart from this project found.
 #![tactic(auto)]
 
 use st_edge::{DiskShelf, MemorySink, Shelf, Sink, StdSink, send_all};
@@ -26,6 +26,8 @@ const PLAIN: &[&str] = &["--log", "log", "--plain"];
 
 const BY_FOUR: &[&str] = &["--log", "log", "--workers", "4"];
 
+const AT_LINKS: &[&str] = &["--log", "log", "--links"];
+
 fn main(rt: HostRuntime) -> ExitCode {
     let Ok(names) = env::args(&rt) else {
         return ExitCode::from(Status::NoMemory.code());
@@ -33,7 +35,7 @@ fn main(rt: HostRuntime) -> ExitCode {
     let mut shelf = DiskShelf::new(&rt);
     let mut out = StdSink::new(&rt);
     for name in names.skip(1) {
-        for words in [BY_FOUR, PLAIN, REDUCED] {
+        for words in [AT_LINKS, BY_FOUR, PLAIN, REDUCED] {
             if tell(&rt, rt.alloc(), &name, words, &mut shelf, &mut out).is_err() {
                 return ExitCode::from(Status::NoMemory.code());
             }

@@ -11,19 +11,21 @@ use Rattle.st_model.specs.declared.tree.Tree.{Tree}
 use Rattle.st_model.specs.Lists.{has, total, sum_to}
 use Rattle.st_model.specs.Network.{Network, IsInstance, IsVertex, link, pays}
 use Rattle.st_model.specs.Arborescence.{IsArborescence, reached, arc_cost, missed, cost}
-use Rattle.st_model.specs.Branch.{IsVertexSet, is_present, is_certain}
+use Rattle.st_model.specs.Ground.{ground}
+use Rattle.st_model.specs.Branch.{IsVertexSet, is_present, is_certain, open_link}
 use Rattle.st_model.specs.Made.{is_between, has_pair, IsMadeOf, AreConnectedFrom}
 use Rattle.st_model.proofs.Links.{linked_in_range}
-use Rattle.st_model.proofs.Distinct.{between-ends, total-arc_cost_made}
+use Rattle.st_model.proofs.Distinct.{between-ends, link-comm, total-arc_cost_made}
 use Rattle.st_model.proofs.Sums.{sum_to_same, sum_to_none}
 use Rattle.cut_packing.specs.declared.cut.Cut.{Cut}
-use Rattle.cut_packing.specs.Packing.{load, named, CutFits, Fits, outside_pays, weight}
+use Rattle.cut_packing.specs.Packing.{load, named, CutFits, Fits, outside_pays, base_weight}
 use Rattle.st_model.proofs.Marked.{at_member}
 use Rattle.st_model.proofs.Members.{has-one}
 use Rattle.st_model.proofs.Reaching.{one_side, reached_in, tree-vertex}
 use Rattle.st_model.proofs.ThinGrowth.{has-reached_from}
 use Rattle.cut_packing.proofs.Turned.{turned, entered}
-use Rattle.cut_packing.proofs.Charged.{charged, turned_bears}
+use Rattle.cut_packing.proofs.Charged.{charged}
+use Rattle.cut_packing.proofs.Duality.{turned_bears}
 use Rattle.level_packing.specs.Forest.{Groups, IsPresent, IsForest, IsToCome, cluster_of, members_of, level}
 use Rattle.level_packing.specs.Growing.{IsAlone}
 use Rattle.level_packing.specs.Spanning.{IsSpanning}
@@ -103,6 +105,15 @@ prizes_free I B cuts q certain fit vertex free = by_case (is_present B q) refl
     by_case true is = absurd (false≢true (sym free ∙ certain q (record { vertex = vertex; present = is })))
     by_case false is = omega (arith, unnamed B q cuts is (recursion_from_All _ cuts (All-weaker (CutFits I B) (λ c. IsTrue (is_present B c.q)) (λ c fits. fits.present) cuts fit)))
 
+-- where no link is barred, arcs cost what their links do
+open_left : (I : Network) (B : Branch) (u v : ℕ) → ((u v : ℕ) → IsSome (link I.links u v) → IsFalse (has_pair B.barred u v)) → open_link I B u v ≡ link I.links u v
+open_left I B u v left = by_case (has_pair B.barred u v) (link I.links u v) (left u v)
+  where
+    by_case : (b : Bool) (price : Option ℕ) → (IsSome price → IsFalse b) → cond b None price ≡ price
+    by_case true None h = refl
+    by_case true (Some c) h = absurd (false≢true (sym (h refl)))
+    by_case false price h = refl
+
 -- a link between present vertices is between vertices
 linked_present : (I : Network) (B : Branch) (u v : ℕ) (P : ℕ → Type 0) → IsInstance I → IsTrue (is_present B u) → IsTrue (is_present B v) → (IsPresent I B u → IsPresent I B v → IfSome (link I.links u v) P) → IfSome (link I.links u v) P
 linked_present I B u v P instance pu pv h = by_case (link I.links u v) (linked_in_range I.n I.links u v instance.ends) h
@@ -111,14 +122,14 @@ linked_present I B u v P instance pu pv h = by_case (link I.links u v) (linked_i
     by_case None in_range h = tt
     by_case (Some price) in_range h = h (record { vertex = in_range.0; present = pu }) (record { vertex = in_range.1; present = pv })
 
-module _ (I : Network) (B : Branch) (root limit : ℕ) (F : Groups) (instance : IsInstance I) (certain : (v : ℕ) → IsPresent I B v → IsTrue (is_certain I B v)) (forest : IsForest I B root limit [] F) where
+module _ (I : Network) (B : Branch) (root limit : ℕ) (F : Groups) (instance : IsInstance I) (left : (u v : ℕ) → IsSome (link I.links u v) → IsFalse (has_pair B.barred u v)) (certain : (v : ℕ) → IsPresent I B v → IsTrue (is_certain I B v)) (forest : IsForest I B root limit [] F) where
   -- the cuts, where all present vertices are in one cluster
   module _ (one : (v : ℕ) → IsPresent I B v → cluster_of F v ≡ cluster_of F root) where
     pub all_fit : Fits I B (record { root = Some root; cuts = F.cuts })
     all_fit = record {
       root = record { vertex = forest.rooted.vertex; certain = certain root forest.rooted; same = tt; apart = forest.levels.apart_from_root };
       cuts = forest.levels.cuts;
-      arcs = λ u v pu pv. linked_present I B u v (λ price. load F.cuts (u, v) ≤ price) instance pu pv (λ u_here v_here. forest.levels.within u v u_here v_here (one u u_here ∙ sym (one v v_here)));
+      arcs = λ u v pu pv. rw (open_left I B u v left) (linked_present I B u v (λ price. load F.cuts (u, v) ≤ price) instance pu pv (λ u_here v_here. forest.levels.within u v u_here v_here (one u u_here ∙ sym (one v v_here))));
       prizes = λ q vertex free. prizes_free I B F.cuts q certain forest.levels.cuts vertex free;
     }
 
@@ -154,8 +165,8 @@ module _ (I : Network) (B : Branch) (root limit : ℕ) (F : Groups) (instance : 
 
       links_at_least : total (λ c. c.y) F.cuts ≤ total (arc_cost I) t.arcs
       links_at_least =
-          let entries = charged (λ _. true) (turned t.arcs root) F.cuts (recursion_from_All _ F.cuts (λ k d below. λ _. entered I _ t.start root _ t.arcs arborescence.grows root_reached (forest.levels.apart_from_root k d below) (q_reached _ (forest.levels.cuts k d below)) (forest.levels.cuts k d below).member)) in
-          let bears = turned_bears I (load F.cuts) root (t.start ∷ []) t.arcs arborescence.grows (λ u v u_there v_there. all_fit.arcs u v (reached_present u u_there) (reached_present v v_there)) in
+          let entries = charged (λ _. true) (turned t.arcs root) F.cuts (recursion_from_All _ F.cuts (λ k d below. λ _. entered (ground I) _ t.start root _ t.arcs arborescence.grows root_reached (forest.levels.apart_from_root k d below) (q_reached _ (forest.levels.cuts k d below)) (forest.levels.cuts k d below).member)) in
+          let bears = turned_bears (ground I) (load F.cuts) root (t.start ∷ []) t.arcs (link-comm I.links) arborescence.grows (λ u v u_there v_there. rw (open_left I B u v left) at (all_fit.arcs u v (reached_present u u_there) (reached_present v v_there))) in
           omega (arith, entries, bears)
         where
           q_reached : (c : Cut) → CutFits I B c → has (reached t) c.q ≡ true
@@ -179,7 +190,7 @@ module _ (I : Network) (B : Branch) (root limit : ℕ) (F : Groups) (instance : 
           same true p e = rw e refl
           same false p e = rw e refl
 
-      pub weighs : weight I B (record { root = Some root; cuts = F.cuts }) ≡ cost I t
+      pub weighs : base_weight I B (record { root = Some root; cuts = F.cuts }) ≡ cost I t
       weighs = omega (arith, links_at_most, links_at_least, no_levels, missed_outside, forest.levels.balance)
 
   -- a cut round a cluster that isn't the root's, of any value
@@ -213,7 +224,7 @@ module _ (I : Network) (B : Branch) (root limit : ℕ) (F : Groups) (instance : 
     wall_fits = record {
       root = record { vertex = forest.rooted.vertex; certain = certain root forest.rooted; same = tt; apart = All-cons (λ (c : Cut). IsFalse (has c.set root)) _ [] (not_in_wall root (λ e. apart (sym e))) (All-nil (λ (c : Cut). IsFalse (has c.set root))) };
       cuts = wall_cut_fits;
-      arcs = λ u v pu pv. linked_present I B u v (λ price. load (record { set = inside; q = cluster_of F vertex; y = target } ∷ []) (u, v) ≤ price) instance pu pv (λ u_here v_here. arc u v u_here v_here (cases_eq (cluster_of F u) (cluster_of F v)));
+      arcs = λ u v pu pv. rw (open_left I B u v left) (linked_present I B u v (λ price. load (record { set = inside; q = cluster_of F vertex; y = target } ∷ []) (u, v) ≤ price) instance pu pv (λ u_here v_here. arc u v u_here v_here (cases_eq (cluster_of F u) (cluster_of F v))));
       prizes = λ q q_vertex free. prizes_free I B (record { set = inside; q = cluster_of F vertex; y = target } ∷ []) q certain wall_cut_fits q_vertex free;
     }
       where
@@ -230,7 +241,7 @@ module _ (I : Network) (B : Branch) (root limit : ℕ) (F : Groups) (instance : 
             alike (inl at) = in_wall u pu (together ∙ at) ∙ sym (in_wall v pv at)
             alike (inr off) = not_in_wall u (λ e. off (sym together ∙ e)) ∙ sym (not_in_wall v off)
 
-    pub wall_weighs : target ≤ weight I B (record { root = Some root; cuts = record { set = inside; q = cluster_of F vertex; y = target } ∷ [] })
+    pub wall_weighs : target ≤ base_weight I B (record { root = Some root; cuts = record { set = inside; q = cluster_of F vertex; y = target } ∷ [] })
     wall_weighs = omega arith
 
     -- no tree reaches all present vertices and no other

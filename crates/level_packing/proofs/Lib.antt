@@ -6,3 +6,4 @@ pub mod Pouring
 pub mod Counted
 pub mod Taking
 pub mod Ending
+pub mod Settling

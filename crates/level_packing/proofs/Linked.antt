@@ -1,5 +1,5 @@
 -- The links between present vertices.
-use Rattle.std.proofs.Common.{◌≡◌, ℕ, zero, suc, ◌<◌, ◌≤◌, Bool, true, false, not, ◌&&◌, cond, List, [], ◌∷◌, length, get_or, refl, sym, ◌∙◌, inl, inr, arith}
+use Rattle.std.proofs.Common.{◌≡◌, ℕ, zero, suc, ◌<◌, Bool, true, false, ◌&&◌, cond, List, [], ◌∷◌, length, get_or, refl, sym, ◌∙◌, inl, inr, arith}
 use Rattle.std.specs.Prelude.{All, AllPairs, Any, IsTrue, IsFalse, IfSome, IsPermutation, Option, Some, None, filter}
 use Rattle.std.specs.List.{AllByRecursion}
 use Rattle.std.proofs.lemmas.Bool.{false≢true}
@@ -9,10 +9,9 @@ use Rattle.std.proofs.lemmas.Bool.Decides.{nat_tests}
 use Rattle.std.proofs.lemmas.List.Elements.{All-from_recursion, recursion_from_All}
 use Rattle.st_model.specs.declared.branch.Branch.{Branch}
 use Rattle.st_model.specs.declared.link.Link.{Link}
-use Rattle.st_model.specs.Lists.{has}
-use Rattle.st_model.specs.Network.{Network, IsInstance, IsLinkBetween, IsVertex, joins, link}
+use Rattle.st_model.specs.Network.{Network, IsInstance, IsLinkBetween, joins, link}
 use Rattle.st_model.specs.Branch.{is_present}
-use Rattle.level_packing.specs.Forest.{IsPresent, IsPresentLink, IsToCome, has_present_ends}
+use Rattle.level_packing.specs.Forest.{IsPresentLink, IsToCome, has_present_ends}
 
 joins_either : (l m : Link) → joins l m.a m.b ≡ joins m l.a l.b
 joins_either l m = grind (arith, nat_tests)

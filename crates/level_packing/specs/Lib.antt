@@ -1,3 +1,4 @@
 pub mod Spanning
 pub mod Forest
 pub mod Growing
+pub mod Settled

@@ -1,34 +1,67 @@
-ghost use Rattle.std.specs.Prelude.{◌≡◌, ◌≢◌, ◌≤◌, ℕ, [], IfOk, IfSome, IsTrue, All};
+ghost use Rattle.std.specs.Prelude.{◌≡◌, ◌≢◌, ◌≤◌, ℕ, [], ◌↔◌, IfOk, IfSome, IsSome, IsTrue, IsFalse, All};
 ghost use Rattle.std.specs.List.Sorted.{IsNonDecreasingBy};
 ghost use Rattle.st_model.specs.Network.{IsInstance, link};
-ghost use Rattle.st_model.specs.Branch.{is_certain};
+ghost use Rattle.st_model.specs.Branch.{IsBranch, IsPlain, is_certain};
+ghost use Rattle.st_model.specs.Made.{has_pair};
 ghost use Rattle.level_packing.specs.Forest.{IsGrown, IsPresent, IsPresentLink, IsToCome, groups, cluster_of};
-ghost use Rattle.level_packing.specs.Spanning.{IsLeaf, HasFewCuts, HasSets};
+ghost use Rattle.level_packing.specs.Spanning.{IsLeaf, IsBaseLeaf, HasFewCuts, HasSets};
 
 use crate::Leaf;
 use crate::ascending::ascending;
 use crate::forest::{Forest, alone};
 use crate::present::present_links;
 use crate::search::{first_apart, first_present};
+use crate::settled::settled;
 use cut_packing::{Cut, Packing, SharedSet};
-use st_model::{Instance, Link, Listed, Sides, thin};
+use st_model::{Branch, Instance, Link, Listed, Sides, thin};
 use std::alloc::{AllocError, Global};
 
 /// Closes a branch in which each present vertex is required or inside: by a tree that reaches
-/// exactly the present vertices with a packing that weighs what the tree costs, or, where there
-/// is no such tree, by a packing that weighs at least the target: one cut of this value. There are
-/// at most two cuts for each vertex. Takes time near-linear in the links and in the size of the
-/// cuts' sets together.
+/// exactly the present vertices and uses no barred link, with a packing that weighs at least what the
+/// tree costs, and just that where no link is a must; or, where there is no such tree, by a packing
+/// that weighs at least the target: one cut of this value. There are at most two cuts for each
+/// vertex. Takes time near-linear in the links and in the size of the cuts' sets together.
 pub fn close_all(
     alloc: Global,
     instance: &Instance,
     branch: &Sides,
     target: u64,
 ) -> Result<Leaf, AllocError>
+    requires branch { IsBranch instance.now branch.now }
     requires certain { (v : ℕ) → IsPresent instance.now branch.now v
         → IsTrue (is_certain instance.now branch.now v) }
     requires some { (v : ℕ) × IsPresent instance.now branch.now v }
     ensures closed { IfOk result (IsLeaf instance.now branch.now target) }
+    ensures sets { IfOk result (HasSets instance.now.n) }
+    ensures few { IfOk result (HasFewCuts instance.now.n target) }
+{
+    if is_plain(branch.branch()) {
+        return close_settled(alloc, instance, branch, target);
+    }
+    let settled = settled(alloc, instance, branch)?;
+    close_settled(alloc, &settled, branch, target)
+}
+
+// Whether a branch says nothing of any link.
+fn is_plain(branch: &Branch) -> bool
+    ensures { IsTrue result ↔ IsPlain branch.now }
+{
+    branch.must.as_slice().is_empty() && branch.barred.as_slice().is_empty()
+}
+
+// Closes a branch over an instance in which no link is barred.
+fn close_settled(
+    alloc: Global,
+    instance: &Instance,
+    branch: &Sides,
+    target: u64,
+) -> Result<Leaf, AllocError>
+    requires left { (u v : ℕ) → IsSome (link instance.now.links u v)
+        → IsFalse (has_pair branch.now.barred u v) }
+    requires certain { (v : ℕ) → IsPresent instance.now branch.now v
+        → IsTrue (is_certain instance.now branch.now v) }
+    requires some { (v : ℕ) × IsPresent instance.now branch.now v }
+    ensures closed { IfOk result (IsBaseLeaf instance.now branch.now target) }
     ensures sets { IfOk result (HasSets instance.now.n) }
     ensures few { IfOk result (HasFewCuts instance.now.n target) }
 {
@@ -74,13 +107,15 @@ fn spanned(
     root: u32,
     forest: Forest,
 ) -> Result<Leaf, AllocError>
+    requires left { (u v : ℕ) → IsSome (link instance.now.links u v)
+        → IsFalse (has_pair branch.now.barred u v) }
     requires certain { (v : ℕ) → IsPresent instance.now branch.now v
         → IsTrue (is_certain instance.now branch.now v) }
     requires instance { IsInstance instance.now }
     requires grown { IsGrown instance.now branch.now root [] (groups forest) }
     requires one { (v : ℕ) → IsPresent instance.now branch.now v
         → cluster_of (groups forest) v ≡ cluster_of (groups forest) root }
-    ensures closed { IfOk result (IsLeaf instance.now branch.now target) }
+    ensures closed { IfOk result (IsBaseLeaf instance.now branch.now target) }
     ensures sets { IfOk result (HasSets instance.now.n) }
     ensures few { IfOk result (HasFewCuts instance.now.n target) }
 {
@@ -104,13 +139,15 @@ fn wall(
     forest: Forest,
     vertex: u32,
 ) -> Result<Leaf, AllocError>
+    requires left { (u v : ℕ) → IsSome (link instance.now.links u v)
+        → IsFalse (has_pair branch.now.barred u v) }
     requires certain { (v : ℕ) → IsPresent instance.now branch.now v
         → IsTrue (is_certain instance.now branch.now v) }
     requires instance { IsInstance instance.now }
     requires grown { IsGrown instance.now branch.now root [] (groups forest) }
     requires vertex { IsPresent instance.now branch.now vertex }
     requires apart { cluster_of (groups forest) vertex ≢ cluster_of (groups forest) root }
-    ensures closed { IfOk result (IsLeaf instance.now branch.now target) }
+    ensures closed { IfOk result (IsBaseLeaf instance.now branch.now target) }
     ensures sets { IfOk result (HasSets instance.now.n) }
     ensures few { IfOk result (HasFewCuts instance.now.n target) }
 {

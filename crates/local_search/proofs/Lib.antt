@@ -1,1 +1,1 @@
-pub mod Belonging
+pub mod Reached

@@ -1,6 +1,6 @@
 ghost use Rattle.std.specs.Prelude.{◌≡◌, ◌≤◌, IfOk};
 ghost use Rattle.st_model.specs.Arborescence.{IsTree, cost};
-ghost use Rattle.st_model.specs.Branch.{Belongs, IsBranch};
+ghost use Rattle.st_model.specs.Branch.{IsBranch, ReachesAsTold};
 ghost use Rattle.local_search.specs.Better.{IsNoDearer};
 
 use crate::branches::without_branches;
@@ -20,13 +20,13 @@ const ROUNDS: u64 = 20;
 // How many links all rounds go over together, about: up to 20,000 links all rounds are made, and above 200,000 one.
 const SHARE: u64 = 400_000;
 
-/// A tree of the branch that costs no more than the one that is given.
+/// A tree that reaches what the branch says and costs no more than the one that is given.
 pub fn improve(alloc: Global, whole: &Whole, branch: &Sides, tree: Tree) -> Result<Tree, AllocError>
     requires branch { IsBranch whole.now.instance branch.now }
     requires tree { IsTree whole.now.instance tree }
-    requires belongs { Belongs branch.now tree }
+    requires reaches { ReachesAsTold branch.now tree }
     ensures tree { IfOk result (IsTree whole.now.instance) }
-    ensures belongs { IfOk result (Belongs branch.now) }
+    ensures reaches { IfOk result (ReachesAsTold branch.now) }
     ensures cost { IfOk result (λ new. cost whole.now.instance new ≤ cost whole.now.instance tree) }
 {
     let graph = MoveGraph::of(alloc, &whole.store, branch, Noise::none())?;
@@ -56,7 +56,7 @@ fn moved(
 ) -> Result<Tree, AllocError>
     requires branch { IsBranch whole.now.instance branch.now }
     requires tree { IsTree whole.now.instance tree }
-    requires belongs { Belongs branch.now tree }
+    requires reaches { ReachesAsTold branch.now tree }
     ensures { IfOk result (IsNoDearer whole.now.instance branch.now tree) }
 {
     let instance = &whole.instance;
@@ -79,7 +79,7 @@ fn exchanged(
 ) -> Result<Tree, AllocError>
     requires branch { IsBranch whole.now.instance branch.now }
     requires tree { IsTree whole.now.instance tree }
-    requires belongs { Belongs branch.now tree }
+    requires reaches { ReachesAsTold branch.now tree }
     ensures { IfOk result (IsNoDearer whole.now.instance branch.now tree) }
 {
     let instance = &whole.instance;

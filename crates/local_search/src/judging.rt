@@ -1,14 +1,14 @@
 ghost use Rattle.std.specs.Prelude.{◌≡◌, ◌↔◌, ℕ, IfOk, IfSome, IfNone, IsFalse, IsTrue, All, map};
 ghost use Rattle.std.specs.Bool.{OnTrue};
 ghost use Rattle.st_model.specs.Arborescence.{IsArborescence, IsTree, reached};
-ghost use Rattle.st_model.specs.Branch.{Belongs, IsBranch};
+ghost use Rattle.st_model.specs.Branch.{IsBranch, ReachesAsTold};
 ghost use Rattle.st_model.specs.Lists.{has};
 ghost use Rattle.local_search.specs.Better.{IsCheaper, IsNoDearer};
 
 use st_model::{Instance, Sides, Tree, VertexSet, is_tree, tree_cost};
 use std::alloc::{AllocError, Global};
 
-// The other tree where it is a tree of the branch and costs less, and else the first one.
+// The other one where it is a tree that reaches what the branch says and costs less, and else the first one.
 pub fn cheaper(
     alloc: Global,
     instance: &Instance,
@@ -18,7 +18,7 @@ pub fn cheaper(
 ) -> Result<Tree, AllocError>
     requires branch { IsBranch instance.now branch.now }
     requires tree { IsTree instance.now tree }
-    requires belongs { Belongs branch.now tree }
+    requires reaches { ReachesAsTold branch.now tree }
     ensures { IfOk result (IsNoDearer instance.now branch.now tree) }
 {
     if is_better(alloc, instance, branch, &tree, &other)? {
@@ -28,7 +28,8 @@ pub fn cheaper(
     }
 }
 
-// The other tree where it is a tree of the branch and costs no more, and else the first one.
+// The other one where it is a tree that reaches what the branch says and costs no more, and else the first
+// one.
 pub fn no_dearer(
     alloc: Global,
     instance: &Instance,
@@ -38,7 +39,7 @@ pub fn no_dearer(
 ) -> Result<Tree, AllocError>
     requires branch { IsBranch instance.now branch.now }
     requires tree { IsTree instance.now tree }
-    requires belongs { Belongs branch.now tree }
+    requires reaches { ReachesAsTold branch.now tree }
     ensures { IfOk result (IsNoDearer instance.now branch.now tree) }
 {
     let Some(other) = judged(alloc, instance, branch, other)? else {
@@ -51,7 +52,7 @@ pub fn no_dearer(
     }
 }
 
-// Whether the other one is a tree of the branch and costs less.
+// Whether the other one is a tree that reaches what the branch says and costs less.
 fn is_better(
     alloc: Global,
     instance: &Instance,
@@ -63,13 +64,13 @@ fn is_better(
     requires tree { IsArborescence instance.now tree.now }
     ensures { IfOk result (λ answer. OnTrue answer (IsCheaper instance.now branch.now tree.now other.now)) }
 {
-    if !is_of_branch(alloc, instance, branch, other)? {
+    if !is_tree_as_told(alloc, instance, branch, other)? {
         return Ok(false);
     }
     Ok(tree_cost(instance, other) < tree_cost(instance, tree))
 }
 
-/// The tree, where it is one of the branch; None where it isn't.
+/// The tree, where it is one that reaches what the branch says; None where it isn't.
 pub fn judged(
     alloc: Global,
     instance: &Instance,
@@ -79,41 +80,41 @@ pub fn judged(
     requires { IsBranch instance.now branch.now }
     ensures same { IfOk result (λ found. IfSome found (λ t. t ≡ tree)) }
     ensures tree { IfOk result (λ found. IfSome found (IsTree instance.now)) }
-    ensures belongs { IfOk result (λ found. IfSome found (Belongs branch.now)) }
-    ensures none { IfOk result (λ found. IfNone found (¬ (IsTree instance.now tree × Belongs branch.now tree))) }
+    ensures reaches { IfOk result (λ found. IfSome found (ReachesAsTold branch.now)) }
+    ensures none { IfOk result (λ found. IfNone found (¬ (IsTree instance.now tree × ReachesAsTold branch.now tree))) }
 {
-    if is_of_branch(alloc, instance, branch, &tree)? {
+    if is_tree_as_told(alloc, instance, branch, &tree)? {
         Ok(Some(tree))
     } else {
         Ok(None)
     }
 }
 
-// Whether this is a tree of the branch.
-fn is_of_branch(
+// Whether this is a tree that reaches what the branch says.
+fn is_tree_as_told(
     alloc: Global,
     instance: &Instance,
     branch: &Sides,
     tree: &Tree,
 ) -> Result<bool, AllocError>
     requires { IsBranch instance.now branch.now }
-    ensures { IfOk result (λ answer. IsTrue answer ↔ (IsTree instance.now tree.now × Belongs branch.now tree.now)) }
+    ensures { IfOk result (λ answer. IsTrue answer ↔ (IsTree instance.now tree.now × ReachesAsTold branch.now tree.now)) }
 {
     if !is_tree(alloc, instance, tree)? {
         return Ok(false);
     }
-    belongs(alloc, instance, branch, tree)
+    reaches_as_told(alloc, instance, branch, tree)
 }
 
 // Whether a tree reaches all vertices inside, and none outside.
-fn belongs(
+fn reaches_as_told(
     alloc: Global,
     instance: &Instance,
     branch: &Sides,
     tree: &Tree,
 ) -> Result<bool, AllocError>
     requires { IsBranch instance.now branch.now }
-    ensures { IfOk result (λ answer. IsTrue answer ↔ Belongs branch.now tree.now) }
+    ensures { IfOk result (λ answer. IsTrue answer ↔ ReachesAsTold branch.now tree.now) }
 {
     let reached = reached_list(alloc, tree)?;
     let set = VertexSet::of(alloc, instance.vertices() as usize + 1, &reached)?;

@@ -1,6 +1,6 @@
 ghost use Rattle.std.specs.Prelude.{◌≡◌, ◌≤◌, IfOk};
 ghost use Rattle.st_model.specs.Arborescence.{IsTree, cost};
-ghost use Rattle.st_model.specs.Branch.{Belongs, IsBranch};
+ghost use Rattle.st_model.specs.Branch.{IsBranch, ReachesAsTold};
 ghost use Rattle.local_search.specs.Better.{IsNoDearer};
 
 use crate::exchanging::with_exchanges;
@@ -12,9 +12,9 @@ use st_model::{Sides, Tree};
 use std::alloc::{AllocError, Global};
 use way_costs::{MoveGraph, Noise};
 
-/// A tree of the branch that costs no more than the one that is given. In each of so many steps moves go to
-/// trees that cost the same, or less, by a noise on the costs that hangs on the seed, until none does; what
-/// comes of them is improved.
+/// A tree that reaches what the branch says and costs no more than the one that is given. In each of so
+/// many steps moves go to trees that cost the same, or less, by a noise on the costs that hangs on the seed,
+/// until none does; what comes of them is improved.
 pub fn wander(
     alloc: Global,
     whole: &Whole,
@@ -25,9 +25,9 @@ pub fn wander(
 ) -> Result<Tree, AllocError>
     requires branch { IsBranch whole.now.instance branch.now }
     requires tree { IsTree whole.now.instance tree }
-    requires belongs { Belongs branch.now tree }
+    requires reaches { ReachesAsTold branch.now tree }
     ensures tree { IfOk result (IsTree whole.now.instance) }
-    ensures belongs { IfOk result (Belongs branch.now) }
+    ensures reaches { IfOk result (ReachesAsTold branch.now) }
     ensures cost { IfOk result (λ new. cost whole.now.instance new ≤ cost whole.now.instance tree) }
 {
     let mut best = tree;

@@ -4,7 +4,9 @@ use Rattle.std.proofs.lemmas.Bool.{both_ways}
 use Rattle.st_model.specs.declared.tree.Tree.{Tree}
 use Rattle.st_model.specs.Lists.{has}
 use Rattle.st_model.specs.Network.{Network, IsInstance}
+use Rattle.st_model.specs.Ground.{ground}
 use Rattle.st_model.specs.Arborescence.{IsTree, IsBound}
+use Rattle.st_model.proofs.Distinct.{link-comm}
 use Rattle.st_model.proofs.Members.{has-one}
 use Rattle.st_model.proofs.Reaching.{one_side}
 use Rattle.cut_packing.proofs.Duality.{proof_tree_bounds_lem}
@@ -28,7 +30,7 @@ bounds : (I : Network) (primal dual : ℕ) (tree : Tree) (steps : List Step) (pr
 bounds I primal dual tree steps proof instance accepts t is_tree =
     let (s, applies, (p, lines, proves)) = accepts.is_proved in
     let (left, is_left, less) = steps_keep_the_least steps (whole I) s t (whole_state I instance) applies (whole_tree I t is_tree) in
-    let bound = proof_tree_bounds_lem s.instance (left_over s) (left_of dual s) p left proves is_left.tree (belongs_left_over s left is_left) in
+    let bound = proof_tree_bounds_lem (ground s.instance) (left_over s) (left_of dual s) p left (link-comm s.instance.links) tt proves is_left.tree (belongs_left_over s left is_left) in
     omega arith
 
 -- no tree gets past a wall

@@ -1,5 +1,5 @@
 -- States that differ in the order of their links alone: the same steps may be taken in them and lead to such states again, and the same is proved of them.
-use Rattle.std.proofs.Common.{◌≡◌, ◌≢◌, ℕ, suc, ◌+◌, ◌-◌, ◌<◌, ◌≤◌, min, Bool, true, false, cond, ◌||◌, List, [], ◌∷◌, ◌++◌, length, get_or, Option, Some, None, IsSome, refl, sym, ap, subst, ◌∙◌, arith, inl, inr, ◌⊎◌, eq-eqb}
+use Rattle.std.proofs.Common.{◌≡◌, ◌≢◌, ℕ, suc, ◌+◌, ◌-◌, ◌<◌, ◌≤◌, min, max, Bool, true, false, cond, ◌||◌, List, [], ◌∷◌, ◌++◌, length, get_or, Option, Some, None, IsSome, refl, sym, ap, subst, ◌∙◌, arith, inl, inr, ◌⊎◌, eq-eqb}
 use Rattle.std.specs.Prelude.{IfSome, IsTrue, IsFalse, MatchOption, ◌==◌, unwrap_or, AllPairs}
 use Rattle.std.specs.List.{AllByRecursion}
 use Rattle.std.specs.List.Sorted.{IsStrictlyIncreasing}
@@ -13,17 +13,17 @@ use Rattle.st_model.specs.declared.need.Need.{Need}
 use Rattle.st_model.specs.declared.need.Need.TheVariants.{Required, Pays}
 use Rattle.st_model.specs.declared.split_at.SplitAt.{SplitAt}
 use Rattle.st_model.specs.declared.split_at.SplitAt.TheVariants.{Vertex, Link}
-use Rattle.st_model.specs.Lists.{has, sum_to}
-use Rattle.st_model.specs.Made.{is_between}
+use Rattle.st_model.specs.Lists.{has, total, sum_to}
+use Rattle.st_model.specs.Made.{is_between, has_pair}
 use Rattle.st_model.specs.Network.{Network, IsVertex, link, need_of, is_needed, is_required, prize, pays}
 use Rattle.st_model.specs.Arborescence.{arc_cost}
-use Rattle.st_model.specs.Branch.{yes_half, no_half}
+use Rattle.st_model.specs.Branch.{open_link, yes_half, no_half}
 use Rattle.st_model.proofs.Distinct.{link-comm}
 use Rattle.st_model.proofs.Marked.{at_member}
 use Rattle.st_model.proofs.Members.{has-one}
 use Rattle.st_model.proofs.Sums.{sum_to_same}
 use Rattle.cut_packing.specs.declared.packing.Packing.{Packing}
-use Rattle.cut_packing.specs.Packing.{load, named, IsRoot, CutFits, Fits, outside_pays, weight}
+use Rattle.cut_packing.specs.Packing.{load, named, IsRoot, CutFits, Fits, outside_pays, spare, weight}
 use Rattle.cut_packing.specs.ProofTree.{ProofTree, close, split, IsSplitAt, Proves}
 use Rattle.lift_back.specs.declared.step.Step.{Step}
 use Rattle.lift_back.specs.declared.step.Step.TheVariants.{Pendant, Through, Forced, Detour}
@@ -68,11 +68,14 @@ module _ (I J : Network) (same : Agree I J) where
   linked_back : (u w : ℕ) → IsSome (link J.links u w) → IsSome (link I.links u w)
   linked_back u w = subst (λ (o : Option ℕ). IsSome o) (sym (same.linked u w))
 
+  open_same : (B : Branch) (u w : ℕ) → open_link I B u w ≡ open_link J B u w
+  open_same B u w = ap (cond (has_pair B.barred u w) None) (same.linked u w)
+
   pub fits_same : (B : Branch) (P : Packing) → Fits I B P → Fits J B P
   fits_same B P fits = record {
     root = root_same P.root fits.root;
     cuts = All-weaker (CutFits I B) (CutFits J B) (λ c fit. record { in_range = All-weaker (IsVertex I.n) (IsVertex J.n) vertex_same c.set fit.in_range; member = fit.member; present = fit.present }) P.cuts fits.cuts;
-    arcs = λ u v u_present v_present. subst (λ (o : Option ℕ). IfSome o (λ price. load P.cuts (u, v) ≤ price)) (same.linked u v) (fits.arcs u v u_present v_present);
+    arcs = λ u v u_present v_present. subst (λ (o : Option ℕ). IfSome o (λ price. load P.cuts (u, v) ≤ price)) (open_same B u v) (fits.arcs u v u_present v_present);
     prizes = λ q vertex free. subst (λ (p : ℕ). named P.cuts q ≤ p) (pays_same q) (fits.prizes q (vertex_back q vertex) (ap (λ b. b || has B.inside q) (required_same q) ∙ free));
   }
     where
@@ -84,10 +87,11 @@ module _ (I J : Network) (same : Agree I J) where
   weight_same B P =
       let outside : sum_to (outside_pays I B) I.n ≡ sum_to (outside_pays J B) I.n = sum_to_same (outside_pays I B) (outside_pays J B) I.n (λ v low high. ap (λ p. cond (has B.outside v) p 0) (pays_same v)) in
       let count : sum_to (outside_pays J B) I.n ≡ sum_to (outside_pays J B) J.n = ap (sum_to (outside_pays J B)) same.count in
+      let must : total (spare I P.cuts) B.must ≡ total (spare J P.cuts) B.must = λ j. total (λ pair. cost_same pair j - max (load P.cuts pair) (load P.cuts (pair.1, pair.0))) B.must in
       omega arith
 
   pub split_same : (B : Branch) (at : SplitAt) → IsSplitAt I B at → IsSplitAt J B at
-  split_same B (Link _ _) is = absurd is
+  split_same B (Link a b) is = record { ordered = is.ordered; linked = linked_same a b is.linked; low = is.low; high = is.high; no_must = is.no_must; unbarred = is.unbarred }
   split_same B (Vertex v) is = record { vertex = vertex_same v is.vertex; undecided = is.undecided; free = sym (required_same v) ∙ is.free }
 
   leads_same : (v : ℕ) (others : List ℕ) → LeadsOnlyTo I v others → LeadsOnlyTo J v others

@@ -13,15 +13,18 @@ use Rattle.lift_back.specs.declared.step.Step.TheVariants.{Pendant, Through, For
 use Rattle.log_format.specs.declared.item.Item.{Item}
 use Rattle.log_format.specs.declared.item.Item.TheVariants.{Header, ClaimTree, ClaimNone, Wall, TreeHead, Arc, StepsHead, OneStep, ProofHead, Split as OneSplit, CloseHead, OneCut, Last}
 use Rattle.log_format.specs.declared.log.Log.{Log}
+use Rattle.log_format.specs.declared.log.Version.{Version}
+use Rattle.log_format.specs.declared.log.Version.TheVariants.{One, Two}
 use Rattle.log_format.specs.declared.log.Claim.{Claim}
 use Rattle.log_format.specs.declared.log.Claim.TheVariants.{Found, NoTree}
 use Rattle.log_format.specs.declared.proof_line.ProofLine.{ProofLine}
 use Rattle.log_format.specs.declared.proof_line.ProofLine.TheVariants.{Split, Close}
 use Rattle.log_format.specs.Text.{words, root_number, arc_line, cut_line, step_line, lines_of, header, claim_lines, IsAnyVertex, IsWritableCut, IsWritableStep, IsWritableLine, IsClaimInRange, IsLog}
 use Rattle.log_format.specs.Items.{item_line, IsItem, proof_items, claim_items, log_items, ItemsAreLines, OneItem, LineItems}
-use Rattle.log_format.specs.Reading.{number_of, pair_of, cut_of, wall_of, step_of, most, root_of}
+use Rattle.log_format.specs.Reading.{number_of, pair_of, link_of, cut_of, wall_of, step_of, most, root_of}
 use Rattle.log_format.proofs.LineLaws.{number_of_judges, pair_judges, cut_judges, wall_judges}
 use Rattle.log_format.proofs.StepLaws.{step_judges}
+use Rattle.log_format.proofs.SplitLaws.{link_again, any_split}
 use Rattle.log_format.proofs.Sets.{set_to, cut_to}
 use Rattle.log_format.proofs.Runs.{root_again, root_in_range}
 
@@ -71,7 +74,7 @@ claim_spelled (NoTree wall) = refl
 
 pub items_are_lines_lem : ItemsAreLines
 items_are_lines_lem log =
-    ap (λ (r : List (List ℕ)). header ∷ r) (map-append item_line (claim_items log.claim) (Last ∷ [])
+    ap (λ (r : List (List ℕ)). header log.version ∷ r) (map-append item_line (claim_items log.claim) (Last ∷ [])
     ∙ ap (λ (r : List (List ℕ)). r ++ codes "END" ∷ []) (claim_spelled log.claim))
 
 -- ---- no two items have one line
@@ -92,8 +95,9 @@ by_first b line =
     if b == 67 then either (item_if (codes "CLAIM NONE") line ClaimNone)
     (either (pair_of (codes "CLAIM TREE") 0 most 0 most line >>= λ p. Some (ClaimTree p.0 p.1)) (pair_of (codes "C") 0 1000000 0 most line >>= λ p. Some (CloseHead (root_of p.0) p.1))) else
     if b == 69 then item_if (codes "END") line Last else
-    if b == 83 then either (item_if header line Header)
-    (either (number_of (codes "STEPS") 0 most line >>= λ n. Some (StepsHead n)) (number_of (codes "S") 1 1000000 line >>= λ v. Some (OneSplit (Vertex v)))) else
+    if b == 76 then (link_of line >>= λ at. Some (OneSplit at)) else
+    if b == 83 then either (item_if (header One) line (Header One)) (either (item_if (header Two) line (Header Two))
+    (either (number_of (codes "STEPS") 0 most line >>= λ n. Some (StepsHead n)) (number_of (codes "S") 1 1000000 line >>= λ v. Some (OneSplit (Vertex v))))) else
     if b == 84 then (pair_of (codes "TREE") 1 1000000 0 most line >>= λ p. Some (TreeHead p.0 p.1)) else
     if b == 85 then (cut_of line >>= λ c. Some (OneCut c)) else
     if b == 87 then (wall_of line >>= λ wall. Some (Wall wall)) else
@@ -121,7 +125,8 @@ any_step (Detour a b inner) fits = rw (step_judges.again (Detour a b inner) fits
 
 -- the line of an item tells the item
 any_again : (item : Item) → IsItem item → any_item (item_line item) ≡ Some item
-any_again Header fits = refl
+any_again (Header One) fits = refl
+any_again (Header Two) fits = refl
 any_again (ClaimTree primal dual) fits = rw ((pair_judges (codes "CLAIM TREE") 0 most 0 most (omega arith) (omega arith)).again (primal, dual) ((omega arith, omega (arith, fits.0)), (omega arith, omega (arith, fits.1)))) refl
 any_again ClaimNone fits = refl
 any_again (Wall set) fits = rw (wall_judges.again set (set_to set fits)) refl
@@ -131,7 +136,7 @@ any_again (StepsHead count) fits = rw ((number_of_judges (codes "STEPS") 0 most 
 any_again (OneStep s) fits = any_step s fits
 any_again ProofHead fits = refl
 any_again (OneSplit (Vertex v)) fits = rw (no_steps, (number_of_judges (codes "S") 1 1000000 (omega arith)).again v fits) refl
-any_again (OneSplit (Link _ _)) fits = absurd fits
+any_again (OneSplit (Link a b)) fits = rw (link_again a b fits) refl
 any_again (CloseHead root count) fits =
     rw (no_claim, (pair_judges (codes "C") 0 1000000 0 most (omega arith) (omega arith)).again (root_number root, count) ((omega arith, root_in_range root fits.0), (omega arith, omega (arith, fits.1))))
     (ap (λ (r : Option ℕ). Some (CloseHead r count)) (root_again root fits.0))
@@ -161,15 +166,15 @@ cuts_fit : (cuts : List Cut) → AllByRecursion IsWritableCut cuts → AllByRecu
 cuts_fit [] h = tt
 cuts_fit (c ∷ cuts) h = (h.0, cuts_fit cuts h.1)
 
-proof_fits : (lines : List ProofLine) → AllByRecursion IsWritableLine lines → AllByRecursion IsItem (flat_map proof_items lines)
-proof_fits [] h = tt
-proof_fits (Split at ∷ lines) h = (h.0, proof_fits lines h.1)
-proof_fits (Close P ∷ lines) h = ((h.0.root, h.0.few_cuts), all-append (map (λ c. OneCut c) P.cuts) (flat_map proof_items lines) (cuts_fit P.cuts (recursion_from_All IsWritableCut P.cuts h.0.cuts)) (proof_fits lines h.1))
+proof_fits : (version : Version) (lines : List ProofLine) → AllByRecursion (IsWritableLine version) lines → AllByRecursion IsItem (flat_map proof_items lines)
+proof_fits version [] h = tt
+proof_fits version (Split at ∷ lines) h = (any_split version at h.0, proof_fits version lines h.1)
+proof_fits version (Close P ∷ lines) h = ((h.0.root, h.0.few_cuts), all-append (map (λ c. OneCut c) P.cuts) (flat_map proof_items lines) (cuts_fit P.cuts (recursion_from_All IsWritableCut P.cuts h.0.cuts)) (proof_fits version lines h.1))
 
-claim_fits : (claim : Claim) → IsClaimInRange claim → AllByRecursion IsItem (claim_items claim)
-claim_fits (Found primal dual tree steps proof) fits =
+claim_fits : (version : Version) (claim : Claim) → IsClaimInRange version claim → AllByRecursion IsItem (claim_items claim)
+claim_fits version (Found primal dual tree steps proof) fits =
     let tree_fits = fits.tree_fits in
-    let lines_fit = proof_fits proof (recursion_from_All IsWritableLine proof fits.lines_fit) in
+    let lines_fit = proof_fits version proof (recursion_from_All (IsWritableLine version) proof fits.lines_fit) in
     let after = all-append (map (λ s. OneStep s) steps) (ProofHead ∷ flat_map proof_items proof) (steps_fit steps (recursion_from_All IsWritableStep steps fits.steps_fit)) (tt, lines_fit) in (
       (fits.primal_fits, fits.dual_fits),
       (
@@ -177,11 +182,11 @@ claim_fits (Found primal dual tree steps proof) fits =
         all-append (map (λ arc. Arc arc.0 arc.1) tree.arcs) (StepsHead (length steps) ∷ (map (λ s. OneStep s) steps ++ (ProofHead ∷ flat_map proof_items proof))) (arcs_fit tree.arcs (recursion_from_All _ tree.arcs tree_fits.arcs)) (fits.few_steps, after),
       ),
     )
-claim_fits (NoTree wall) fits = (tt, (fits, tt))
+claim_fits version (NoTree wall) fits = (tt, (fits, tt))
 
 -- the items of a log can be written
 pub log_items_fit : (log : Log) → IsLog log → AllByRecursion IsItem (log_items log)
-log_items_fit log fits = (tt, all-append (claim_items log.claim) (Last ∷ []) (claim_fits log.claim fits.in_range) (tt, tt))
+log_items_fit log fits = (tt, all-append (claim_items log.claim) (Last ∷ []) (claim_fits log.version log.claim fits.in_range) (tt, tt))
 
 -- items with the same lines are the same
 same_items : (xs ys : List Item) → AllByRecursion IsItem xs → AllByRecursion IsItem ys → map item_line xs ≡ map item_line ys → xs ≡ ys

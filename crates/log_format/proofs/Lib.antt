@@ -3,6 +3,7 @@ pub mod Preorders
 pub mod Loop
 pub mod LineLaws
 pub mod StepLaws
+pub mod SplitLaws
 pub mod Sets
 pub mod StageLaws
 pub mod Runs
@@ -19,3 +20,4 @@ pub mod PlaceLaws
 pub mod ItemLaws
 pub mod Rejecting
 pub mod Writable
+pub mod Migrating

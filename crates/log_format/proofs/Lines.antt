@@ -5,20 +5,24 @@ use Rattle.std.specs.List.{flat_map, AllByRecursion}
 use Rattle.std.proofs.lemmas.Bool.{eqb-true, and_parts, not-true}
 use Rattle.std.proofs.lemmas.List.Elements.{recursion_from_All}
 use Rattle.log_format.specs.declared.log.Log.{Log}
+use Rattle.log_format.specs.declared.log.Version.{Version}
+use Rattle.log_format.specs.declared.log.Version.TheVariants.{One, Two}
 use Rattle.log_format.specs.declared.log.Claim.{Claim}
 use Rattle.log_format.specs.declared.log.Claim.TheVariants.{Found, NoTree}
 use Rattle.log_format.specs.declared.proof_line.ProofLine.{ProofLine}
 use Rattle.log_format.specs.declared.proof_line.ProofLine.TheVariants.{Split, Close}
+use Rattle.st_model.specs.declared.split_at.SplitAt.{SplitAt}
 use Rattle.st_model.specs.declared.split_at.SplitAt.TheVariants.{Vertex, Link}
 use Rattle.cut_packing.specs.declared.cut.Cut.{Cut}
 use Rattle.lift_back.specs.declared.step.Step.{Step}
 use Rattle.lift_back.specs.declared.step.Step.TheVariants.{Pendant, Through, Forced, Detour}
 use Rattle.plain_text.specs.Lines.{ended}
-use Rattle.log_format.specs.Text.{spaced, words, root_number, arc_line, cut_line, step_line, lines_of, claim_lines, log_lines, log_text, with_byte, cut_lines, whole_lines, unfinished, IsAnyVertex, IsWritableCut, IsWritableStep, IsWritableLine, IsClaimInRange, IsInLogRange}
+use Rattle.log_format.specs.Text.{spaced, words, root_number, arc_line, cut_line, step_line, split_line, lines_of, header, claim_lines, log_lines, log_text, with_byte, cut_lines, whole_lines, unfinished, IsAnyVertex, IsWritableCut, IsWritableStep, IsAnySplit, IsWritableLine, IsClaimInRange, IsInLogRange}
 use Rattle.plain_text.specs.Pieces.{cut}
 use Rattle.log_format.specs.Reading.{most}
 use Rattle.plain_text.proofs.Lacking.{lacks, lacks-append, lacks-decimal}
 use Rattle.log_format.proofs.Sets.{set_to}
+use Rattle.log_format.proofs.SplitLaws.{any_split}
 use Rattle.log_format.proofs.Runs.{root_in_range}
 use Rattle.st_model.specs.Network.{IsVertex}
 
@@ -137,16 +141,22 @@ steps_lack : (steps : List Step) → AllByRecursion IsWritableStep steps → Are
 steps_lack [] fits = tt
 steps_lack (s ∷ steps) fits = (step_lacks s fits.0, steps_lack steps fits.1)
 
-proof_lacks : (lines : List ProofLine) → AllByRecursion IsWritableLine lines → AreLines (flat_map lines_of lines)
-proof_lacks [] fits = tt
-proof_lacks (Split (Vertex v) ∷ lines) fits = (vertex_lacks (codes "S") v refl fits.0, proof_lacks lines fits.1)
-proof_lacks (Split (Link _ _) ∷ lines) fits = absurd fits.0
-proof_lacks (Close P ∷ lines) fits =
-    let root = root_in_range P.root fits.0.root in
-    lines-append (lines_of (Close P)) (flat_map lines_of lines) (words_lack (codes "C") (root_number P.root ∷ length P.cuts ∷ []) refl (omega (arith, root), (fits.0.few_cuts, tt)), cuts_lack P.cuts (recursion_from_All _ P.cuts fits.0.cuts)) (proof_lacks lines fits.1)
+split_lacks : (at : SplitAt) → IsAnySplit at → lacks 10 (split_line at) ≡ true
+split_lacks (Vertex v) fits = vertex_lacks (codes "S") v refl fits
+split_lacks (Link a b) fits =
+    let a_high : a ≤ 1000000 = fits.low.1 in
+    let b_high : b ≤ 1000000 = fits.high.1 in
+    words_lack (codes "L") (a ∷ b ∷ []) refl (omega arith, (omega arith, tt))
 
-claim_lacks : (claim : Claim) → IsClaimInRange claim → AreLines (claim_lines claim)
-claim_lacks (Found primal dual tree steps proof) fits =
+proof_lacks : (version : Version) (lines : List ProofLine) → AllByRecursion (IsWritableLine version) lines → AreLines (flat_map lines_of lines)
+proof_lacks version [] fits = tt
+proof_lacks version (Split at ∷ lines) fits = (split_lacks at (any_split version at fits.0), proof_lacks version lines fits.1)
+proof_lacks version (Close P ∷ lines) fits =
+    let root = root_in_range P.root fits.0.root in
+    lines-append (lines_of (Close P)) (flat_map lines_of lines) (words_lack (codes "C") (root_number P.root ∷ length P.cuts ∷ []) refl (omega (arith, root), (fits.0.few_cuts, tt)), cuts_lack P.cuts (recursion_from_All _ P.cuts fits.0.cuts)) (proof_lacks version lines fits.1)
+
+claim_lacks : (version : Version) (claim : Claim) → IsClaimInRange version claim → AreLines (claim_lines claim)
+claim_lacks version (Found primal dual tree steps proof) fits =
     let proof_lines : List (List ℕ) = codes "PROOF" ∷ flat_map lines_of proof in
     let steps_lines : List (List ℕ) = words (codes "STEPS") (length steps ∷ []) ∷ (map step_line steps ++ proof_lines) in
     let start : tree.start ≤ 1000000 = fits.tree_fits.start.1 in
@@ -155,15 +165,19 @@ claim_lacks (Found primal dual tree steps proof) fits =
     let arcs_are = arcs_lack tree.arcs (recursion_from_All _ tree.arcs fits.tree_fits.arcs) in
     let count_is = words_lack (codes "STEPS") (length steps ∷ []) refl (fits.few_steps, tt) in
     let steps_are = steps_lack steps (recursion_from_All _ steps fits.steps_fit) in
-    let proof_is = proof_lacks proof (recursion_from_All _ proof fits.lines_fit) in
+    let proof_is = proof_lacks version proof (recursion_from_All _ proof fits.lines_fit) in
     (claim_is, (tree_is, lines-append (map arc_line tree.arcs) steps_lines arcs_are (count_is, lines-append (map step_line steps) proof_lines steps_are (refl, proof_is))))
-claim_lacks (NoTree wall) fits =
+claim_lacks version (NoTree wall) fits =
     let few : length wall ≤ most = (set_to wall fits).few in
     (refl, (words_lack (codes "WALL") (length wall ∷ wall) refl (omega arith, vertices_are wall (recursion_from_All _ wall fits.vertices.in_range)), tt))
 
+header_lacks : (version : Version) → lacks 10 (header version) ≡ true
+header_lacks One = refl
+header_lacks Two = refl
+
 -- the lines of the text of a log are the lines of the log, and nothing is left
 pub text_lines : (log : Log) → IsInLogRange log → cut_lines (log_text log) ≡ (log_lines log, [])
-text_lines log fits = lines_again (log_lines log) (refl, lines-append (claim_lines log.claim) (codes "END" ∷ []) (claim_lacks log.claim fits) (refl, tt))
+text_lines log fits = lines_again (log_lines log) (header_lacks log.version, lines-append (claim_lines log.claim) (codes "END" ∷ []) (claim_lacks log.version log.claim fits) (refl, tt))
 
 -- where a first line is cut off, it comes before the other lines
 pub cut_some : (bytes line rest : List ℕ) → cut 10 bytes ≡ Some (line, rest) → (whole_lines bytes ≡ line ∷ whole_lines rest) × (unfinished bytes ≡ unfinished rest)

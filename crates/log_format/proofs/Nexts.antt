@@ -10,6 +10,7 @@ use Rattle.st_model.specs.declared.link.Link.{Link}
 use Rattle.st_model.specs.declared.need.Need.{Need}
 use Rattle.st_model.specs.declared.need.Need.TheVariants.{Required, Pays}
 use Rattle.st_model.specs.Branch.{with_vertex}
+use Rattle.st_model.specs.Ground.{ground}
 use Rattle.st_model.specs.Lists.{has, total, sum_to}
 use Rattle.st_model.specs.Made.{is_between}
 use Rattle.st_model.specs.Network.{IsInstance, IsVertex, IsLinkBetween, joins, link, need_of, prize, pays}
@@ -135,7 +136,7 @@ made_instance s links needs offset state fit = record {
 goes : (s : State) (v : ℕ) (links : List Link) (needs : List Need) (offset : ℕ) → IsState s → IsVertex s.instance.n v → IsFalse (has s.gone v) → FitLinks s links needs offset → ((u w : ℕ) → IsSome (link links u w) → IsFalse (gone_with s v u)) → ((w : ℕ) → IsTrue (gone_with s v w) → get_or needs (w - 1) Required ≡ Pays 0) → IsState (made s links needs (with_vertex s.gone v) offset)
 goes s v links needs offset state vertex present fit cut idle = record {
   instance = made_instance s links needs offset state fit;
-  gone = (IsBranch-with_outside s.instance (left_over s) v vertex (ap not present) (left_over-branch s state.gone)).outside;
+  gone = (IsBranch-with_outside (ground s.instance) (left_over s) v vertex (ap not present) (left_over-branch s state.gone)).outside;
   alone = λ u w gone. alone u w (link links u w) refl (sym (has-with_vertex s.gone v u) ∙ gone);
   idle = λ w gone. idle w (sym (has-with_vertex s.gone v w) ∙ gone);
   amount = fit.amount;

@@ -4,6 +4,8 @@ use Rattle.std.proofs.lemmas.List.{append-nil}
 use Rattle.log_format.specs.declared.kind.Kind.{Kind}
 use Rattle.log_format.specs.declared.kind.Kind.TheVariants.{BadLine, EndsEarly}
 use Rattle.log_format.specs.declared.log.Log.{Log}
+use Rattle.log_format.specs.declared.log.Version.{Version}
+use Rattle.log_format.specs.declared.log.Version.TheVariants.{One}
 use Rattle.log_format.specs.declared.log.Claim.{Claim}
 use Rattle.log_format.specs.declared.stage.Stage.{Stage}
 use Rattle.log_format.specs.declared.stage.Stage.TheVariants.{AtHeader, AtClaim, AtTree, AtArcs, AtSteps, AtHalf, AtCuts, AtWall, AtEnd, AtNothing}
@@ -12,12 +14,12 @@ use Rattle.log_format.specs.Reading.{step}
 use Rattle.log_format.specs.Reached.{lines_read, IsRead}
 use Rattle.log_format.specs.Refused.{IsBadLine, HasBytesAfter, IsCutShort, LogRefused}
 use Rattle.log_format.specs.Laws.{IsNoText, RefusedExactly}
-use Rattle.log_format.proofs.Finishing.{read_none, read_more, read_begins, refused_stops, read_whole, whole_is_read}
+use Rattle.log_format.proofs.Finishing.{next_version, read_none, read_next, read_begins, refused_stops, read_whole, whole_is_read}
 use Rattle.log_format.proofs.WholeLines.{is_text, text_stands}
 
--- the lines lead to a stage
+-- the lines lead to a stage of some version
 abbrev AllRead : List (List ℕ) → Type 0
-AllRead lines = (t : Stage) × IsRead t × (lines_read t ≡ lines)
+AllRead lines = (version : Version) × (t : Stage) × IsRead version t × (lines_read version t ≡ lines)
 
 -- some log begins with the lines before one of them, and none with this one too
 pub record Stops (lines : List (List ℕ)) : Type 0 where
@@ -29,16 +31,19 @@ pub record Stops (lines : List (List ℕ)) : Type 0 where
   pub stops : ¬ (Begins (before ++ bad ∷ []))
 
 -- the lines are read, or one of them is the first that is refused
-scan : (s : Stage) (lines : List (List ℕ)) → IsRead s → AllRead (lines_read s ++ lines) ⊎ Stops (lines_read s ++ lines)
-scan s [] read = inl (s, read, sym (append-nil (lines_read s)))
-scan s (line ∷ lines) read = by_step (step s line) refl (λ t more. scan t lines more)
+scan : (version : Version) (s : Stage) (lines : List (List ℕ)) → IsRead version s → AllRead (lines_read version s ++ lines) ⊎ Stops (lines_read version s ++ lines)
+scan version s [] read = inl (version, s, read, sym (append-nil (lines_read version s)))
+scan version s (line ∷ lines) read = by_version (next_version version s line) refl (λ v t more. scan v t lines more)
   where
-    by_step : (o : Option Stage) → step s line ≡ o → ((t : Stage) → IsRead t → AllRead (lines_read t ++ lines) ⊎ Stops (lines_read t ++ lines)) → AllRead (lines_read s ++ line ∷ lines) ⊎ Stops (lines_read s ++ line ∷ lines)
-    by_step None e others = inr (record { before = lines_read s; bad = line; after = lines; parts = refl; begun = read_begins s read; stops = refused_stops s line read e })
-    by_step (Some t) e others =
-        let more = read_more s t line read e in
-        let same : lines_read t ++ lines ≡ lines_read s ++ line ∷ lines = ap (λ (r : List (List ℕ)). r ++ lines) more.1 ∙ append_assoc (lines_read s) (line ∷ []) lines in
+    by_step : (next : Version) (o : Option Stage) → next ≡ next_version version s line → step next s line ≡ o → ((t : Stage) → IsRead next t → AllRead (lines_read next t ++ lines) ⊎ Stops (lines_read next t ++ lines)) → AllRead (lines_read version s ++ line ∷ lines) ⊎ Stops (lines_read version s ++ line ∷ lines)
+    by_step next None is e others = inr (record { before = lines_read version s; bad = line; after = lines; parts = refl; begun = read_begins version s read; stops = refused_stops version next s line is read e })
+    by_step next (Some t) is e others =
+        let more = read_next version next s t line is read e in
+        let same : lines_read next t ++ lines ≡ lines_read version s ++ line ∷ lines = ap (λ (r : List (List ℕ)). r ++ lines) more.1 ∙ append_assoc (lines_read version s) (line ∷ []) lines in
         subst (λ (ls : List (List ℕ)). AllRead ls ⊎ Stops ls) same (others t more.0)
+
+    by_version : (next : Version) → next ≡ next_version version s line → ((v : Version) (t : Stage) → IsRead v t → AllRead (lines_read v t ++ lines) ⊎ Stops (lines_read v t ++ lines)) → AllRead (lines_read version s ++ line ∷ lines) ⊎ Stops (lines_read version s ++ line ∷ lines)
+    by_version next is others = by_step next (step next s line) is refl (others next)
 
 -- a stage is at the end of a claim, or at the end of none
 at_end : (s : Stage) → ((claim : Claim) × (s ≡ AtNothing claim)) ⊎ ((claim : Claim) → s ≡ AtNothing claim → ⊥)
@@ -60,13 +65,13 @@ nothing_left (b ∷ bs) = inr (λ e. cc)
 
 -- bytes whose lines are read are the text of a log, or refused
 read_faults : (bytes : List ℕ) → AllRead (whole_lines bytes) → IsNoText bytes → (line : ℕ) × (kind : Kind) × LogRefused bytes line kind
-read_faults bytes (t, read, lines) no_text =
+read_faults bytes (version, t, read, lines) no_text =
     elim (at_end t) [
       | inl end ↦
-          let done = subst (λ (s : Stage). IsRead s) end.1 read in
-          let log : Log = record { claim = end.0 } in
-          let whole = read_whole end.0 done in
-          let same : log_lines log ≡ whole_lines bytes = whole.1 ∙ (ap lines_read (sym end.1) ∙ lines) in
+          let done = subst (λ (s : Stage). IsRead version s) end.1 read in
+          let log : Log = record { version = version; claim = end.0 } in
+          let whole = read_whole version end.0 done in
+          let same : log_lines log ≡ whole_lines bytes = whole.1 ∙ (ap (lines_read version) (sym end.1) ∙ lines) in
           elim (nothing_left (unfinished bytes)) [
             | inl none ↦ absurd (no_text log whole.0 (is_text bytes log same none))
             | inr some ↦ (length (whole_lines bytes) + 1, BadLine, inr (record { whole = (log, whole.0, same); after = some; place = refl }))
@@ -75,8 +80,8 @@ read_faults bytes (t, read, lines) no_text =
         length (whole_lines bytes) + 1,
         EndsEarly,
         record {
-          begun = subst Begins lines (read_begins t read);
-          part = λ (log, fits, same). none log.claim (whole_is_read t log read fits (same ∙ sym lines));
+          begun = subst Begins lines (read_begins version t read);
+          part = λ (log, fits, same). none log.claim (whole_is_read version t log read fits (same ∙ sym lines));
           place = refl;
         },
       )
@@ -85,7 +90,7 @@ read_faults bytes (t, read, lines) no_text =
 -- bytes that are the text of no log are refused
 some_fault_lem : (bytes : List ℕ) → IsNoText bytes → (line : ℕ) × (kind : Kind) × LogRefused bytes line kind
 some_fault_lem bytes no_text =
-    elim (scan AtHeader (whole_lines bytes) read_none) [
+    elim (scan One AtHeader (whole_lines bytes) (read_none One)) [
       | inl read ↦ read_faults bytes read no_text
       | inr stop ↦ (length stop.before + 1, BadLine, inl (record { before = stop.before; bad = stop.bad; after = stop.after; lines = stop.parts; place = refl; begun = stop.begun; stops = stop.stops }))
     ]

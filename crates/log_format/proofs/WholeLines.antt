@@ -8,6 +8,7 @@ use Rattle.log_format.specs.declared.kind.Kind.TheVariants.{BadLine, EndsEarly}
 use Rattle.log_format.specs.declared.fault.ReadError.{ReadError}
 use Rattle.log_format.specs.declared.fault.ReadError.TheVariants.{Fault, NoMemory}
 use Rattle.log_format.specs.declared.log.Log.{Log}
+use Rattle.log_format.specs.declared.log.Version.TheVariants.{One}
 use Rattle.log_format.specs.declared.stage.Stage.TheVariants.{AtHeader}
 use Rattle.plain_text.specs.Lines.{ended}
 use Rattle.log_format.specs.Text.{log_lines, log_text, whole_lines, unfinished, Begins, IsLog}
@@ -18,7 +19,7 @@ use Rattle.log_format.proofs.Lines.{cut_some, cut_none, text_lines, lines_make}
 
 -- each log begins with no line
 pub nothing_begins : Begins []
-nothing_begins = read_begins AtHeader read_none
+nothing_begins = read_begins One AtHeader (read_none One)
 
 -- the lines before, and the lines of what is left
 pub record IsReadUpTo (bytes : List ℕ) (before : List (List ℕ)) (rest : List ℕ) : Type 0 where

@@ -8,11 +8,11 @@ use Rattle.log_format.specs.declared.log.Claim.{Claim}
 use Rattle.log_format.specs.declared.log.Claim.TheVariants.{Found, NoTree}
 use Rattle.log_format.specs.declared.proof_line.ProofLine.{ProofLine}
 use Rattle.log_format.specs.declared.proof_line.ProofLine.TheVariants.{Split, Close}
-use Rattle.log_format.specs.Text.{words, root_number, arc_line, cut_line, step_line, split_line, header, log_lines, IsAnyVertex, IsWritableSet, IsWritableCut, IsWritableStep, IsWritableSplit, IsLog}
+use Rattle.log_format.specs.Text.{words, root_number, arc_line, cut_line, step_line, split_line, header, log_lines, IsAnyVertex, IsWritableSet, IsWritableCut, IsWritableStep, IsAnySplit, IsLog}
 
 -- the line that says it
 abbrev pub item_line : Item → List ℕ
-item_line Header = header
+item_line (Header version) = header version
 item_line (ClaimTree primal dual) = words (codes "CLAIM TREE") (primal ∷ dual ∷ [])
 item_line ClaimNone = codes "CLAIM NONE"
 item_line (Wall set) = words (codes "WALL") (length set ∷ set)
@@ -26,9 +26,9 @@ item_line (CloseHead root count) = words (codes "C") (root_number root ∷ count
 item_line (OneCut c) = cut_line c
 item_line Last = codes "END"
 
--- its numbers can be written: vertices from 1 to 1,000,000, other numbers below 2^64
+-- its numbers can be written: vertices from 1 to 1,000,000, other numbers below 2^64, and of a link the lower end first
 abbrev pub IsItem : Item → Type 0
-IsItem Header = Unit {0}
+IsItem (Header version) = Unit {0}
 IsItem (ClaimTree primal dual) = (primal < 2 ^ 64) × (dual < 2 ^ 64)
 IsItem ClaimNone = Unit {0}
 IsItem (Wall set) = IsWritableSet set
@@ -37,7 +37,7 @@ IsItem (Arc tail head) = IsAnyVertex tail × IsAnyVertex head
 IsItem (StepsHead count) = count < 2 ^ 64
 IsItem (OneStep s) = IsWritableStep s
 IsItem ProofHead = Unit {0}
-IsItem (OneSplit at) = IsWritableSplit at
+IsItem (OneSplit at) = IsAnySplit at
 IsItem (CloseHead root count) = IfSome root IsAnyVertex × (count < 2 ^ 64)
 IsItem (OneCut c) = IsWritableCut c
 IsItem Last = Unit {0}
@@ -55,7 +55,7 @@ claim_items (NoTree wall) = ClaimNone ∷ Wall wall ∷ []
 
 -- the items of a log, in order
 abbrev pub log_items : Log → List Item
-log_items log = Header ∷ (claim_items log.claim ++ Last ∷ [])
+log_items log = Header log.version ∷ (claim_items log.claim ++ Last ∷ [])
 
 -- the lines of a log say its items
 abbrev pub ItemsAreLines : Type 0

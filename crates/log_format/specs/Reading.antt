@@ -1,8 +1,8 @@
 -- Reading a log line by line. Helpers' clauses cite this, and no public one.
-use Rattle.std.specs.Prelude.{◌≡◌, ℕ, zero, suc, ◌+◌, ◌-◌, ◌≤◌, ◌==◌, ◌&&◌, Bool, true, nat_lt, List, [], ◌∷◌, ◌++◌, length, Option, Some, None, Result, Ok, Err, if◌then◌else◌, codes}
+use Rattle.std.specs.Prelude.{◌≡◌, ℕ, zero, suc, ◌+◌, ◌-◌, ◌≤◌, ◌==◌, ◌&&◌, Bool, true, false, nat_lt, List, [], ◌∷◌, ◌++◌, length, Option, Some, None, Result, Ok, Err, if◌then◌else◌, codes}
 use Rattle.std.specs.Str.{bytes_eq}
 use Rattle.st_model.specs.declared.split_at.SplitAt.{SplitAt}
-use Rattle.st_model.specs.declared.split_at.SplitAt.TheVariants.{Vertex}
+use Rattle.st_model.specs.declared.split_at.SplitAt.TheVariants.{Vertex, Link}
 use Rattle.cut_packing.specs.declared.cut.Cut.{Cut}
 use Rattle.lift_back.specs.declared.step.Step.{Step}
 use Rattle.lift_back.specs.declared.step.Step.TheVariants.{Pendant, Through, Forced, Detour}
@@ -10,6 +10,8 @@ use Rattle.plain_text.specs.Numbers.{number}
 use Rattle.plain_text.specs.Steps.{◌>>=◌}
 use Rattle.log_format.specs.declared.fault.LineError.{LineError}
 use Rattle.log_format.specs.declared.fault.LineError.TheVariants.{BadLine, NoMemory}
+use Rattle.log_format.specs.declared.log.Version.{Version}
+use Rattle.log_format.specs.declared.log.Version.TheVariants.{One, Two}
 use Rattle.log_format.specs.declared.log.Claim.TheVariants.{Found, NoTree}
 use Rattle.log_format.specs.declared.proof_line.ProofLine.{ProofLine}
 use Rattle.log_format.specs.declared.proof_line.ProofLine.TheVariants.{Split, Close}
@@ -136,6 +138,29 @@ step_of line = of_vertex (λ v. Pendant v) (number_of (codes "P") 1 1000000 line
     (of_vertex (λ v. Through v) (number_of (codes "H") 1 1000000 line)
     (of_vertex (λ v. Forced v) (number_of (codes "F") 1 1000000 line) (detour_of line)))
 
+-- the split at a link that a line says: two vertices, the lower first
+unfoldable pub link_of : List ℕ → Option SplitAt
+link_of line = do
+  ends ← pair_of (codes "L") 1 1000000 1 1000000 line
+  if nat_lt ends.0 ends.1 then Some (Link ends.0 ends.1) else None
+
+-- the same where the version has such lines
+abbrev pub link_in : Version → List ℕ → Option SplitAt
+link_in One line = None
+link_in Two line = link_of line
+
+-- the split at a vertex, or else the other
+abbrev pub at_vertex : Option ℕ → Option SplitAt → Option SplitAt
+at_vertex (Some v) other = Some (Vertex v)
+at_vertex None other = other
+
+unfoldable pub split_of : Version → List ℕ → Option SplitAt
+split_of version line = at_vertex (number_of (codes "S") 1 1000000 line) (link_in version line)
+
+-- the version of a log that goes on with a line: the first line says it, and version 1 stands for none
+abbrev pub version_with : Version → Bool → List ℕ → Version
+version_with version first line = if first then (if bytes_eq line (header Two) then Two else One) else version
+
 -- this stage, if the line is this one
 abbrev pub stage_if : List ℕ → List ℕ → Stage → Option Stage
 stage_if wanted line stage = if bytes_eq line wanted then Some stage else None
@@ -159,8 +184,8 @@ abbrev pub split_at : Proving → SplitAt → Stage
 split_at p at = AtHalf (record { answer = p.answer; lines = p.lines ++ Split at ∷ []; waiting = p.waiting + 1 })
 
 -- a split, or else the head of a close
-abbrev pub half_at : Proving → Option ℕ → List ℕ → Option Stage
-half_at p (Some v) line = Some (split_at p (Vertex v))
+abbrev pub half_at : Proving → Option SplitAt → List ℕ → Option Stage
+half_at p (Some at) line = Some (split_at p at)
 half_at p None line = pair_of (codes "C") 0 1000000 0 most line >>= λ head. Some (cuts_left p (root_of head.0) [] head.1)
 
 -- the tree is read to its end, and no step yet
@@ -171,25 +196,30 @@ no_step_yet primal dual start arcs = record { primal = primal; dual = dual; tree
 abbrev pub with_step : Answer → Step → Answer
 with_step a s = record a { steps = a.steps ++ s ∷ [] }
 
--- what is to come after a line, if it may stand here
-unfoldable pub step : Stage → List ℕ → Option Stage
-step AtHeader line = stage_if header line AtClaim
-step AtClaim line = if bytes_eq line (codes "CLAIM NONE") then Some AtWall else (pair_of (codes "CLAIM TREE") 0 most 0 most line >>= λ b. Some (AtTree b.0 b.1))
-step (AtTree primal dual) line = pair_of (codes "TREE") 1 1000000 0 most line >>= λ t. Some (AtArcs primal dual t.0 [] t.1)
-step (AtArcs primal dual start arcs left) line = if left == 0 then (number_of (codes "STEPS") 0 most line >>= λ count. Some (AtSteps (no_step_yet primal dual start arcs) count))
+-- what is to come after a line of a log of this version, if it may stand here
+unfoldable pub step : Version → Stage → List ℕ → Option Stage
+step version AtHeader line = stage_if (header version) line AtClaim
+step version AtClaim line = if bytes_eq line (codes "CLAIM NONE") then Some AtWall else (pair_of (codes "CLAIM TREE") 0 most 0 most line >>= λ b. Some (AtTree b.0 b.1))
+step version (AtTree primal dual) line = pair_of (codes "TREE") 1 1000000 0 most line >>= λ t. Some (AtArcs primal dual t.0 [] t.1)
+step version (AtArcs primal dual start arcs left) line = if left == 0 then (number_of (codes "STEPS") 0 most line >>= λ count. Some (AtSteps (no_step_yet primal dual start arcs) count))
     else (pair_of (codes "A") 1 1000000 1 1000000 line >>= λ arc. Some (AtArcs primal dual start (arcs ++ arc ∷ []) (left - 1)))
-step (AtSteps a left) line = if left == 0 then stage_if (codes "PROOF") line (AtHalf (record { answer = a; lines = []; waiting = 0 }))
+step version (AtSteps a left) line = if left == 0 then stage_if (codes "PROOF") line (AtHalf (record { answer = a; lines = []; waiting = 0 }))
     else (step_of line >>= λ s. Some (AtSteps (with_step a s) (left - 1)))
-step (AtHalf p) line = half_at p (number_of (codes "S") 1 1000000 line) line
-step (AtCuts p root cuts left) line = cut_of line >>= λ c. Some (cuts_left p root (cuts ++ c ∷ []) (left - 1))
-step AtWall line = wall_of line >>= λ wall. Some (AtEnd (NoTree wall))
-step (AtEnd claim) line = stage_if (codes "END") line (AtNothing claim)
-step (AtNothing claim) line = None
+step version (AtHalf p) line = half_at p (split_of version line) line
+step version (AtCuts p root cuts left) line = cut_of line >>= λ c. Some (cuts_left p root (cuts ++ c ∷ []) (left - 1))
+step version AtWall line = wall_of line >>= λ wall. Some (AtEnd (NoTree wall))
+step version (AtEnd claim) line = stage_if (codes "END") line (AtNothing claim)
+step version (AtNothing claim) line = None
+
+-- whether no line was read
+abbrev pub at_header : Stage → Bool
+at_header AtHeader = true
+at_header _ = false
 
 -- the stage that some lines lead to
-unfoldable pub run : Stage → List (List ℕ) → Option Stage
-run s [] = Some s
-run s (line ∷ lines) = step s line >>= λ t. run t lines
+unfoldable pub run : Version → Stage → List (List ℕ) → Option Stage
+run version s [] = Some s
+run version s (line ∷ lines) = step version s line >>= λ t. run version t lines
 
 -- the lines of a proof so far are whole, but for the halves that wait and the one that comes
 abbrev pub open_after : ℕ → List ProofLine → Option ℕ

@@ -13,6 +13,8 @@ use Rattle.cut_packing.specs.declared.packing.Packing.{Packing}
 use Rattle.lift_back.specs.declared.step.Step.{Step}
 use Rattle.lift_back.specs.declared.step.Step.TheVariants.{Pendant, Through, Forced, Detour}
 use Rattle.log_format.specs.declared.log.Log.{Log}
+use Rattle.log_format.specs.declared.log.Version.{Version}
+use Rattle.log_format.specs.declared.log.Version.TheVariants.{One, Two}
 use Rattle.log_format.specs.declared.log.Claim.{Claim}
 use Rattle.log_format.specs.declared.log.Claim.TheVariants.{Found, NoTree}
 use Rattle.log_format.specs.declared.proof_line.ProofLine.{ProofLine}
@@ -55,8 +57,10 @@ abbrev pub lines_of : ProofLine → List (List ℕ)
 lines_of (Split at) = split_line at ∷ []
 lines_of (Close P) = words (codes "C") (root_number P.root ∷ length P.cuts ∷ []) ∷ map cut_line P.cuts
 
-abbrev pub header : List ℕ
-header = codes "STEINERLOG 1"
+-- the first line of a log, which says its version
+abbrev pub header : Version → List ℕ
+header One = codes "STEINERLOG 1"
+header Two = codes "STEINERLOG 2"
 
 -- the lines of a claim
 abbrev pub claim_lines : Claim → List (List ℕ)
@@ -66,7 +70,7 @@ claim_lines (NoTree wall) = codes "CLAIM NONE" ∷ words (codes "WALL") (length 
 
 -- the lines of a log, without their ends
 abbrev pub log_lines : Log → List (List ℕ)
-log_lines log = header ∷ (claim_lines log.claim ++ codes "END" ∷ [])
+log_lines log = header log.version ∷ (claim_lines log.claim ++ codes "END" ∷ [])
 
 -- the text of a log
 abbrev pub log_text : Log → List ℕ
@@ -91,14 +95,25 @@ pub record IsWritablePacking (P : Packing) : Type 0 where
   pub few_cuts : length P.cuts < 2 ^ 64
   pub cuts : All IsWritableCut P.cuts
 
--- a split that can be written: no version of a log has the line of a split at a link so far
-abbrev pub IsWritableSplit : SplitAt → Type 0
-IsWritableSplit (Vertex v) = IsAnyVertex v
-IsWritableSplit (Link a b) = ⊥
+-- the ends of a link of some instance, the lower first
+pub record IsAnyLink (a b : ℕ) : Type 0 where
+  pub low : IsAnyVertex a
+  pub high : IsAnyVertex b
+  pub ordered : a < b
 
-abbrev pub IsWritableLine : ProofLine → Type 0
-IsWritableLine (Split at) = IsWritableSplit at
-IsWritableLine (Close P) = IsWritablePacking P
+-- a split of some instance
+abbrev pub IsAnySplit : SplitAt → Type 0
+IsAnySplit (Vertex v) = IsAnyVertex v
+IsAnySplit (Link a b) = IsAnyLink a b
+
+-- a split that can be written: at a link in version 2 alone
+abbrev pub IsWritableSplit : Version → SplitAt → Type 0
+IsWritableSplit version (Vertex v) = IsAnyVertex v
+IsWritableSplit version (Link a b) = (version ≡ Two) × IsAnyLink a b
+
+abbrev pub IsWritableLine : Version → ProofLine → Type 0
+IsWritableLine version (Split at) = IsWritableSplit version at
+IsWritableLine version (Close P) = IsWritablePacking P
 
 pub record IsWritableTree (tree : Tree) : Type 0 where
   pub start : IsAnyVertex tree.start
@@ -117,21 +132,21 @@ IsWritableStep (Through v) = IsAnyVertex v
 IsWritableStep (Forced v) = IsAnyVertex v
 IsWritableStep (Detour a b inner) = IsAnyVertex a × IsAnyVertex b × IsWritableInner inner
 
-pub record IsWritableFound (primal dual : ℕ) (tree : Tree) (steps : List Step) (proof : List ProofLine) : Type 0 where
+pub record IsWritableFound (version : Version) (primal dual : ℕ) (tree : Tree) (steps : List Step) (proof : List ProofLine) : Type 0 where
   pub primal_fits : primal < 2 ^ 64
   pub dual_fits : dual < 2 ^ 64
   pub tree_fits : IsWritableTree tree
   pub few_steps : length steps < 2 ^ 64
   pub steps_fit : All IsWritableStep steps
-  pub lines_fit : All IsWritableLine proof
+  pub lines_fit : All (IsWritableLine version) proof
 
--- vertices from 1 to 1,000,000, other numbers below 2^64
-abbrev pub IsClaimInRange : Claim → Type 0
-IsClaimInRange (Found primal dual tree steps proof) = IsWritableFound primal dual tree steps proof
-IsClaimInRange (NoTree wall) = IsWritableSet wall
+-- vertices from 1 to 1,000,000, other numbers below 2^64, and splits that can be written in this version
+abbrev pub IsClaimInRange : Version → Claim → Type 0
+IsClaimInRange version (Found primal dual tree steps proof) = IsWritableFound version primal dual tree steps proof
+IsClaimInRange version (NoTree wall) = IsWritableSet wall
 
 abbrev pub IsInLogRange : Log → Type 0
-IsInLogRange log = IsClaimInRange log.claim
+IsInLogRange log = IsClaimInRange log.version log.claim
 
 -- the lines of the proof are exactly one proof tree
 abbrev pub IsProved : Claim → Type 0

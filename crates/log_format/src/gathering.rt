@@ -2,8 +2,9 @@ ghost use Rattle.std.specs.Prelude.{◌≡◌, ◌∷◌, [], ◌++◌, OnOk, On
 ghost use Rattle.log_format.specs.Text.{IsLog, AreWhole, Begins, log_lines};
 
 use crate::fault::LineError;
+use crate::log::version_with;
 use crate::stage::{Stage, step};
-use crate::{Claim, Log};
+use crate::{Log, Version};
 use std::alloc::Global;
 use std::marker::Model;
 use std::mem;
@@ -12,6 +13,8 @@ use std::mem;
 #[derive(Drop)]
 pub(crate) struct Gathering {
     alloc: Global,
+    // Version 1 until the first line says it.
+    version: Version,
     stage: Stage,
 }
 
@@ -22,9 +25,9 @@ impl Model for Gathering {
 
     ghost use Rattle.log_format.specs.Reached.{lines_read, IsRead};
 
-    ghost view = { λ r. lines_read r.stage };
+    ghost view = { λ r. lines_read r.version r.stage };
 
-    ghost invariant = { λ r. IsRead r.stage };
+    ghost invariant = { λ r. IsRead r.version r.stage };
 }
 
 impl Gathering {
@@ -35,6 +38,7 @@ impl Gathering {
     {
         Gathering {
             alloc,
+            version: Version::One,
             stage: Stage::AtHeader,
         }
     }
@@ -46,8 +50,10 @@ impl Gathering {
         ensures refused { result ≡ Err LineError.BadLine → ¬ (Begins (self.old ++ line.now ∷ [])) }
         ensures err { OnErr result (self.new ≡ []) }
     {
+        let version = version_with(self.version, self.stage.is_at_header(), line);
         let stage = mem::replace(&mut self.stage, Stage::AtHeader);
-        self.stage = step(self.alloc, stage, line)?;
+        self.stage = step(self.alloc, version, stage, line)?;
+        self.version = version;
         Ok(())
     }
 
@@ -55,8 +61,9 @@ impl Gathering {
     pub(crate) fn finish(self) -> Option<Log>
         ensures { MatchOption result (¬ (AreWhole self)) (λ log. IsLog log × (log_lines log ≡ self)) }
     {
-        match self.stage {
-            Stage::AtNothing(claim) => Some(Log { claim }),
+        let Gathering { version, stage, .. } = self;
+        match stage {
+            Stage::AtNothing(claim) => Some(Log { version, claim }),
             _ => None,
         }
     }

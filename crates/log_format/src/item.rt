@@ -1,3 +1,4 @@
+use crate::Version;
 use cut_packing::Cut;
 use lift_back::Step;
 use st_model::{Listed, SplitAt};
@@ -5,7 +6,7 @@ use st_model::{Listed, SplitAt};
 /// What one line of a log says.
 #[derive(Debug, Drop)]
 pub enum Item {
-    Header,
+    Header(Version),
     ClaimTree { primal: u64, dual: u64 },
     ClaimNone,
     Wall(Listed<u32>),

@@ -3,7 +3,7 @@ ghost use Rattle.st_model.specs.Network.{Network};
 ghost use Rattle.log_format.specs.declared.log.Log.{Log};
 ghost use Rattle.log_format.specs.Accepts.{AcceptedHolds};
 ghost use Rattle.log_format.specs.Items.{ItemsAreLines, OneItem, LineItems};
-ghost use Rattle.log_format.specs.Laws.{OneSpelling, RefusedExactly, RejectedExactly};
+ghost use Rattle.log_format.specs.Laws.{MigratedIsTheSame, OneSpelling, RefusedExactly, RejectedExactly};
 
 /// No two logs have one text.
 pub fn one_spelling()
@@ -39,4 +39,9 @@ pub fn one_item()
 /// What the lines of a log say are its items.
 pub fn line_items()
     ensures { LineItems }
+{}
+
+/// In version 2 a log is accepted, and rejected, just as before, and it is a log again.
+pub fn migrated_is_the_same()
+    ensures { (I : Network) (log : Log) → MigratedIsTheSame I log }
 {}

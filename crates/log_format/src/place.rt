@@ -1,3 +1,6 @@
+ghost use Rattle.std.specs.Prelude.{◌≡◌};
+ghost use Rattle.log_format.specs.Places.{before_header};
+
 /// What may stand on the next line, by counts alone.
 #[derive(Clone, Copy)]
 pub enum Place {
@@ -11,4 +14,13 @@ pub enum Place {
     BeforeWall,
     BeforeEnd,
     AfterEnd,
+}
+
+impl Place {
+    /// Whether no line was read.
+    pub fn is_before_header(self) -> bool
+        ensures { result ≡ before_header self }
+    {
+        matches!(self, Place::BeforeHeader)
+    }
 }

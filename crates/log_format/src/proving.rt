@@ -1,10 +1,12 @@
 ghost use Rattle.std.specs.Prelude.{◌≡◌, ◌∷◌, [], ◌++◌, ◌≤◌, IfOk};
+ghost use Rattle.log_format.specs.declared.log.Version.{Version as VersionSpec};
 ghost use Rattle.log_format.specs.Reading.{Gives, HalvesWait, root_of, cuts_left, closed, half_at, split_at, step};
 
 use crate::fault::LineError;
-use crate::line::{MAX_VERTEX, cut_of, number_of, pair_of};
+use crate::line::{MAX_VERTEX, cut_of, pair_of};
+use crate::split_line::split_of;
 use crate::stage::{Answer, Proving, Stage};
-use crate::{Claim, Proof, ProofLine};
+use crate::{Claim, Proof, ProofLine, Version};
 use cut_packing::{Cut, Packing};
 use st_model::{Listed, SplitAt};
 use std::alloc::{AllocError, Global};
@@ -116,14 +118,19 @@ fn at_close(alloc: Global, proving: Proving, line: &[u8]) -> Result<Stage, LineE
 
 /// What comes after a line where a half of a proof begins.
 #[tactic(auto, unfolding(crate::specs::Reading::step))]
-pub fn at_half(alloc: Global, proving: Proving, line: &[u8]) -> Result<Stage, LineError>
+pub fn at_half(
+    alloc: Global,
+    version: Version,
+    proving: Proving,
+    line: &[u8],
+) -> Result<Stage, LineError>
     requires { HalvesWait proving }
-    ensures { Gives (λ s. s) result (step (Stage.AtHalf proving) line.now) }
+    ensures { Gives (λ s. s) result (step version (Stage.AtHalf proving) line.now) }
 {
-    match number_of(line, b"S", 1, MAX_VERTEX) {
+    match split_of(version, line) {
         None => at_close(alloc, proving, line),
-        Some(vertex) => {
-            let stage = split(proving, SplitAt::Vertex(vertex as u32))?;
+        Some(at) => {
+            let stage = split(proving, at)?;
             Ok(stage)
         }
     }
@@ -141,7 +148,7 @@ pub fn at_cuts(
 ) -> Result<Stage, LineError>
     requires open { HalvesWait proving }
     requires some { 1 ≤ left }
-    ensures { Gives (λ s. s) result (step (Stage.AtCuts proving root cuts left) line.now) }
+    ensures { (version : VersionSpec) → Gives (λ s. s) result (step version (Stage.AtCuts proving root cuts left) line.now) }
 {
     let cut = cut_of(alloc, line)?;
     let mut cuts = cuts.into_vec();

@@ -2,19 +2,22 @@ ghost use Rattle.std.specs.Prelude.{◌≡◌, ◌∷◌, [], ◌++◌, ◌↔�
 ghost use Rattle.log_format.specs.Text.{AreWhole, Begins};
 ghost use Rattle.log_format.specs.Items.{IsItem, item_line};
 
-use crate::Item;
 use crate::fault::LineError;
+use crate::log::version_with;
 use crate::past::Past;
 use crate::place::Place;
 use crate::said::said;
+use crate::{Item, Version};
 use std::alloc::Global;
 use std::marker::Model;
 
-/// The lines of a log that were read so far. It keeps nothing of what they said but the counts of
-/// what is still expected, so its memory doesn't grow.
+/// The lines of a log that were read so far. It keeps nothing of what they said but the version and
+/// the counts of what is still expected, so its memory doesn't grow.
 #[derive(Drop)]
 pub struct LogReader {
     alloc: Global,
+    // Version 1 until the first line says it.
+    version: Version,
     place: Place,
     past: Past,
 }
@@ -28,7 +31,7 @@ impl Model for LogReader {
 
     ghost view = { λ r. r.past.pieces };
 
-    ghost invariant = { λ r. IsAfter r.past.pieces r.place };
+    ghost invariant = { λ r. IsAfter r.past.pieces r.version r.place };
 }
 
 impl LogReader {
@@ -39,6 +42,7 @@ impl LogReader {
     {
         LogReader {
             alloc,
+            version: Version::One,
             place: Place::BeforeHeader,
             past: Past::new(),
         }
@@ -52,7 +56,9 @@ impl LogReader {
         ensures refused { result ≡ Err LineError.BadLine → ¬ (Begins (self.old ++ line.now ∷ [])) }
         ensures same { OnErr result (self.new ≡ self.old) }
     {
-        let (item, place) = said(self.alloc, self.place, line)?;
+        let version = version_with(self.version, self.place.is_before_header(), line);
+        let (item, place) = said(self.alloc, version, self.place, line)?;
+        self.version = version;
         self.place = place;
         self.past.note(line);
         Ok(item)

@@ -1,15 +1,16 @@
 ghost use Rattle.std.specs.Prelude.{◌≡◌, ◌+◌, ◌-◌, ◌≤◌, None, codes};
-ghost use Rattle.log_format.specs.Reading.{Gives, number_of};
+ghost use Rattle.log_format.specs.Reading.{Gives, number_of, split_of};
+ghost use Rattle.log_format.specs.declared.log.Version.{Version as VersionSpec};
 ghost use Rattle.log_format.specs.Places.{IsPlace, said_if, after_cuts, half_said, said};
 
-use crate::Item;
 use crate::fault::LineError;
 use crate::line::{MAX_VERTEX, cut_of, number_of, pair_of, wall_of};
 use crate::place::Place;
 use crate::proving::root_of;
-use crate::stage::{HEADER, arc_of};
+use crate::split_line::split_of;
+use crate::stage::arc_of;
 use crate::step_line::step_of;
-use st_model::SplitAt;
+use crate::{Item, Version};
 use std::alloc::Global;
 
 // This item and this place, if the line is this one.
@@ -25,7 +26,7 @@ fn said_if(wanted: &[u8], line: &[u8], item: Item, next: Place) -> Result<(Item,
 // What the line of a claim says.
 #[tactic(auto, unfolding(crate::specs::Places::said))]
 fn claim_said(line: &[u8]) -> Result<(Item, Place), LineError>
-    ensures { Gives (λ x. x) result (said Place.BeforeClaim line.now) }
+    ensures { (version : VersionSpec) → Gives (λ x. x) result (said version Place.BeforeClaim line.now) }
 {
     if line == b"CLAIM NONE".as_slice() {
         return Ok((Item::ClaimNone, Place::BeforeWall));
@@ -39,7 +40,7 @@ fn claim_said(line: &[u8]) -> Result<(Item, Place), LineError>
 // What the line of a tree says.
 #[tactic(auto, unfolding(crate::specs::Places::said))]
 fn tree_said(line: &[u8]) -> Result<(Item, Place), LineError>
-    ensures { Gives (λ x. x) result (said Place.BeforeTree line.now) }
+    ensures { (version : VersionSpec) → Gives (λ x. x) result (said version Place.BeforeTree line.now) }
 {
     let (start, count) = pair_of(line, b"TREE", 1, MAX_VERTEX, 0, u64::MAX).ok_or(
         LineError::BadLine,
@@ -54,7 +55,7 @@ fn tree_said(line: &[u8]) -> Result<(Item, Place), LineError>
 // What a line says where arcs may stand.
 #[tactic(auto, unfolding(crate::specs::Places::said))]
 fn arc_said(left: u64, line: &[u8]) -> Result<(Item, Place), LineError>
-    ensures { Gives (λ x. x) result (said (Place.AmongArcs left) line.now) }
+    ensures { (version : VersionSpec) → Gives (λ x. x) result (said version (Place.AmongArcs left) line.now) }
 {
     if left == 0 {
         let count = number_of(line, b"STEPS", 0, u64::MAX).ok_or(LineError::BadLine)?;
@@ -67,7 +68,7 @@ fn arc_said(left: u64, line: &[u8]) -> Result<(Item, Place), LineError>
 // What a line says where steps may stand.
 #[tactic(auto, unfolding(crate::specs::Places::said))]
 fn step_said(alloc: Global, left: u64, line: &[u8]) -> Result<(Item, Place), LineError>
-    ensures { Gives (λ x. x) result (said (Place.AmongSteps left) line.now) }
+    ensures { (version : VersionSpec) → Gives (λ x. x) result (said version (Place.AmongSteps left) line.now) }
 {
     if left == 0 {
         return said_if(
@@ -110,15 +111,14 @@ fn close_said(waiting: u64, line: &[u8]) -> Result<(Item, Place), LineError>
 
 // What a line says where a half of a proof begins.
 #[tactic(auto, unfolding(crate::specs::Places::said))]
-fn half_said(waiting: u64, line: &[u8]) -> Result<(Item, Place), LineError>
-    ensures { Gives (λ x. x) result (said (Place.BeforeHalf waiting) line.now) }
+fn half_said(version: Version, waiting: u64, line: &[u8]) -> Result<(Item, Place), LineError>
+    ensures { Gives (λ x. x) result (said version (Place.BeforeHalf waiting) line.now) }
 {
-    match number_of(line, b"S", 1, MAX_VERTEX) {
+    match split_of(version, line) {
         None => close_said(waiting, line),
-        Some(vertex) => {
+        Some(at) => {
             let waiting = waiting.checked_add(1).ok_or(LineError::NoMemory)?;
-            let item = Item::Split(SplitAt::Vertex(vertex as u32));
-            Ok((item, Place::BeforeHalf { waiting }))
+            Ok((Item::Split(at), Place::BeforeHalf { waiting }))
         }
     }
 }
@@ -127,7 +127,7 @@ fn half_said(waiting: u64, line: &[u8]) -> Result<(Item, Place), LineError>
 #[tactic(auto, unfolding(crate::specs::Places::said))]
 fn cut_said(alloc: Global, left: u64, waiting: u64, line: &[u8]) -> Result<(Item, Place), LineError>
     requires { 1 ≤ left }
-    ensures { Gives (λ x. x) result (said (Place.AmongCuts left waiting) line.now) }
+    ensures { (version : VersionSpec) → Gives (λ x. x) result (said version (Place.AmongCuts left waiting) line.now) }
 {
     let cut = cut_of(alloc, line)?;
     Ok((Item::OneCut(cut), after_cuts(left - 1, waiting)))
@@ -136,25 +136,34 @@ fn cut_said(alloc: Global, left: u64, waiting: u64, line: &[u8]) -> Result<(Item
 // What a line says where a wall stands.
 #[tactic(auto, unfolding(crate::specs::Places::said))]
 fn wall_said(alloc: Global, line: &[u8]) -> Result<(Item, Place), LineError>
-    ensures { Gives (λ x. x) result (said Place.BeforeWall line.now) }
+    ensures { (version : VersionSpec) → Gives (λ x. x) result (said version Place.BeforeWall line.now) }
 {
     let wall = wall_of(alloc, line)?;
     Ok((Item::Wall(wall), Place::BeforeEnd))
 }
 
-/// What a line says where it stands, and what may follow, if it may stand there.
-#[tactic(auto, unfolding(crate::specs::Places::said))]
-pub fn said(alloc: Global, place: Place, line: &[u8]) -> Result<(Item, Place), LineError>
+/// What a line of a log of this version says where it stands, and what may follow, if it may stand there.
+pub fn said(
+    alloc: Global,
+    version: Version,
+    place: Place,
+    line: &[u8],
+) -> Result<(Item, Place), LineError>
     requires { IsPlace place }
-    ensures { Gives (λ x. x) result (said place line.now) }
+    ensures { Gives (λ x. x) result (said version place line.now) }
 {
     match place {
-        Place::BeforeHeader => said_if(HEADER, line, Item::Header, Place::BeforeClaim),
+        Place::BeforeHeader => said_if(
+            version.header(),
+            line,
+            Item::Header(version),
+            Place::BeforeClaim,
+        ),
         Place::BeforeClaim => claim_said(line),
         Place::BeforeTree => tree_said(line),
         Place::AmongArcs { left } => arc_said(left, line),
         Place::AmongSteps { left } => step_said(alloc, left, line),
-        Place::BeforeHalf { waiting } => half_said(waiting, line),
+        Place::BeforeHalf { waiting } => half_said(version, waiting, line),
         Place::AmongCuts { left, waiting } => cut_said(alloc, left, waiting, line),
         Place::BeforeWall => wall_said(alloc, line),
         Place::BeforeEnd => said_if(b"END", line, Item::Last, Place::AfterEnd),

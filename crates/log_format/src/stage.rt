@@ -1,12 +1,13 @@
 ghost use Rattle.std.specs.Prelude.{◌≡◌, ◌∷◌, [], ◌++◌, codes, option_map};
+ghost use Rattle.log_format.specs.declared.log.Version.{Version as VersionSpec};
 ghost use Rattle.log_format.specs.Reached.{IsReached};
-ghost use Rattle.log_format.specs.Reading.{Gives, pair_of, step_of, stage_if, with_step, step};
+ghost use Rattle.log_format.specs.Reading.{Gives, pair_of, step_of, stage_if, with_step, at_header, step};
 
 use crate::fault::LineError;
 use crate::line::{MAX_VERTEX, number_of, pair_of, wall_of};
 use crate::proving::{at_cuts, at_half};
 use crate::step_line::step_of;
-use crate::{Claim, ProofLine};
+use crate::{Claim, ProofLine, Version};
 use cut_packing::Cut;
 use lift_back::Step;
 use st_model::{Listed, Tree};
@@ -61,8 +62,14 @@ pub enum Stage {
     AtNothing(Claim),
 }
 
-/// The first line.
-pub const HEADER: &[u8] = b"STEINERLOG 1";
+impl Stage {
+    /// Whether no line was read.
+    pub fn is_at_header(&self) -> bool
+        ensures { result ≡ at_header self.now }
+    {
+        matches!(self, Stage::AtHeader)
+    }
+}
 
 // This stage, if the line is this one.
 fn stage_if(wanted: &[u8], line: &[u8], stage: Stage) -> Result<Stage, LineError>
@@ -77,7 +84,7 @@ fn stage_if(wanted: &[u8], line: &[u8], stage: Stage) -> Result<Stage, LineError
 // What comes after the line of a claim.
 #[tactic(auto, unfolding(crate::specs::Reading::step))]
 fn at_claim(line: &[u8]) -> Result<Stage, LineError>
-    ensures { Gives (λ s. s) result (step Stage.AtClaim line.now) }
+    ensures { (version : VersionSpec) → Gives (λ s. s) result (step version Stage.AtClaim line.now) }
 {
     if line == b"CLAIM NONE".as_slice() {
         return Ok(Stage::AtWall);
@@ -91,7 +98,7 @@ fn at_claim(line: &[u8]) -> Result<Stage, LineError>
 // What comes after the line of a tree.
 #[tactic(auto, unfolding(crate::specs::Reading::step))]
 fn at_tree(alloc: Global, primal: u64, dual: u64, line: &[u8]) -> Result<Stage, LineError>
-    ensures { Gives (λ s. s) result (step (Stage.AtTree primal dual) line.now) }
+    ensures { (version : VersionSpec) → Gives (λ s. s) result (step version (Stage.AtTree primal dual) line.now) }
 {
     let (start, left) = pair_of(line, b"TREE", 1, MAX_VERTEX, 0, u64::MAX).ok_or(
         LineError::BadLine,
@@ -135,7 +142,7 @@ fn at_arcs(
     left: u64,
     line: &[u8],
 ) -> Result<Stage, LineError>
-    ensures { Gives (λ s. s) result (step (Stage.AtArcs primal dual start arcs left) line.now) }
+    ensures { (version : VersionSpec) → Gives (λ s. s) result (step version (Stage.AtArcs primal dual start arcs left) line.now) }
 {
     if left == 0 {
         let left = number_of(line, b"STEPS", 0, u64::MAX).ok_or(LineError::BadLine)?;
@@ -181,7 +188,7 @@ fn with_step(alloc: Global, answer: Answer, line: &[u8]) -> Result<Answer, LineE
 // What comes after a line where steps may stand.
 #[tactic(auto, unfolding(crate::specs::Reading::step))]
 fn at_steps(alloc: Global, answer: Answer, left: u64, line: &[u8]) -> Result<Stage, LineError>
-    ensures { Gives (λ s. s) result (step (Stage.AtSteps answer left) line.now) }
+    ensures { (version : VersionSpec) → Gives (λ s. s) result (step version (Stage.AtSteps answer left) line.now) }
 {
     if left == 0 {
         let proving = Proving {
@@ -201,20 +208,19 @@ fn at_steps(alloc: Global, answer: Answer, left: u64, line: &[u8]) -> Result<Sta
 // What comes after a line where a wall stands.
 #[tactic(auto, unfolding(crate::specs::Reading::step))]
 fn at_wall(alloc: Global, line: &[u8]) -> Result<Stage, LineError>
-    ensures { Gives (λ s. s) result (step Stage.AtWall line.now) }
+    ensures { (version : VersionSpec) → Gives (λ s. s) result (step version Stage.AtWall line.now) }
 {
     let wall = wall_of(alloc, line)?;
     Ok(Stage::AtEnd(Claim::NoTree { wall }))
 }
 
-/// What comes after a line, if it may stand here.
-#[tactic(auto, unfolding(crate::specs::Reading::step))]
-pub fn step(alloc: Global, stage: Stage, line: &[u8]) -> Result<Stage, LineError>
-    requires { IsReached stage }
-    ensures { Gives (λ s. s) result (step stage line.now) }
+/// What comes after a line of a log of this version, if it may stand here.
+pub fn step(alloc: Global, version: Version, stage: Stage, line: &[u8]) -> Result<Stage, LineError>
+    requires { IsReached version stage }
+    ensures { Gives (λ s. s) result (step version stage line.now) }
 {
     match stage {
-        Stage::AtHeader => stage_if(HEADER, line, Stage::AtClaim),
+        Stage::AtHeader => stage_if(version.header(), line, Stage::AtClaim),
         Stage::AtClaim => at_claim(line),
         Stage::AtTree { primal, dual } => at_tree(alloc, primal, dual, line),
         Stage::AtArcs {
@@ -225,7 +231,7 @@ pub fn step(alloc: Global, stage: Stage, line: &[u8]) -> Result<Stage, LineError
             left,
         } => at_arcs(alloc, primal, dual, start, arcs, left, line),
         Stage::AtSteps { answer, left } => at_steps(alloc, answer, left, line),
-        Stage::AtHalf(proving) => at_half(alloc, proving, line),
+        Stage::AtHalf(proving) => at_half(alloc, version, proving, line),
         Stage::AtCuts {
             proving,
             root,

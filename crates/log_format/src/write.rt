@@ -2,9 +2,9 @@ ghost use Rattle.std.specs.Prelude.{◌≡◌, ◌<◌, ◌^◌, ◌∷◌, [], 
 ghost use Rattle.std.specs.List.{flat_map};
 ghost use Rattle.std.specs.Thread.{IsSync};
 ghost use Rattle.plain_text.specs.Lines.{ended};
-ghost use Rattle.log_format.specs.Text.{spaced, words, root_number, arc_line, cut_line, step_line, lines_of, claim_lines, log_text, IsInLogRange};
+ghost use Rattle.log_format.specs.Text.{spaced, words, root_number, arc_line, cut_line, step_line, lines_of, header, claim_lines, log_text, IsInLogRange};
 
-use crate::{Claim, Log, ProofLine};
+use crate::{Claim, Log, ProofLine, Version};
 use cut_packing::{Cut, Packing};
 use itoa::Buffer;
 use lift_back::Step;
@@ -303,6 +303,14 @@ fn write_claim<R: Threads + Sync>(
     }
 }
 
+// Writes the first line.
+fn write_header(text: &mut Text, version: Version) -> Result<(), AllocError>
+    ensures { OnOk result (text.new.items ≡ text.old.items ++ ended (header version)) }
+{
+    write_bytes(text, version.header())?;
+    write_end(text)
+}
+
 /// Writes the text of a log, in so many threads at most: where there are many splits and closes, each
 /// writes a part of them.
 pub fn write_log<R: Threads + Sync>(
@@ -315,7 +323,7 @@ pub fn write_log<R: Threads + Sync>(
     ensures { IfOk result (λ text. text.items ≡ log_text log.now) }
 {
     let mut text = Vec::new(alloc);
-    write_bytes(&mut text, b"STEINERLOG 1\n")?;
+    write_header(&mut text, log.version)?;
     write_claim(rt, alloc, &mut text, &log.claim, threads)?;
     write_bytes(&mut text, b"END\n")?;
     Ok(text)

@@ -7,11 +7,11 @@ use Rattle.st_model.specs.declared.tree.Tree.{Tree}
 use Rattle.st_model.specs.Lists.{has, sum_to, total}
 use Rattle.st_model.specs.Network.{Network, IsInstance, IsVertex, pays}
 use Rattle.st_model.specs.Arborescence.{IsArborescence, cost}
-use Rattle.st_model.specs.Branch.{Belongs, IsBranch, LeavesRequired, NoneIsCertain}
+use Rattle.st_model.specs.Branch.{ReachesAsTold, IsBranch, LeavesRequired, NoneIsCertain}
 use Rattle.st_model.proofs.Branches.{IsVertexSet-member}
 use Rattle.st_model.proofs.Sums.{sum_to_same}
 use Rattle.cut_packing.specs.declared.packing.Packing.{Packing}
-use Rattle.cut_packing.specs.Packing.{Fits, outside_pays, weight}
+use Rattle.cut_packing.specs.Packing.{Fits, base_weight, outside_pays, weight}
 use Rattle.level_packing.specs.Forest.{IsPresent}
 use Rattle.level_packing.specs.Spanning.{AreSets, IsSpanning}
 use Rattle.branching.specs.declared.node.Node.{Node}
@@ -52,20 +52,20 @@ some_present I B P least branch leaves light cheap = elim (all_or_one I B I.n (o
   | inr one ↦ one
 ]
 
--- a tree that reaches just who is present belongs to the branch
-pub spanning_belongs : (I : Network) (B : Branch) (t : Tree) → IsBranch I B → IsSpanning I B t → Belongs B t
-spanning_belongs I B t branch spans = record {
+-- a tree that reaches just who is present reaches what the branch says
+pub spanning_reaches : (I : Network) (B : Branch) (t : Tree) → IsBranch I B → IsSpanning I B t → ReachesAsTold B t
+spanning_reaches I B t branch spans = record {
   inside = λ v h. spans.present v (IsVertexSet-member I.n B.inside v branch.inside h) ∙ ap not (branch.apart v h);
   outside = λ v h. spans.present v (IsVertexSet-member I.n B.outside v branch.outside h) ∙ ap not h;
 }
 
--- a packing that weighs what a tree costs closes, whether the tree is the better one or not
-pub spanned_step : (I : Network) (N : Node) (t : Tree) (P : Packing) (least : ℕ) (better : Option Priced) → IsInstance I → IsArborescence I t → Fits I N.branch P
-    → weight I N.branch P ≡ cost I t → AreSets I.n P → length P.cuts ≤ 2 * I.n
+-- a packing that weighs no less than a tree costs closes, whether the tree is the better one or not
+pub spanned_step : (I : Network) (N : Node) (t : Tree) (P : Packing) (least : ℕ) (links : Bool) (better : Option Priced) → IsInstance I → IsArborescence I t → Fits I N.branch P
+    → cost I t ≤ weight I N.branch P → base_weight I N.branch P ≤ cost I t → AreSets I.n P → length P.cuts ≤ 2 * I.n
     → IfSome better (IsBetter I N.branch least) → IfSome better (λ p. p.price ≡ cost I t) → IfNone better (least ≤ cost I t)
-    → IsStep I N least (record { better = better; end = Close P })
-spanned_step I N t P least better instance arborescence fits weighs sets few is_better price none =
-    let small : total (λ c. c.y) P.cuts < 2 ^ 64 = omega (arith, weighs, cost_fits I t instance arborescence) in
+    → IsStep I N least links (record { better = better; end = Close P })
+spanned_step I N t P least links better instance arborescence fits weighs base sets few is_better price none =
+    let small : total (λ c. c.y) P.cuts < 2 ^ 64 = omega (arith, base, cost_fits I t instance arborescence) in
     let count : length P.cuts < 2 ^ 64 = omega (arith, few, instance.few_vertices) in
     record {
       tree = is_better;

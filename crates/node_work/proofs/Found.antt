@@ -9,7 +9,7 @@ use Rattle.st_model.specs.Lists.{has}
 use Rattle.st_model.specs.Network.{Network, IsInstance, is_required}
 use Rattle.cut_packing.specs.declared.cut.Cut.{Cut}
 use Rattle.cut_packing.specs.declared.packing.Packing.{Packing}
-use Rattle.cut_packing.specs.Packing.{Fits, IsRoot, weight}
+use Rattle.cut_packing.specs.Packing.{Fits, IsRoot, base_weight}
 use Rattle.dual_ascent.specs.declared.ascent.Ascent.{Ascent}
 use Rattle.dual_ascent.specs.declared.ascent.Ascent.TheVariants.{Full, Reached}
 use Rattle.dual_ascent.specs.Extension.{IsExtension, IsRootFor, IsStart}
@@ -35,7 +35,7 @@ still_certain I B part v is_part h = by_case (is_required I v) refl h
 
 -- cuts can be raised from nothing in a part of a branch
 pub part_extendable : (I : Network) (B part : Branch) (P : Packing) (root least : ℕ) → IsBranch I part → LeavesRequired I part → IsPartOf B part
-    → IsRootFor I B P root → weight I part no_cuts < least → IsExtendable I part no_cuts root least
+    → IsRootFor I B P root → base_weight I part no_cuts < least → IsExtendable I part no_cuts root least
 part_extendable I B part P root least branch required is_part rooted light = record {
   start = record {
     branch = branch;
@@ -54,11 +54,11 @@ fitting_root I B P root fits is =
     record { vertex = at.vertex; certain = at.certain; same = inr is }
 
 -- a packing that reached the least cost known closes the branch
-pub reached_closes : (I : Network) (B : Branch) (P : Packing) (root least : ℕ) (ascent : Ascent) (found : Option Packing) → IsInstance I → weight I B P ≤ least → least < 2 ^ 64
-    → IsExtension I B P root (least - weight I B P) ascent → IfSome found (λ new. ascent ≡ Reached new) → IfSome found (IsClosedBy I B least)
+pub reached_closes : (I : Network) (B : Branch) (P : Packing) (root least : ℕ) (ascent : Ascent) (found : Option Packing) → IsInstance I → base_weight I B P ≤ least → least < 2 ^ 64
+    → IsExtension I B P root (least - base_weight I B P) ascent → IfSome found (λ new. ascent ≡ Reached new) → IfSome found (IsClosedBy I B least)
 reached_closes I B P root least ascent None instance light small e is = tt
 reached_closes I B P root least ascent (Some new) instance light small e is =
-    let r : IsExtension I B P root (least - weight I B P) (Reached new) = subst (IsExtension I B P root (least - weight I B P)) is e in
+    let r : IsExtension I B P root (least - base_weight I B P) (Reached new) = subst (IsExtension I B P root (least - base_weight I B P)) is e in
     (record { fits = r.0.fits; weighs = omega (arith, light, r.1) }, writable_packing I B new instance r.0.fits r.0.sets r.0.few (omega (arith, light, small, r.1)))
 
 -- a full packing that an ascent gave can be extended as well

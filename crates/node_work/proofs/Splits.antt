@@ -4,17 +4,18 @@ use Rattle.std.specs.Prelude.{IsTrue}
 use Rattle.std.proofs.lemmas.Bool.{and_from}
 use Rattle.std.proofs.lemmas.List.Filters.{length-filter_both}
 use Rattle.std.proofs.lemmas.List.Elements.{All-filter}
-use Rattle.st_model.specs.declared.split_at.SplitAt.TheVariants.{Vertex}
+use Rattle.st_model.specs.declared.split_at.SplitAt.{SplitAt}
+use Rattle.st_model.specs.declared.split_at.SplitAt.TheVariants.{Vertex, Link}
 use Rattle.st_model.specs.declared.branch.Branch.{Branch}
 use Rattle.st_model.specs.Lists.{has}
-use Rattle.st_model.specs.Network.{Network, is_required}
+use Rattle.st_model.specs.Network.{Network, IsInstance, is_required}
 use Rattle.st_model.specs.Branch.{is_certain}
 use Rattle.cut_packing.specs.declared.packing.Packing.{Packing}
-use Rattle.cut_packing.specs.ProofTree.{IsSplit}
+use Rattle.cut_packing.specs.ProofTree.{IsSplitAt}
 use Rattle.level_packing.specs.Forest.{IsPresent}
 use Rattle.log_format.specs.Text.{IsWritableCut, IsWritablePacking}
 use Rattle.branching.specs.declared.node.Node.{Node}
-use Rattle.branching.specs.Node.{inside_half, outside_half, without}
+use Rattle.branching.specs.Node.{no_node, no_packing, without, yes_node}
 use Rattle.branching.specs.Choice.{IsDecided}
 use Rattle.branching.proofs.NoLighter.{halves_are_no_lighter_lem}
 use Rattle.node_work.specs.Node.{IsWritableNode}
@@ -43,10 +44,14 @@ writable_without P v writable = record {
 }
 
 -- the halves of a node that can be written can be written
-pub writable_halves : (I : Network) (N : Node) (v id id' : ℕ) → IsWritableNode I N → IsSplit I N.branch v
-    → IsWritableNode I (inside_half N v id) × IsWritableNode I (outside_half N v id')
-writable_halves I N v id id' h is_split =
-    let halves = halves_are_no_lighter_lem I N (Vertex v) id id' h.node is_split in (
+pub writable_halves : (I : Network) (N : Node) (at : SplitAt) (id id' : ℕ) → IsInstance I → IsWritableNode I N → IsSplitAt I N.branch at
+    → IsWritableNode I (yes_node N at id) × IsWritableNode I (no_node N at id')
+writable_halves I N at id id' instance h is_split =
+    let halves = halves_are_no_lighter_lem I N at id id' instance h.node is_split in (
       record { node = halves.0.node; writable = h.writable },
-      record { node = halves.1.node; writable = writable_without N.packing v h.writable },
+      record { node = halves.1.node; writable = kept at },
     )
+  where
+    kept : (at : SplitAt) → IsWritablePacking (no_packing N.packing at)
+    kept (Vertex v) = writable_without N.packing v h.writable
+    kept (Link a b) = h.writable

@@ -6,6 +6,7 @@ use Rattle.std.proofs.lemmas.List.Elements.{recursion_from_All, All-from_recursi
 use Rattle.st_model.specs.declared.branch.Branch.{Branch}
 use Rattle.st_model.specs.Lists.{total}
 use Rattle.st_model.specs.Network.{Network, IsInstance, IsVertex}
+use Rattle.st_model.specs.Ground.{ground}
 use Rattle.st_model.specs.Branch.{IsVertexSet}
 use Rattle.st_model.proofs.Members.{length-has}
 use Rattle.cut_packing.specs.declared.cut.Cut.{Cut}
@@ -22,7 +23,7 @@ any_vertices n (v ∷ vs) few h = ((h.0.0, omega (arith, h.0.1)), any_vertices n
 
 writable_cut : (I : Network) (B : Branch) (c : Cut) → IsInstance I → CutFits I B c → IsVertexSet I.n c.set → c.y < 2 ^ 64 → IsWritableCut c
 writable_cut I B c instance fits set small = record {
-  q = any_vertex I c.q instance (named_vertex I B c fits);
+  q = any_vertex I c.q instance (named_vertex (ground I) B c fits);
   y = small;
   set = record {
     some = length-has c.set c.q fits.member;

@@ -1,11 +1,14 @@
 -- What the work on a node may answer.
-use Rattle.std.specs.Prelude.{◌≡◌, ℕ, ◌<◌, ◌≤◌, ◌⊎◌, Option, Some, None, IfSome}
+use Rattle.std.specs.Prelude.{◌≡◌, ℕ, ◌<◌, ◌≤◌, ◌⊎◌, Bool, IsTrue, Option, Some, None, IfSome}
+use Rattle.st_model.specs.declared.branch.Branch.{Branch}
+use Rattle.st_model.specs.declared.split_at.SplitAt.{SplitAt}
+use Rattle.st_model.specs.declared.split_at.SplitAt.TheVariants.{Vertex, Link}
 use Rattle.st_model.specs.declared.tree.Tree.{Tree}
 use Rattle.st_model.specs.Network.{Network}
 use Rattle.st_model.specs.Branch.{NoneIsCertain}
-use Rattle.cut_packing.specs.Packing.{weight}
+use Rattle.cut_packing.specs.Packing.{base_weight, weight}
 use Rattle.cut_packing.specs.Full.{IsFull}
-use Rattle.cut_packing.specs.ProofTree.{Closes, IsSplit}
+use Rattle.cut_packing.specs.ProofTree.{Closes, IsSplitAt}
 use Rattle.log_format.specs.Text.{IsWritablePacking}
 use Rattle.branching.specs.declared.node.Node.{Node}
 use Rattle.branching.specs.Choice.{IsChoice}
@@ -21,21 +24,32 @@ abbrev pub best_after : Option Tree → Option Priced → Option Tree
 best_after best None = best
 best_after best (Some p) = Some p.tree
 
--- the node splits at v, with a packing that is no lighter
-pub record SplitsAt (I : Network) (N : Node) (least : ℕ) (M : Node) (v : ℕ) : Type 0 where
+-- where a node may be split: at a link only if links are to be split
+abbrev pub MaySplit : Bool → SplitAt → Type 0
+MaySplit links (Vertex v) = Unit {0}
+MaySplit links (Link a b) = IsTrue links
+
+-- the split is at a vertex that pays most
+abbrev pub IsChoiceAt : Network → Branch → SplitAt → Type 0
+IsChoiceAt I B (Vertex v) = IsChoice I B v
+IsChoiceAt I B (Link a b) = ⊥
+
+-- the node splits there, with a packing that is no lighter but for links that are a must: a cut more may leave less of two of these
+pub record SplitsAt (I : Network) (N : Node) (least : ℕ) (links : Bool) (M : Node) (at : SplitAt) : Type 0 where
   pub same : M.branch ≡ N.branch
   pub node : IsWritableNode I M
-  pub no_lighter : weight I N.branch N.packing ≤ weight I M.branch M.packing
-  pub split : IsSplit I N.branch v
-  -- where no vertex is certain, v is one that pays most; else the packing is full, and weighs less than the least cost known
-  pub bounded : (NoneIsCertain I N.branch × IsChoice I N.branch v) ⊎ (IsFull I M.branch M.packing × (weight I M.branch M.packing < least))
+  pub no_lighter : base_weight I N.branch N.packing ≤ base_weight I M.branch M.packing
+  pub split : IsSplitAt I N.branch at
+  pub allowed : MaySplit links at
+  -- where no vertex is certain, it is at one that pays most; else the packing is full, and weighs less than the least cost known
+  pub bounded : (NoneIsCertain I N.branch × IsChoiceAt I N.branch at) ⊎ (IsFull I M.branch M.packing × (weight I M.branch M.packing < least))
 
 -- a packing that closes the branch at the least cost known, or a split
-abbrev pub IsEnd : Network → Node → ℕ → End → Type 0
-IsEnd I N least (Close P) = Closes I N.branch least P × IsWritablePacking P
-IsEnd I N least (Split M v plan) = SplitsAt I N least M v
+abbrev pub IsEnd : Network → Node → ℕ → Bool → End → Type 0
+IsEnd I N least links (Close P) = Closes I N.branch least P × IsWritablePacking P
+IsEnd I N least links (Split M at plan) = SplitsAt I N least links M at
 
 -- a better tree, if one was found, and how the node ends with the least cost known then
-pub record IsStep (I : Network) (N : Node) (least : ℕ) (step : Step) : Type 0 where
+pub record IsStep (I : Network) (N : Node) (least : ℕ) (links : Bool) (step : Step) : Type 0 where
   pub tree : IfSome step.better (IsBetter I N.branch least)
-  pub ends : IsEnd I N (least_after least step.better) step.end
+  pub ends : IsEnd I N (least_after least step.better) links step.end

@@ -1,5 +1,4 @@
 -- What packings are raised for, and what is raised and found for that.
-use Rattle.std.specs.Prelude.{ℕ}
 use Rattle.cut_packing.specs.declared.packing.Packing.{Packing}
 use Rattle.dual_ascent.specs.declared.extension.Extension.{Extension}
 use Rattle.node_work.specs.declared.step.Finding.{Finding}

@@ -7,7 +7,7 @@ use crate::freeing::Freeing;
 use crate::rooted::Rooted;
 use crate::target::Target;
 use better_trees::{Draws, gap};
-use cut_packing::weight;
+use cut_packing::base_weight;
 use dual_ascent::{Extension, free, raise_over};
 use std::alloc::{AllocError, Global};
 use std::thread;
@@ -80,8 +80,8 @@ fn raised_without(
     let kept = free(alloc, &whole.store, branch, packing, &mut left, freed)?;
     let target = gap(&whole.instance, branch, &kept, site.target.least);
     let raised = raise_over(alloc, &whole.store, branch, kept, left, order, target)?;
-    let before = weight(&whole.instance, branch.branch(), packing);
-    if weight(&whole.instance, branch.branch(), raised.ascent.packing()) < before {
+    let before = base_weight(&whole.instance, branch.branch(), packing);
+    if base_weight(&whole.instance, branch.branch(), raised.ascent.packing()) < before {
         return Ok(None);
     }
     Ok(Some(raised))

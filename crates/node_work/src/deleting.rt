@@ -2,7 +2,7 @@ use crate::room::Room;
 use better_trees::Place;
 use better_trees::by_vertex::at;
 use cut_packing::Packing;
-use st_model::Sides;
+use st_model::{Sides, SplitAt};
 use std::alloc::{AllocError, Global};
 
 /// The vertices of a branch that have to be outside for a packing of a part of it to fit it: tails of
@@ -12,7 +12,7 @@ pub fn needed(
     place: &Place<'_>,
     part: &Sides,
     packing: &Packing,
-) -> Result<Vec<u32>, AllocError> {
+) -> Result<Vec<SplitAt>, AllocError> {
     let whole = place.whole;
     let vertices = whole.instance.vertices();
     let mut room = Room::of(alloc, &whole.store, &whole.instance, place.branch)?;
@@ -25,7 +25,7 @@ pub fn needed(
         let vertex = before + 1;
         let is_deleted = part.is_outside(vertex) && !place.branch.is_outside(vertex);
         if is_deleted && (at(&short, vertex, false) || whole.instance.prize(vertex) > 0) {
-            needed.push(vertex)?;
+            needed.push(SplitAt::Vertex(vertex))?;
         }
     }
     Ok(needed)

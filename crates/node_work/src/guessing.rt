@@ -14,9 +14,9 @@ use crate::repairing::repaired;
 use crate::step::Finding;
 use crate::target::Target;
 use better_trees::{Incumbent, Means, Place, Priced, better_tree, later, narrowed};
-use cut_packing::{Packing, weight};
+use cut_packing::{Packing, base_weight};
 use dual_ascent::{Ascent, Extension};
-use st_model::{Instance, Sides, VertexSet};
+use st_model::{Instance, Sides, SplitAt, VertexSet};
 use std::alloc::AllocError;
 use std::thread::Threads;
 
@@ -54,7 +54,7 @@ pub fn guess<R: Threads + Sync>(
     let part = narrowed(means.alloc, instance, branch, near)?;
     let part = Sides::of(means.alloc, part)?;
     let bare = no_cuts(means.alloc);
-    if weight(instance, part.branch(), &bare) >= u128::from(target.least) {
+    if base_weight(instance, part.branch(), &bare) >= u128::from(target.least) {
         return Ok(nothing());
     }
     guess_within(means, target, &part, bare, incumbent)
@@ -112,9 +112,9 @@ fn carried_over<R: Threads + Sync>(
     requires sets { All (λ c. IsVertexSet target.now.place.whole.now.instance.n c.set) packing.cuts }
     ensures { IfOk result (IsFindingFor target.now) }
 {
-    let vertices = needed(means.alloc, &target.place, part, &packing)?;
-    if are_few(&vertices) {
-        return Ok(planned(Plan::of(&target.place.whole.instance, vertices, packing)));
+    let places = needed(means.alloc, &target.place, part, &packing)?;
+    if are_few(&places) {
+        return Ok(planned(Plan::of(&target.place.whole.instance, places, Some(packing))));
     }
     let closing = repaired(means, target, packing, guide)?;
     Ok(Finding {
@@ -164,8 +164,8 @@ fn planned(plan: Plan) -> Finding
 }
 
 // Whether so few vertices are to be deleted that this is worth two lines of the proof each.
-fn are_few(vertices: &[u32]) -> bool {
-    !vertices.is_empty() && vertices.len() <= MOST_DELETED
+fn are_few(places: &[SplitAt]) -> bool {
+    !places.is_empty() && places.len() <= MOST_DELETED
 }
 
 /// What was found before and after a better tree was.

@@ -4,11 +4,12 @@
 //! the cuts round a fault; trees tell where faults are, and a guess who is outside may close the node, or plan how to
 //! close it by few deletions. All of this is looked for, and judged before it is used. Of what `expand` answers
 //! callers may rely on that a better tree is one of the branch and costs less, that the packing of a close closes
-//! the branch at the least cost known then, and that a split is at a vertex where the branch may be split, by a
-//! packing that is no lighter; nothing is claimed of which of these is found.
+//! the branch at the least cost known then, and that a split is where the branch may be split, at a link only if
+//! links are to be split, by a packing that is no lighter; nothing is claimed of which of these is found.
 #![tactic(auto)]
 
 mod attempt;
+mod barring;
 mod deciding;
 mod deleting;
 mod expanding;
@@ -30,7 +31,7 @@ mod target;
 
 pub use attempt::{Attempt, Site, make_all};
 pub use deciding::root_of;
-pub use expanding::expand;
+pub use expanding::{Manner, expand};
 pub use node::no_cuts;
 pub use plan::Plan;
 pub use raising::raise;

@@ -1,70 +1,84 @@
 ghost use Rattle.std.specs.Prelude.{All, IfSome};
+ghost use Rattle.std.specs.Bool.{OnTrue};
 ghost use Rattle.st_model.specs.Branch.{IsBranch, IsVertexSet};
-ghost use Rattle.cut_packing.specs.ProofTree.{IsSplit};
+ghost use Rattle.cut_packing.specs.ProofTree.{IsSplitAt};
+ghost use Rattle.node_work.specs.Step.{MaySplit};
 
-use branching::may_split;
+use branching::may_split_at;
 use cut_packing::Packing;
-use st_model::{Branch, Instance};
+use st_model::{Branch, Instance, SplitAt};
 use std::marker::Model;
 
-/// How a node is to close: vertices at which it splits one after another, each so far from the root that
-/// the half inside closes by that, and a packing for the branch where all of them are outside. Nothing is
-/// claimed of it but that the packing's cuts are of the instance: halves and packings are judged as any
-/// others.
+/// How a node goes on: where it splits, one after another, so that each time the half that says yes closes
+/// at once. At vertices these are so far from the root that to reach them costs too much, and there is a
+/// packing for the branch where all of them are outside; at links each bears so much less than it costs
+/// that to use them does. Nothing is claimed of it but that the packing's cuts are of the instance: halves
+/// and packings are judged as any others.
 #[derive(Debug, Drop)]
 pub struct Plan {
-    vertices: Vec<u32>,
-    closing: Packing,
+    places: Vec<SplitAt>,
+    closing: Option<Packing>,
     // How many vertices the instance has.
     count: u32,
 }
 
 impl Model for Plan {
-    ghost use Rattle.std.specs.Prelude.{All};
+    ghost use Rattle.std.specs.Prelude.{All, IfSome, Option};
     ghost use Rattle.st_model.specs.Branch.{IsVertexSet};
     ghost use Rattle.cut_packing.specs.declared.packing.Packing.{Packing};
 
     // The packing.
-    ghost Value = { Packing };
+    ghost Value = { Option Packing };
 
     ghost view = { λ p. p.closing };
 
-    ghost invariant = { λ p. All (λ c. IsVertexSet p.count c.set) p.closing.cuts };
+    ghost invariant = { λ p. IfSome p.closing (λ P. All (λ c. IsVertexSet p.count c.set) P.cuts) };
 }
 
 impl Plan {
-    /// To split at these vertices of an instance, and to close by this packing.
-    pub fn of(instance: &Instance, vertices: Vec<u32>, closing: Packing) -> Plan
-        requires { All (λ c. IsVertexSet instance.now.n c.set) closing.cuts }
+    /// To split at these places of an instance, and then to close by this packing, if there is one.
+    pub fn of(instance: &Instance, places: Vec<SplitAt>, closing: Option<Packing>) -> Plan
+        requires { IfSome closing (λ P. All (λ c. IsVertexSet instance.now.n c.set) P.cuts) }
     {
         Plan {
-            vertices,
+            places,
             closing,
             count: instance.vertices(),
         }
     }
 
-    /// The first of its vertices at which a branch may be split.
-    pub fn next(&self, instance: &Instance, branch: &Branch) -> Option<u32>
+    /// The first of its places at which a branch may be split, at a link only if links are to be split.
+    pub fn next(&self, instance: &Instance, branch: &Branch, links: bool) -> Option<SplitAt>
         requires { IsBranch instance.now branch.now }
-        ensures { IfSome result (IsSplit instance.now branch.now) }
+        ensures split { IfSome result (IsSplitAt instance.now branch.now) }
+        ensures allowed { IfSome result (MaySplit links) }
     {
-        for vertex in self.vertices.as_slice() {
-            if may_split(instance, branch, *vertex) {
-                return Some(*vertex);
+        for place in self.places.as_slice() {
+            if is_allowed(*place, links) && may_split_at(instance, branch, *place) {
+                return Some(*place);
             }
         }
         None
     }
 
-    /// Its packing, if that is one of this instance.
+    /// Its packing, if it has one and that is of this instance.
     pub fn into_closing(self, instance: &Instance) -> Option<Packing>
         ensures { IfSome result (λ P. All (λ c. IsVertexSet instance.now.n c.set) P.cuts) }
     {
         if self.count == instance.vertices() {
-            Some(self.closing)
+            self.closing
         } else {
             None
         }
+    }
+}
+
+// Whether it is at a vertex, or links are to be split.
+fn is_allowed(place: SplitAt, links: bool) -> bool
+    ensures { OnTrue result (MaySplit links place) }
+{
+    match place {
+        SplitAt::Vertex(_) => true,
+        SplitAt::Link(_, _) => links,
     }
 }

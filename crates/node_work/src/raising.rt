@@ -1,6 +1,6 @@
 ghost use Rattle.std.specs.Prelude.{◌≤◌, IfOk};
 ghost use Rattle.std.specs.Bool.{OnTrue, OnFalse};
-ghost use Rattle.cut_packing.specs.Packing.{Fits, weight};
+ghost use Rattle.cut_packing.specs.Packing.{Fits, base_weight};
 ghost use Rattle.dual_ascent.specs.Extension.{packing_of};
 ghost use Rattle.node_work.specs.Raising.{IsHeavier, IsNoWorse};
 ghost use Rattle.node_work.specs.Target.{IsExtendableFor, IsExtendedFor};
@@ -8,7 +8,7 @@ ghost use Rattle.node_work.specs.Target.{IsExtendableFor, IsExtendedFor};
 use crate::node::no_cuts;
 use crate::target::Target;
 use better_trees::{Place, gap};
-use cut_packing::{Packing, fits, weight};
+use cut_packing::{Packing, base_weight, fits};
 use dual_ascent::{Ascent, Extension, extend};
 use std::alloc::{AllocError, Global};
 
@@ -63,13 +63,13 @@ pub fn is_start(
 ) -> Result<bool, AllocError>
     ensures { IfOk result (λ yes. OnTrue yes
         (Fits place.now.whole.now.instance place.now.branch.now packing.now
-        × (weight place.now.whole.now.instance place.now.branch.now packing.now ≤ least))) }
+        × (base_weight place.now.whole.now.instance place.now.branch.now packing.now ≤ least))) }
 {
     let instance = &place.whole.instance;
     if !fits(alloc, instance, place.branch, packing)? {
         return Ok(false);
     }
-    Ok(weight(instance, place.branch.branch(), packing) <= u128::from(least))
+    Ok(base_weight(instance, place.branch.branch(), packing) <= u128::from(least))
 }
 
 /// Of two extensions the second, where it weighs enough or more than the first.
@@ -88,15 +88,15 @@ fn is_heavier(place: &Place<'_>, first: &Ascent, second: &Ascent) -> bool
     ensures heavier { OnTrue result
         (IsNoWorse place.now.whole.now.instance place.now.branch.now first.now second.now) }
     ensures lighter { OnFalse result
-        (weight place.now.whole.now.instance place.now.branch.now (packing_of second.now)
-        ≤ weight place.now.whole.now.instance place.now.branch.now (packing_of first.now)) }
+        (base_weight place.now.whole.now.instance place.now.branch.now (packing_of second.now)
+        ≤ base_weight place.now.whole.now.instance place.now.branch.now (packing_of first.now)) }
 {
     match second {
         Ascent::Reached(_) => true,
         Ascent::Full(packing) => {
             let instance = &place.whole.instance;
             let branch = place.branch.branch();
-            weight(instance, branch, packing) > weight(instance, branch, first.packing())
+            base_weight(instance, branch, packing) > base_weight(instance, branch, first.packing())
         }
     }
 }

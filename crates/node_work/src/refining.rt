@@ -6,7 +6,7 @@ use crate::raising::raise;
 use crate::rooted::Rooted;
 use crate::target::Target;
 use better_trees::{Draws, Effort, Incumbent, Means, Place};
-use cut_packing::{Packing, weight};
+use cut_packing::{Packing, base_weight};
 use dual_ascent::Extension;
 use graph_store::Whole;
 use std::alloc::{AllocError, Global};
@@ -194,7 +194,7 @@ fn threads_for(whole: &Whole, threads: usize) -> usize {
 
 // What the packing of an extension weighs.
 fn weight_of(place: &Place<'_>, extension: &Extension) -> u128 {
-    weight(
+    base_weight(
         &place.whole.instance,
         place.branch.branch(),
         extension.ascent.packing(),

@@ -2,6 +2,7 @@ use crate::plan::Plan;
 use better_trees::Priced;
 use branching::Node;
 use cut_packing::Packing;
+use st_model::SplitAt;
 
 /// What is found beside a full packing: a tree cheaper than the least cost known, and a packing that
 /// weighs at least the least cost known by then, or a plan how to close.
@@ -25,7 +26,7 @@ pub struct Step {
 pub enum End {
     /// It closes by this packing, which weighs at least the least cost known by then.
     Close(Packing),
-    /// It splits at this vertex; it has the packing with which its halves begin. Where there is a plan the
-    /// vertex is deleted by it: the half inside closes, and the one outside goes on by the plan.
-    Split(Node, u32, Option<Plan>),
+    /// It splits here; it has the packing with which its halves begin. Where there is a plan, the half that
+    /// says yes closes by it, and the one that says no goes on by the plan.
+    Split(Node, SplitAt, Option<Plan>),
 }

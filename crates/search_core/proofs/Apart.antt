@@ -1,15 +1,18 @@
 -- No node stands twice in a tree that is read off: the halves of a split have branches that no node has both of.
-use Rattle.std.proofs.Common.{◌≡◌, ℕ, ◌≤◌, Bool, true, false, not, ◌&&◌, List, ◌++◌, map, refl, sym, ◌∙◌, subst, arith, inl, inr}
+use Rattle.std.proofs.Common.{◌≡◌, ℕ, ◌≤◌, true, ◌||◌, List, [], ◌∷◌, ◌++◌, map, refl, sym, ◌∙◌, subst, arith, inl, inr}
 use Rattle.std.specs.Prelude.{◌==◌, Contains, All, ◌⊎◌}
-use Rattle.std.proofs.lemmas.Bool.{or_left, or_right, or_cases, eqb-true, eq-eqb, false≢true}
+use Rattle.std.proofs.lemmas.Bool.{or_left, or_right, or_cases, eqb-true, eq-eqb, both_ways, not-true}
 use Rattle.std.proofs.lemmas.List.Elements.{All-contains, All-weaker}
 use Rattle.st_model.specs.declared.split_at.SplitAt.{SplitAt}
 use Rattle.st_model.specs.declared.split_at.SplitAt.TheVariants.{Vertex, Link}
 use Rattle.st_model.specs.declared.branch.Branch.{Branch}
-use Rattle.st_model.specs.Branch.{is_undecided, with_inside, with_outside, with_vertex, yes_half, no_half}
+use Rattle.st_model.specs.Branch.{is_present, is_undecided, joined, with_vertex, yes_half, no_half}
 use Rattle.st_model.specs.Lists.{has}
+use Rattle.st_model.specs.Made.{is_between, has_pair}
 use Rattle.st_model.specs.Network.{Network}
-use Rattle.st_model.proofs.Halves.{has-with_vertex}
+use Rattle.st_model.proofs.Branches.{undecided_parts}
+use Rattle.st_model.proofs.Halves.{has-both, has-with_vertex}
+use Rattle.st_model.proofs.Pairs.{apart_from, has_pair-push, own}
 use Rattle.cut_packing.specs.declared.packing.Packing.{Packing}
 use Rattle.cut_packing.specs.Packing.{weight}
 use Rattle.cut_packing.specs.ProofTree.{ProofTree, IsSplitAt}
@@ -66,19 +69,10 @@ close_right G I R start budget complete id P B there made =
     at_least a b c h k = omega arith
 
 not_inside : (B : Branch) (v : ℕ) → is_undecided B v ≡ true → has B.inside v ≡ true → ⊥
-not_inside B v h k = by_tests (has B.inside v) (has B.outside v) h k
-  where
-    by_tests : (a b : Bool) → (not a && not b) ≡ true → a ≡ true → ⊥
-    by_tests true b h k = absurd cc
-    by_tests false b h k = absurd cc
+not_inside B v h k = both_ways (has B.inside v) (undecided_parts B v h).0 k
 
 not_outside : (B : Branch) (v : ℕ) → is_undecided B v ≡ true → has B.outside v ≡ true → ⊥
-not_outside B v h k = by_tests (has B.inside v) (has B.outside v) h k
-  where
-    by_tests : (a b : Bool) → (not a && not b) ≡ true → b ≡ true → ⊥
-    by_tests true b h k = absurd cc
-    by_tests false true h k = absurd cc
-    by_tests false false h k = absurd cc
+not_outside B v h k = both_ways (has B.outside v) (undecided_parts B v h).1 k
 
 -- who is in a set with a vertex is that vertex, or was in the set
 with_cases : (xs : List ℕ) (v w : ℕ) → has (with_vertex xs v) w ≡ true → (v ≡ w) ⊎ (has xs w ≡ true)
@@ -88,26 +82,66 @@ with_cases xs v w h =
       | inr old ↦ inr old
     ]
 
+-- the same of a set with the ends of a link that are present
+with_ends : (B : Branch) (a b w : ℕ) → is_present B a ≡ true → is_present B b ≡ true → has (joined (joined B.inside a) b) w ≡ true → has B.outside w ≡ true → has B.inside w ≡ true
+with_ends B a b w low high h k =
+    elim (or_cases (b == w) ((a == w) || has B.inside w) (sym (has-both B.inside a b w) ∙ h)) [
+      | inl is ↦ absurd (absent b high is)
+      | inr rest ↦ elim (or_cases (a == w) (has B.inside w) rest) [
+        | inl is ↦ absurd (absent a low is)
+        | inr old ↦ old
+      ]
+    ]
+  where
+    absent : (v : ℕ) → is_present B v ≡ true → (v == w) ≡ true → ⊥
+    absent v there is = both_ways (has B.outside w) (not-true (has B.outside w) (subst (λ (x : ℕ). is_present B x ≡ true) (eqb-true v w is) there)) k
+
 -- no vertex is inside and outside of the branch of a node that was made
 pub made_apart : (G : Gathered) (I : Network) (R : Branch) (start budget : ℕ) → SidesAreApart R → IsComplete G I R start budget → (id : ℕ) (B : Branch) → IsMade R (records G) id B → (w : ℕ) → has B.inside w ≡ true → has B.outside w ≡ true → ⊥
-made_apart G I R start budget sides complete id B root w h k = absurd (false≢true (sym (sides w h) ∙ k))
-made_apart G I R start budget sides complete id B (inside_of {id = a} {at = Link x y} {i} {o} {P} {B = C} c m) w h k = absurd (split_right G I R start budget complete a (Link x y) i o P C c m)
+made_apart G I R start budget sides complete id B root w h k = both_ways (has R.outside w) (sides.vertices w h) k
 made_apart G I R start budget sides complete id B (inside_of {id = a} {at = Vertex v} {i} {o} {P} {B = C} c m) w h k =
     elim (with_cases C.inside v w h) [
       | inl is ↦ not_outside C v (split_right G I R start budget complete a (Vertex v) i o P C c m).undecided (subst (λ (x : ℕ). has C.outside x ≡ true) (sym is) k)
       | inr old ↦ made_apart G I R start budget sides complete a C m w old k
     ]
-made_apart G I R start budget sides complete id B (outside_of {id = a} {at = Link x y} {i} {o} {P} {B = C} c m) w h k = absurd (split_right G I R start budget complete a (Link x y) i o P C c m)
 made_apart G I R start budget sides complete id B (outside_of {id = a} {at = Vertex v} {i} {o} {P} {B = C} c m) w h k =
     elim (with_cases C.outside v w k) [
       | inl is ↦ not_inside C v (split_right G I R start budget complete a (Vertex v) i o P C c m).undecided (subst (λ (x : ℕ). has C.inside x ≡ true) (sym is) h)
       | inr old ↦ made_apart G I R start budget sides complete a C m w h old
+    ]
+made_apart G I R start budget sides complete id B (inside_of {id = a} {at = Link x y} {i} {o} {P} {B = C} c m) w h k =
+    let may = split_right G I R start budget complete a (Link x y) i o P C c m in
+    made_apart G I R start budget sides complete a C m w (with_ends C x y w may.low may.high h k) k
+made_apart G I R start budget sides complete id B (outside_of {id = a} {at = Link x y} {i} {o} {P} {B = C} c m) w h k = made_apart G I R start budget sides complete a C m w h k
+
+-- which is among pairs with one more is that one, or was among them
+pair_cases : (ps : List (ℕ × ℕ)) (a b u v : ℕ) → has_pair (ps ++ (a, b) ∷ []) u v ≡ true → (has_pair ps u v ≡ true) ⊎ (is_between (a, b) u v ≡ true)
+pair_cases ps a b u v h = or_cases (has_pair ps u v) (is_between (a, b) u v) (sym (has_pair-push ps (a, b) u v) ∙ h)
+
+-- and no link is both a must and barred
+made_links_apart : (G : Gathered) (I : Network) (R : Branch) (start budget : ℕ) → SidesAreApart R → IsComplete G I R start budget → (id : ℕ) (B : Branch) → IsMade R (records G) id B → (u v : ℕ) → has_pair B.must u v ≡ true → has_pair B.barred u v ≡ true → ⊥
+made_links_apart G I R start budget sides complete id B root u v h k = both_ways (has_pair R.barred u v) (sides.links u v h) k
+made_links_apart G I R start budget sides complete id B (inside_of {id = a} {at = Vertex w} {i} {o} {P} {B = C} c m) u v h k = made_links_apart G I R start budget sides complete a C m u v h k
+made_links_apart G I R start budget sides complete id B (outside_of {id = a} {at = Vertex w} {i} {o} {P} {B = C} c m) u v h k = made_links_apart G I R start budget sides complete a C m u v h k
+made_links_apart G I R start budget sides complete id B (inside_of {id = a} {at = Link x y} {i} {o} {P} {B = C} c m) u v h k =
+    let may = split_right G I R start budget complete a (Link x y) i o P C c m in
+    elim (pair_cases C.must x y u v h) [
+      | inl old ↦ made_links_apart G I R start budget sides complete a C m u v old k
+      | inr is ↦ both_ways (has_pair C.barred u v) (apart_from (x, y) (u, v) C.barred may.unbarred is) k
+    ]
+made_links_apart G I R start budget sides complete id B (outside_of {id = a} {at = Link x y} {i} {o} {P} {B = C} c m) u v h k =
+    let may = split_right G I R start budget complete a (Link x y) i o P C c m in
+    elim (pair_cases C.barred x y u v k) [
+      | inl old ↦ made_links_apart G I R start budget sides complete a C m u v h old
+      | inr is ↦ both_ways (has_pair C.must u v) (apart_from (x, y) (u, v) C.must may.no_must is) h
     ]
 
 -- what one branch decides another decides so too
 pub record Extends (B C : Branch) : Type 0 where
   pub inside : (v : ℕ) → has B.inside v ≡ true → has C.inside v ≡ true
   pub outside : (v : ℕ) → has B.outside v ≡ true → has C.outside v ≡ true
+  pub must : (u v : ℕ) → has_pair B.must u v ≡ true → has_pair C.must u v ≡ true
+  pub barred : (u v : ℕ) → has_pair B.barred u v ≡ true → has_pair C.barred u v ≡ true
 
 with_itself : (xs : List ℕ) (v : ℕ) → has (with_vertex xs v) v ≡ true
 with_itself xs v = has-with_vertex xs v v ∙ or_left (v == v) (has xs v) (eq-eqb v v refl)
@@ -115,18 +149,31 @@ with_itself xs v = has-with_vertex xs v v ∙ or_left (v == v) (has xs v) (eq-eq
 with_old : (xs : List ℕ) (v w : ℕ) → has xs w ≡ true → has (with_vertex xs v) w ≡ true
 with_old xs v w h = has-with_vertex xs v w ∙ or_right (v == w) (has xs w) h
 
-extends_inside : (B C : Branch) (v : ℕ) → Extends (with_inside B v) C → Extends B C
-extends_inside B C v e = record { inside = λ w h. e.inside w (with_old B.inside v w h); outside = e.outside }
+pair_itself : (ps : List (ℕ × ℕ)) (a b : ℕ) → has_pair (ps ++ (a, b) ∷ []) a b ≡ true
+pair_itself ps a b = has_pair-push ps (a, b) a b ∙ or_right (has_pair ps a b) (is_between (a, b) a b) (own (a, b))
 
-extends_outside : (B C : Branch) (v : ℕ) → Extends (with_outside B v) C → Extends B C
-extends_outside B C v e = record { inside = e.inside; outside = λ w h. e.outside w (with_old B.outside v w h) }
+pair_old : (ps : List (ℕ × ℕ)) (a b u v : ℕ) → has_pair ps u v ≡ true → has_pair (ps ++ (a, b) ∷ []) u v ≡ true
+pair_old ps a b u v h = has_pair-push ps (a, b) u v ∙ or_left (has_pair ps u v) (is_between (a, b) u v) h
+
+extends_yes : (B C : Branch) (at : SplitAt) → Extends (yes_half B at) C → Extends B C
+extends_yes B C (Vertex v) e = record { inside = λ w h. e.inside w (with_old B.inside v w h); outside = e.outside; must = e.must; barred = e.barred }
+extends_yes B C (Link a b) e = record {
+  inside = λ w h. e.inside w (has-both B.inside a b w ∙ or_right (b == w) _ (or_right (a == w) _ h));
+  outside = e.outside;
+  must = λ u v h. e.must u v (pair_old B.must a b u v h);
+  barred = e.barred;
+}
+
+extends_no : (B C : Branch) (at : SplitAt) → Extends (no_half B at) C → Extends B C
+extends_no B C (Vertex v) e = record { inside = e.inside; outside = λ w h. e.outside w (with_old B.outside v w h); must = e.must; barred = e.barred }
+extends_no B C (Link a b) e = record { inside = e.inside; outside = e.outside; must = e.must; barred = λ u v h. e.barred u v (pair_old B.barred a b u v h) }
 
 -- a node of a tree was made with a branch that extends that of the tree's root
 abbrev pub IsUnder : Branch → Gathered → Branch → ℕ → Type 0
 IsUnder R G B x = (C : Branch) × IsMade R (records G) x C × Extends B C
 
 under_root : (G : Gathered) (R : Branch) (id x : ℕ) (B : Branch) → IsMade R (records G) id B → id ≡ x → IsUnder R G B x
-under_root G R id x B made is = (B, subst (λ (n : ℕ). IsMade R (records G) n B) is made, record { inside = λ v h. h; outside = λ v h. h })
+under_root G R id x B made is = (B, subst (λ (n : ℕ). IsMade R (records G) n B) is made, record { inside = λ v h. h; outside = λ v h. h; must = λ u v h. h; barred = λ u v h. h })
 
 pub under : (G : Gathered) (R : Branch) (id : ℕ) (p : ProofTree) (read : IsReadOff G id p) (B : Branch) → IsMade R (records G) id B → (x : ℕ) → 1 ≤ times x (ids_of G id p read) → IsUnder R G B x
 under G R id p (closed {id = a} c) B made x h = under_root G R a x B made (times-single x a h)
@@ -141,32 +188,36 @@ under G R id p (was_split {id = a} {at} {i} {o} {P} {inside} {outside} c l r) B 
     ]
   where
     in_yes : (B : Branch) (at : SplitAt) → IsUnder R G (yes_half B at) x → IsUnder R G B x
-    in_yes B (Vertex v) (C, m, e) = (C, m, extends_inside B C v e)
-    in_yes B (Link a b) under = under
+    in_yes B at (C, m, e) = (C, m, extends_yes B C at e)
 
     in_no : (B : Branch) (at : SplitAt) → IsUnder R G (no_half B at) x → IsUnder R G B x
-    in_no B (Vertex v) (C, m, e) = (C, m, extends_outside B C v e)
-    in_no B (Link a b) under = under
+    in_no B at (C, m, e) = (C, m, extends_no B C at e)
 
 -- no id is under both halves of a split
 halves_apart : (G : Gathered) (I : Network) (R : Branch) (start budget : ℕ) → SidesAreApart R → IsComplete G I R start budget → (B : Branch) (at : SplitAt) (x : ℕ) → IsSplitAt I B at → IsUnder R G (yes_half B at) x → IsUnder R G (no_half B at) x → ⊥
-halves_apart G I R start budget sides complete B (Link a b) x may in_yes in_no = absurd may
 halves_apart G I R start budget sides complete B (Vertex v) x may (C, m, e) (D, n, f) =
     let same = one_branch R (records G) complete.apart x x C D m n refl in
     made_apart G I R start budget sides complete x D n v (subst (λ (E : Branch). has E.inside v ≡ true) same (e.inside v (with_itself B.inside v))) (f.outside v (with_itself B.outside v))
+halves_apart G I R start budget sides complete B (Link a b) x may (C, m, e) (D, n, f) =
+    let same = one_branch R (records G) complete.apart x x C D m n refl in
+    made_links_apart G I R start budget sides complete x D n a b (subst (λ (E : Branch). has_pair E.must a b ≡ true) same (e.must a b (pair_itself B.must a b))) (f.barred a b (pair_itself B.barred a b))
 
 -- and the node that was split is under neither
 root_not_inside : (G : Gathered) (I : Network) (R : Branch) (start budget : ℕ) → IsComplete G I R start budget → (B : Branch) (at : SplitAt) (a x : ℕ) → IsSplitAt I B at → IsMade R (records G) a B → a ≡ x → IsUnder R G (yes_half B at) x → ⊥
-root_not_inside G I R start budget complete B (Link c d) a x may made is under = absurd may
 root_not_inside G I R start budget complete B (Vertex v) a x may made is (C, m, e) =
     let same = one_branch R (records G) complete.apart x a C B m made (sym is) in
     not_inside B v may.undecided (subst (λ (E : Branch). has E.inside v ≡ true) same (e.inside v (with_itself B.inside v)))
+root_not_inside G I R start budget complete B (Link c d) a x may made is (C, m, e) =
+    let same = one_branch R (records G) complete.apart x a C B m made (sym is) in
+    both_ways (has_pair B.must c d) may.no_must (subst (λ (E : Branch). has_pair E.must c d ≡ true) same (e.must c d (pair_itself B.must c d)))
 
 root_not_outside : (G : Gathered) (I : Network) (R : Branch) (start budget : ℕ) → IsComplete G I R start budget → (B : Branch) (at : SplitAt) (a x : ℕ) → IsSplitAt I B at → IsMade R (records G) a B → a ≡ x → IsUnder R G (no_half B at) x → ⊥
-root_not_outside G I R start budget complete B (Link c d) a x may made is under = absurd may
 root_not_outside G I R start budget complete B (Vertex v) a x may made is (C, m, e) =
     let same = one_branch R (records G) complete.apart x a C B m made (sym is) in
     not_outside B v may.undecided (subst (λ (E : Branch). has E.outside v ≡ true) same (e.outside v (with_itself B.outside v)))
+root_not_outside G I R start budget complete B (Link c d) a x may made is (C, m, e) =
+    let same = one_branch R (records G) complete.apart x a C B m made (sym is) in
+    both_ways (has_pair B.barred c d) may.unbarred (subst (λ (E : Branch). has_pair E.barred c d ≡ true) same (e.barred c d (pair_itself B.barred c d)))
 
 -- no node stands twice in a tree
 pub tree_once : (G : Gathered) (I : Network) (R : Branch) (start budget : ℕ) → SidesAreApart R → IsComplete G I R start budget → (id : ℕ) (p : ProofTree) (read : IsReadOff G id p) (B : Branch) → IsMade R (records G) id B → (x : ℕ) → times x (ids_of G id p read) ≤ 1

@@ -12,6 +12,7 @@ pub mod WorkerLists
 pub mod Running
 pub mod Look
 pub mod Ids
+pub mod Falling
 pub mod Reading
 pub mod Room
 pub mod Times

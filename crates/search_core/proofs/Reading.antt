@@ -1,19 +1,17 @@
 -- A proof tree is read off what is complete.
-use Rattle.std.proofs.Common.{◌≡◌, ℕ, zero, suc, ◌+◌, ◌<◌, ◌≤◌, min, Bool, true, false, cond, not, ◌&&◌, ◌||◌, List, [], ◌∷◌, map, refl, sym, ◌∙◌, subst, arith, inl, inr}
+use Rattle.std.proofs.Common.{◌≡◌, ℕ, zero, suc, ◌+◌, ◌<◌, ◌≤◌, min, Bool, true, false, cond, List, [], ◌∷◌, map, refl, sym, ◌∙◌, subst, arith, inl, inr}
 use Rattle.std.specs.Prelude.{◌==◌, Contains, All, ◌⊎◌}
 use Rattle.std.specs.List.{flat_map}
-use Rattle.std.proofs.lemmas.Bool.Decides.{nat_tests}
 use Rattle.std.proofs.lemmas.List.Elements.{All-contains, All-head, All-tail, Contains-append_cases}
 use Rattle.st_model.specs.declared.split_at.SplitAt.{SplitAt}
-use Rattle.st_model.specs.declared.split_at.SplitAt.TheVariants.{Vertex, Link}
 use Rattle.st_model.specs.declared.branch.Branch.{Branch}
-use Rattle.st_model.specs.Branch.{is_undecided, with_inside, with_outside, yes_half, no_half}
-use Rattle.st_model.specs.Lists.{has, sum_to}
+use Rattle.st_model.specs.Branch.{yes_half, no_half}
+use Rattle.st_model.specs.Ground.{ground}
 use Rattle.st_model.specs.Network.{Network}
-use Rattle.st_model.proofs.Halves.{has-with_vertex}
+use Rattle.st_model.proofs.Distinct.{link-comm}
 use Rattle.cut_packing.specs.declared.packing.Packing.{Packing}
 use Rattle.cut_packing.specs.Packing.{Fits, weight}
-use Rattle.cut_packing.specs.ProofTree.{ProofTree, close, split, Proves, IsSplit, IsSplitAt}
+use Rattle.cut_packing.specs.ProofTree.{ProofTree, close, split, Proves, IsSplitAt}
 use Rattle.branching.specs.declared.node.Node.{Node}
 use Rattle.search_core.specs.declared.done.Done.{Done}
 use Rattle.search_core.specs.declared.done.Done.TheVariants.{Split, Close}
@@ -22,84 +20,9 @@ use Rattle.search_core.specs.declared.gathered.Segment.{Segment}
 use Rattle.search_core.specs.Complete.{IsComplete, IsMade, root, inside_of, outside_of, IsRightRecord, IsRightNode, IsRightSegment, records, waiting, done_id, times}
 use Rattle.search_core.specs.ReadOff.{CompleteBounds, CompleteIsProof, IsReadOff, closed, waits, was_split, least_weight}
 use Rattle.cut_packing.proofs.Duality.{proof_tree_bounds_lem}
+use Rattle.search_core.proofs.Falling.{left, left_falls}
 use Rattle.search_core.proofs.Ids.{one_branch, made_times, times-append}
 use Rattle.search_core.proofs.Look.{same_number}
-
-abbrev one_of : Bool → ℕ
-one_of b = cond b 1 0
-
--- how many vertices are undecided
-abbrev free : Network → Branch → ℕ
-free I B = sum_to (λ v. one_of (is_undecided B v)) I.n
-
--- a sum falls where no term rises and one falls
-sum_falls : (f g : ℕ → ℕ) (n v : ℕ) → ((w : ℕ) → g w ≤ f w) → g v + 1 ≤ f v → 1 ≤ v → v ≤ n → sum_to g n + 1 ≤ sum_to f n
-sum_falls f g zero v all here low high = absurd (no_place low high)
-  where
-    no_place : 1 ≤ v → v ≤ 0 → ⊥
-    no_place a b = omega arith
-sum_falls f g (suc n) v all here low high = by_case (v == suc n) refl (sum_falls f g n v all here low)
-  where
-    sums : (m : ℕ) → sum_to g m ≤ sum_to f m
-    sums zero = omega arith
-    sums (suc m) = both _ _ _ _ (sums m) (all (suc m))
-      where
-        both : (a b c d : ℕ) → a ≤ b → c ≤ d → a + c ≤ b + d
-        both a b c d h k = omega arith
-
-    last : (a b c d : ℕ) → a ≤ b → c + 1 ≤ d → a + c + 1 ≤ b + d
-    last a b c d h k = omega arith
-
-    before : (a b c d : ℕ) → a + 1 ≤ b → c ≤ d → a + c + 1 ≤ b + d
-    before a b c d h k = omega arith
-
-    lower : (a b : ℕ) → (a == suc b) ≡ false → a ≤ suc b → a ≤ b
-    lower a b h k = grind (arith, nat_tests)
-
-    by_case : (b : Bool) → (v == suc n) ≡ b → (v ≤ n → sum_to g n + 1 ≤ sum_to f n) → sum_to g (suc n) + 1 ≤ sum_to f (suc n)
-    by_case true is rest = last _ _ _ _ (sums n) (subst (λ (k : ℕ). g k + 1 ≤ f k) (same_number v (suc n) is) here)
-    by_case false is rest = before _ _ _ _ (rest (lower v n is high)) (all (suc n))
-
--- a half leaves one vertex less to decide
-free-inside : (I : Network) (B : Branch) (v : ℕ) → IsSplit I B v → free I (with_inside B v) + 1 ≤ free I B
-free-inside I B v may = sum_falls (λ w. one_of (is_undecided B w)) (λ w. one_of (is_undecided (with_inside B v) w)) I.n v (λ w. rw (has-with_vertex B.inside v w) (fewer (v == w) (has B.inside w) (has B.outside w))) (rw (has-with_vertex B.inside v v, itself v) (one (is_undecided B v) may.undecided)) may.vertex.0 may.vertex.1
-  where
-    fewer : (a b c : Bool) → one_of (not (a || b) && not c) ≤ one_of (not b && not c)
-    fewer true true true = omega arith
-    fewer true true false = omega arith
-    fewer true false true = omega arith
-    fewer true false false = omega arith
-    fewer false b c = omega arith
-
-    itself : (a : ℕ) → (a == a) ≡ true
-    itself a = grind (arith, nat_tests)
-
-    one : (b : Bool) → b ≡ true → 0 + 1 ≤ one_of b
-    one b e = rw e (omega arith)
-
-free-outside : (I : Network) (B : Branch) (v : ℕ) → IsSplit I B v → free I (with_outside B v) + 1 ≤ free I B
-free-outside I B v may = sum_falls (λ w. one_of (is_undecided B w)) (λ w. one_of (is_undecided (with_outside B v) w)) I.n v (λ w. rw (has-with_vertex B.outside v w) (fewer (v == w) (has B.inside w) (has B.outside w))) (rw (has-with_vertex B.outside v v, itself v) (one (has B.inside v) (is_undecided B v) may.undecided)) may.vertex.0 may.vertex.1
-  where
-    fewer : (a b c : Bool) → one_of (not b && not (a || c)) ≤ one_of (not b && not c)
-    fewer true true c = omega arith
-    fewer true false true = omega arith
-    fewer true false false = omega arith
-    fewer false b c = omega arith
-
-    itself : (a : ℕ) → (a == a) ≡ true
-    itself a = grind (arith, nat_tests)
-
-    one : (a b : Bool) → b ≡ true → one_of (not a && false) + 1 ≤ one_of b
-    one true b e = rw e (omega arith)
-    one false b e = rw e (omega arith)
-
-free-yes : (I : Network) (B : Branch) (at : SplitAt) → IsSplitAt I B at → free I (yes_half B at) + 1 ≤ free I B
-free-yes I B (Vertex v) may = free-inside I B v may
-free-yes I B (Link a b) may = absurd may
-
-free-no : (I : Network) (B : Branch) (at : SplitAt) → IsSplitAt I B at → free I (no_half B at) + 1 ≤ free I B
-free-no I B (Vertex v) may = free-outside I B v may
-free-no I B (Link a b) may = absurd may
 
 -- what proves a value proves a lower one
 pub proves-lower : (I : Network) (B : Branch) (x y : ℕ) (p : ProofTree) → x ≤ y → Proves I B y p → Proves I B x p
@@ -191,12 +114,13 @@ read_split G I id a at i o B P there is may (p, inside) (q, outside) = (
     right_min a b = omega arith
 
 -- the node of a record that was made, where what decides more has a tree
-read_record : (G : Gathered) (I : Network) (R : Branch) (start budget : ℕ) → IsComplete G I R start budget → (fuel id : ℕ) (B : Branch) → IsMade R (records G) id B → free I B < suc fuel → ((j : ℕ) (C : Branch) → IsMade R (records G) j C → free I C < fuel → (p : ProofTree) × Read G I j C p) → (d : Done) → Contains (records G) d → done_id d ≡ id → (seen : ℕ) × (G.least ≤ seen) × IsRightRecord I R start (records G) seen d → (p : ProofTree) × Read G I id B p
+read_record : (G : Gathered) (I : Network) (R : Branch) (start budget : ℕ) → IsComplete G I R start budget → (fuel id : ℕ) (B : Branch) → IsMade R (records G) id B → left I B < suc fuel → ((j : ℕ) (C : Branch) → IsMade R (records G) j C → left I C < fuel → (p : ProofTree) × Read G I j C p) → (d : Done) → Contains (records G) d → done_id d ≡ id → (seen : ℕ) × (G.least ≤ seen) × IsRightRecord I R start (records G) seen d → (p : ProofTree) × Read G I id B p
 read_record G I R start budget complete fuel id B made low go (Split a at i o P) there is (seen, low_seen, (C, right)) =
     let same = one_branch R (records G) complete.apart a id C B right.made made is in
     let may : IsSplitAt I B at = subst (λ (D : Branch). IsSplitAt I D at) same right.vertex in
+    let falls = left_falls I B at may in
     let mine : IsMade R (records G) a B = subst (λ (D : Branch). IsMade R (records G) a D) same right.made in
-    read_split G I id a at i o B P there is may (go i (yes_half B at) (inside_of there mine) (less _ _ fuel (free-yes I B at may) low)) (go o (no_half B at) (outside_of there mine) (less _ _ fuel (free-no I B at may) low))
+    read_split G I id a at i o B P there is may (go i (yes_half B at) (inside_of there mine) (less _ _ fuel falls.says_yes low)) (go o (no_half B at) (outside_of there mine) (less _ _ fuel falls.says_no low))
   where
     less : (a b c : ℕ) → a + 1 ≤ b → b < suc c → a < c
     less a b c h k = omega arith
@@ -225,8 +149,8 @@ stands_where G I R start budget complete id B made =
     one_of_both (suc a) b h = inl (omega arith)
 
 -- each node that was made has a tree
-read_off : (G : Gathered) (I : Network) (R : Branch) (start budget : ℕ) → IsComplete G I R start budget → (fuel id : ℕ) (B : Branch) → IsMade R (records G) id B → free I B < fuel → (p : ProofTree) × Read G I id B p
-read_off G I R start budget complete zero id B made low = absurd (none (free I B) low)
+read_off : (G : Gathered) (I : Network) (R : Branch) (start budget : ℕ) → IsComplete G I R start budget → (fuel id : ℕ) (B : Branch) → IsMade R (records G) id B → left I B < fuel → (p : ProofTree) × Read G I id B p
+read_off G I R start budget complete zero id B made low = absurd (none (left I B) low)
   where
     none : (k : ℕ) → k < 0 → ⊥
     none k h = omega arith
@@ -238,10 +162,10 @@ read_off G I R start budget complete (suc fuel) id B made low =
 
 pub complete_lem : CompleteIsProof
 complete_lem G I R start budget complete =
-    let read = read_off G I R start budget complete (free I R + 1) 0 R root (omega arith) in
+    let read = read_off G I R start budget complete (left I R + 1) 0 R root (omega arith) in
     (read.0, record { read = read.1.read; proves = read.1.proves })
 
 pub bounds_lem : CompleteBounds
-bounds_lem G I R start budget t complete none tree belongs =
-    let read = read_off G I R start budget complete (free I R + 1) 0 R root (omega arith) in
-    proof_tree_bounds_lem I R G.least read.0 t (proves-lower I R G.least (least_weight I R read.0) read.0 (read.1.least none) read.1.proves) tree belongs
+bounds_lem G I R start budget t apart complete none tree belongs =
+    let read = read_off G I R start budget complete (left I R + 1) 0 R root (omega arith) in
+    proof_tree_bounds_lem (ground I) R G.least read.0 t (link-comm I.links) apart (proves-lower I R G.least (least_weight I R read.0) read.0 (read.1.least none) read.1.proves) tree belongs

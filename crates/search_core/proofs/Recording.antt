@@ -9,7 +9,7 @@ use Rattle.std.proofs.lemmas.List.Elements.{All-append, All-from_recursion, All-
 use Rattle.st_model.specs.declared.split_at.SplitAt.{SplitAt}
 use Rattle.st_model.specs.declared.branch.Branch.{Branch}
 use Rattle.st_model.specs.Lists.{total}
-use Rattle.st_model.specs.Network.{Network}
+use Rattle.st_model.specs.Network.{Network, IsInstance}
 use Rattle.st_model.proofs.Sums.{total-append}
 use Rattle.cut_packing.specs.declared.packing.Packing.{Packing}
 use Rattle.cut_packing.specs.ProofTree.{IsSplitAt}
@@ -251,8 +251,8 @@ abbrev splitting : ℕ → Done → Worker → Worker
 splitting i d x = record x { hand = Some i; up = false; done = x.done ++ d ∷ [] }
 
 -- a split is recorded, and both halves are made by it
-recorded_halves : (S : State) (w : ℕ) (at : SplitAt) (i o : ℕ) (P : Packing) (id : ℕ) (m : Made) → SplitEarly S w at i o → made_as S id ≡ Some m → is_done m.place ≡ false → IsNode S.instance (record m.node { packing = P }) → IsSplitAt S.instance m.node.branch at → IsRecorded S → IsRecorded (split_state S w at i o P id m)
-recorded_halves S w at i o P id m early found waits node vertex h =
+recorded_halves : (S : State) (w : ℕ) (at : SplitAt) (i o : ℕ) (P : Packing) (id : ℕ) (m : Made) → SplitEarly S w at i o → made_as S id ≡ Some m → is_done m.place ≡ false → IsInstance S.instance → IsNode S.instance (record m.node { packing = P }) → IsSplitAt S.instance m.node.branch at → IsRecorded S → IsRecorded (split_state S w at i o P id m)
+recorded_halves S w at i o P id m early found waits instance node vertex h =
     rw (length-changed S.workers w (splitting i d)) (recorded_done S.instance S.branch (length S.workers) S.nodes (Y ∷ N ∷ []) (all_done S.workers) more d m place.Split found waits refl tt one h)
   where
     d : Done
@@ -279,13 +279,13 @@ recorded_halves S w at i o P id m early found waits node vertex h =
     made_inside : IsRecordedNode S.instance S.branch more Y.node
     made_inside = record {
       made = inside_of recorded parent;
-      keeps = inr (id, P, m.node.branch, record { half = inside recorded; made = parent; weight = (halves_are_no_lighter_lem S.instance (record m.node { packing = P }) at i o node vertex).0.no_lighter });
+      keeps = inr (id, P, m.node.branch, record { half = inside recorded; made = parent; weight = (halves_are_no_lighter_lem S.instance (record m.node { packing = P }) at i o instance node vertex).0.no_lighter });
     }
 
     made_outside : IsRecordedNode S.instance S.branch more N.node
     made_outside = record {
       made = outside_of recorded parent;
-      keeps = inr (id, P, m.node.branch, record { half = outside recorded; made = parent; weight = (halves_are_no_lighter_lem S.instance (record m.node { packing = P }) at i o node vertex).1.no_lighter });
+      keeps = inr (id, P, m.node.branch, record { half = outside recorded; made = parent; weight = (halves_are_no_lighter_lem S.instance (record m.node { packing = P }) at i o instance node vertex).1.no_lighter });
     }
 
     one : IsOneMore S.instance S.branch (length S.workers) S.nodes (Y ∷ N ∷ []) (all_done S.workers) more d
@@ -308,7 +308,7 @@ recorded_split S w at i o P allowed sound counted h =
     let allows : AllowsSplit S.instance m.node.branch P (seen S w) = subst (λ (k : Option Made). IfSome k (λ m. AllowsSplit S.instance m.node.branch P (seen S w))) early.held allowed.packing in
     let node : IsNode S.instance m.node = all-found (λ m. IsNode S.instance m.node) S.nodes here.id m sound.nodes here.found in
     let waits : is_done m.place ≡ false = ap is_done (held_place S w m here counted) in
-    subst (λ (T : State). IsRecorded T) (sym (after_split S w at i o P here.id m here.in_hand here.found)) (recorded_halves S w at i o P here.id m early here.found waits (record { branch = node.branch; required = node.required; fits = allows.fits }) (splits S.instance m.node at vertex) h)
+    subst (λ (T : State). IsRecorded T) (sym (after_split S w at i o P here.id m here.in_hand here.found)) (recorded_halves S w at i o P here.id m early here.found waits sound.instance (record { branch = node.branch; required = node.required; fits = allows.fits }) (splits S.instance m.node at vertex) h)
 
 pub recorded_after : (S : State) (e : Event) → IsSound S → IsCounted S → IsRecorded S → IsAllowed S e → IsRecorded (after S e)
 recorded_after S (Take w id) sound counted h allowed = recorded_take S w id allowed h

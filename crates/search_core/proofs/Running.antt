@@ -4,6 +4,7 @@ use Rattle.std.specs.Prelude.{◌==◌, IfSome, nat_lt}
 use Rattle.st_model.specs.Arborescence.{IsTree, cost}
 use Rattle.st_model.specs.Branch.{Belongs}
 use Rattle.st_model.specs.declared.branch.Branch.{Branch}
+use Rattle.st_model.specs.Made.{AreApart}
 use Rattle.st_model.specs.Network.{Network}
 use Rattle.cut_packing.specs.declared.packing.Packing.{Packing}
 use Rattle.cut_packing.specs.Packing.{weight}
@@ -36,7 +37,7 @@ run_kept S (e ∷ es) T kept (M, step, run) = run_kept M es T (step_kept step) r
 
 pub events_keep_lem : EventsKeep
 events_keep_lem I R workers budget start es S may run =
-    run_kept (beginning I R workers budget start) es S (kept_beginning I R workers budget start (root_node I R may.branch may.required)) run
+    run_kept (beginning I R workers budget start) es S (kept_beginning I R workers budget start may.instance (root_node I R may.branch may.required)) run
 
 -- of one instance, and of the same branch
 record AreAlike (S T : State) : Type 0 where
@@ -77,8 +78,9 @@ settled_bounds_lem I R workers budget start es S t may run done tree belongs =
     let kept = events_keep_lem I R workers budget start es S may run in
     let alike = run_alike (beginning I R workers budget start) es S run in
     let mine : IsTree S.instance t = subst (λ (J : Network). IsTree J t) (sym alike.instance) tree in
+    let apart : AreApart S.branch.must = subst (λ (B : Branch). AreApart B.must) (sym alike.branch) may.branch.must.apart in
     let member : Belongs S.branch t = subst (λ (B : Branch). Belongs B t) (sym alike.branch) belongs in
-    subst (λ (J : Network). S.least ≤ cost J t) alike.instance (bounds_lem (gathered S) S.instance S.branch S.start S.budget t (settled_complete S kept done.settled) (nothing-waits S done.none_waits) mine member)
+    subst (λ (J : Network). S.least ≤ cost J t) alike.instance (bounds_lem (gathered S) S.instance S.branch S.start S.budget t apart (settled_complete S kept done.settled) (nothing-waits S done.none_waits) mine member)
 
 -- a packing that allows a split has no fault, and another has one
 split_serves : (I : Network) (B : Branch) (P : Packing) (x : ℕ) (f : EventFault) → IsSplitFault I B P x None → IsSplitFault I B P x (Some f) → ⊥

@@ -1,14 +1,16 @@
 -- Each event keeps a state sound.
 use Rattle.std.proofs.Common.{◌≡◌, ℕ, zero, suc, replicate, Bool, true, false, cond, not, ◌&&◌, ◌+◌, ◌-◌, ◌<◌, ◌≤◌, length, arith, List, [], ◌∷◌, ◌++◌, Option, Some, None, refl, sym, ap, ◌∙◌, subst, inl, inr}
-use Rattle.std.specs.Prelude.{All, Contains, map, min, slice_get, IsFalse, nat_lt, nat_le, IfSome, ◌==◌, option_and_then, unwrap_or}
+use Rattle.std.specs.Prelude.{All, Contains, map, min, slice_get, nat_lt, nat_le, IfSome, ◌==◌, option_and_then, unwrap_or, is_some}
 use Rattle.std.specs.Option.{option_map_or}
+use Rattle.std.proofs.lemmas.Bool.{and_parts, not-true}
 use Rattle.std.proofs.lemmas.Bool.Decides.{nat_tests}
 use Rattle.std.proofs.lemmas.List.Elements.{All-append, All-from_recursion, All-nil, All-push, All-replicate, All-weaker, Contains-append_left, Contains-append_right}
 use Rattle.std.proofs.lemmas.List.{map-append}
 use Rattle.st_model.specs.declared.split_at.SplitAt.{SplitAt}
 use Rattle.st_model.specs.declared.split_at.SplitAt.TheVariants.{Vertex, Link}
-use Rattle.st_model.specs.Branch.{is_free, is_undecided}
-use Rattle.st_model.specs.Network.{Network, is_required}
+use Rattle.st_model.specs.Branch.{is_free, is_present, is_undecided}
+use Rattle.st_model.specs.Made.{has_pair}
+use Rattle.st_model.specs.Network.{Network, IsInstance, is_required, link}
 use Rattle.cut_packing.specs.declared.packing.Packing.{Packing}
 use Rattle.cut_packing.specs.Packing.{Fits, weight}
 use Rattle.cut_packing.specs.ProofTree.{Closes, IsSplitAt}
@@ -43,23 +45,31 @@ kept_nodes S id f same kept = all-with_made (λ m. IsNode S.instance m.node) S.n
 
 -- where the test says so, the branch can be split there
 pub splits : (I : Network) (N : Node) (at : SplitAt) → may_split_at I N.branch at ≡ true → IsSplitAt I N.branch at
-splits I N (Link a b) h = absurd cc
-splits I N (Vertex v) h =
-    let p = both (nat_le 1 v && nat_le v I.n) (is_free I N.branch v) h in
-    let q = both (nat_le 1 v) (nat_le v I.n) p.0 in
-    let r = both (is_undecided N.branch v) (not (is_required I v)) p.1 in
-    record { vertex = (at_most 1 v q.0, at_most v I.n q.1); undecided = r.0; free = not-true (is_required I v) r.1 }
+splits I N (Link a b) h =
+    let tests = and_parts ((nat_lt a b && is_some (link I.links a b)) && (is_present N.branch a && is_present N.branch b)) _ h in
+    let first = and_parts (nat_lt a b && is_some (link I.links a b)) _ tests.0 in
+    let linked = and_parts (nat_lt a b) _ first.0 in
+    let present = and_parts (is_present N.branch a) _ first.1 in
+    let open_still = and_parts (not (has_pair N.branch.must a b)) _ tests.1 in
+    record {
+      ordered = below a b linked.0;
+      linked = linked.1;
+      low = present.0;
+      high = present.1;
+      no_must = not-true (has_pair N.branch.must a b) open_still.0;
+      unbarred = not-true (has_pair N.branch.barred a b) open_still.1;
+    }
   where
-    both : (a b : Bool) → a && b ≡ true → (a ≡ true) × (b ≡ true)
-    both true b h = (refl, h)
-    both false b h = absurd cc
-
+    below : (a b : ℕ) → nat_lt a b ≡ true → a < b
+    below a b h = grind (arith, nat_tests)
+splits I N (Vertex v) h =
+    let tests = and_parts (nat_le 1 v && nat_le v I.n) (is_free I N.branch v) h in
+    let range = and_parts (nat_le 1 v) (nat_le v I.n) tests.0 in
+    let free = and_parts (is_undecided N.branch v) (not (is_required I v)) tests.1 in
+    record { vertex = (at_most 1 v range.0, at_most v I.n range.1); undecided = free.0; free = not-true (is_required I v) free.1 }
+  where
     at_most : (a b : ℕ) → nat_le a b ≡ true → a ≤ b
     at_most a b h = grind (arith, nat_tests)
-
-    not-true : (b : Bool) → not b ≡ true → IsFalse b
-    not-true true h = absurd cc
-    not-true false h = refl
 
 -- the node in a hand is one of the nodes
 held_found : (P : Made → Type 0) (S : State) (w : ℕ) (m : Made) → All P S.nodes → held S w ≡ Some m → P m
@@ -69,11 +79,11 @@ held_found P S w m all e = by_hand (hand S w) e
     by_hand None e = absurd cc
     by_hand (Some id) e = all-found P S.nodes id m all e
 
-halves_nodes : (I : Network) (k : Option Made) (w : ℕ) (at : SplitAt) (i o : ℕ) (P : Packing) → IfSome k (λ m. IsNode I m.node × IsSplitAt I m.node.branch at × Fits I m.node.branch P) → AreNodes I (halves_made k w at i o P)
-halves_nodes I None w at i o P h = All-nil (λ m. IsNode I m.node)
-halves_nodes I (Some m) w at i o P h =
+halves_nodes : (I : Network) (k : Option Made) (w : ℕ) (at : SplitAt) (i o : ℕ) (P : Packing) → IsInstance I → IfSome k (λ m. IsNode I m.node × IsSplitAt I m.node.branch at × Fits I m.node.branch P) → AreNodes I (halves_made k w at i o P)
+halves_nodes I None w at i o P instance h = All-nil (λ m. IsNode I m.node)
+halves_nodes I (Some m) w at i o P instance h =
     let node : IsNode I (record m.node { packing = P }) = record { branch = h.0.branch; required = h.0.required; fits = h.2 } in
-    let halves = halves_are_no_lighter_lem I (record m.node { packing = P }) at i o node h.1 in
+    let halves = halves_are_no_lighter_lem I (record m.node { packing = P }) at i o instance node h.1 in
     All-from_recursion (λ m. IsNode I m.node) (halves_made (Some m) w at i o P) (halves.0.node, (halves.1.node, tt))
 
 -- what the need of a split says of the node in hand
@@ -83,7 +93,7 @@ split_halves S w at i o P kept allowed =
   where
     by_held : (k : Option Made) → held S w ≡ k → option_map_or (λ m. may_split_at S.instance m.node.branch at) k false ≡ true → IfSome k (λ m. AllowsSplit S.instance m.node.branch P (seen S w)) → AreNodes S.instance (halves_made k w at i o P)
     by_held None e vertex allows = All-nil (λ m. IsNode S.instance m.node)
-    by_held (Some m) e vertex allows = halves_nodes S.instance (Some m) w at i o P (held_found (λ m. IsNode S.instance m.node) S w m kept.nodes e, splits S.instance m.node at vertex, allows.fits)
+    by_held (Some m) e vertex allows = halves_nodes S.instance (Some m) w at i o P kept.instance (held_found (λ m. IsNode S.instance m.node) S w m kept.nodes e, splits S.instance m.node at vertex, allows.fits)
 
 -- what was made before is among what is made after
 abbrev pub AreMore : List Node → List Node → Type 0
@@ -139,6 +149,7 @@ same_least S w f same kept = kept.least ∙ sym (least-unchanged S.start S.worke
 -- a change of one worker that leaves what it saw, offered and did
 pub sound_idle : (S : State) (w : ℕ) (f : Worker → Worker) (opened : ℕ) → ((x : Worker) → (f x).seen ≡ x.seen) → ((x : Worker) → (f x).done ≡ x.done) → ((x : Worker) → (f x).offered ≡ x.offered) → IsSound S → IsSound (record S { workers = changed_at S.workers w f; opened = opened })
 sound_idle S w f opened seen_same done_same offered_same kept = record {
+  instance = kept.instance;
   nodes = kept.nodes;
   workers = idle_change S w f (made_nodes S) seen_same done_same (no_more S) kept;
   least = same_least S w f offered_same kept;
@@ -148,6 +159,7 @@ sound_idle S w f opened seen_same done_same offered_same kept = record {
 -- a change of one node's place or claim
 kept_moved : (S : State) (id : ℕ) (f : Made → Made) (claims : ℕ) → ((m : Made) → (f m).node ≡ m.node) → claims ≤ S.budget → IsSound S → IsSound (record S { nodes = with_made S.nodes id f; claims = claims })
 kept_moved S id f claims same bound kept = record {
+  instance = kept.instance;
   nodes = kept_nodes S id f (λ m h. rw (same m) h) kept;
   workers = same_work S (map (λ m. m.node) (with_made S.nodes id f)) (same_nodes S id f same) kept;
   least = kept.least;
@@ -167,6 +179,7 @@ kept_claim S w kept = by_test (nat_lt S.claims S.budget) refl
 
 kept_see : (S : State) (w : ℕ) → IsSound S → IsSound (after S (See w))
 kept_see S w kept = record {
+  instance = kept.instance;
   nodes = kept.nodes;
   workers = all-changed _ _ S.workers w _ (λ x h. h) (λ x e h. work-kept S.instance S.start S.least S.least (made_nodes S) (made_nodes S) x.seen S.least x.done (no_more S) h.low (omega arith) h) kept.workers;
   least = same_least S w _ (λ x. refl) kept;
@@ -175,6 +188,7 @@ kept_see S w kept = record {
 
 kept_offer : (S : State) (w value : ℕ) → w < length S.workers → IsSound S → IsSound (after S (Offer w value))
 kept_offer S w value there kept = record {
+  instance = kept.instance;
   nodes = kept.nodes;
   workers = all-changed _ _ S.workers w _ (λ x h. work-kept S.instance S.start S.least (min S.least value) (made_nodes S) (made_nodes S) x.seen x.seen x.done (no_more S) (omega arith) (lower S.least value x.seen h.low) h) (λ x e h. work-kept S.instance S.start S.least (min S.least value) (made_nodes S) (made_nodes S) x.seen (min S.least value) x.done (no_more S) (lower S.least value x.seen h.low) (omega arith) h) kept.workers;
   least = ap (λ n. min n value) kept.least ∙ sym (least-offer S.start value S.workers w _ (λ x. refl) there);
@@ -222,6 +236,7 @@ split_nodes S w at i o P id m =
 -- a split of a node at a vertex where it can be, on a packing that allows it
 kept_halves : (S : State) (w : ℕ) (at : SplitAt) (i o : ℕ) (P : Packing) (id : ℕ) (m : Made) → made_as S id ≡ Some m → IsSplitAt S.instance m.node.branch at → AllowsSplit S.instance m.node.branch P (seen S w) → AreNodes S.instance (halves_made (Some m) w at i o P) → IsSound S → IsSound (split_state S w at i o P id m)
 kept_halves S w at i o P id m found vertex allows halves kept = record {
+  instance = kept.instance;
   nodes = all-with_made (λ m. IsNode S.instance m.node) (S.nodes ++ halves_made (Some m) w at i o P) id _ (λ m h. h) (All-append (λ m. IsNode S.instance m.node) S.nodes (halves_made (Some m) w at i o P) kept.nodes halves);
   workers = all-changed _ _ S.workers w _ (λ x h. kept_one x h) (λ x e h. work x e h) kept.workers;
   least = same_least S w _ (λ x. refl) kept;
@@ -260,6 +275,7 @@ kept_halves S w at i o P id m found vertex allows halves kept = record {
 -- a close of a node by a packing that fits it and weighs at least what was seen
 kept_closed : (S : State) (w : ℕ) (P : Packing) (m : Made) (id : ℕ) → id_in_hand S w ≡ id → made_as S id ≡ Some m → Closes S.instance m.node.branch (seen S w) P → IsSound S → IsSound (after S (Close w P))
 kept_closed S w P m id in_hand found closes kept = record {
+  instance = kept.instance;
   nodes = kept_nodes S (id_in_hand S w) (λ m. record m { place = place.Closed }) (λ m h. h) kept;
   workers = all-changed _ _ S.workers w _ (λ x h. kept_one x h) (λ x e h. work x e h) kept.workers;
   least = same_least S w _ (λ x. refl) kept;
@@ -326,11 +342,11 @@ sound_after S (SeeHalt w) kept allowed = by_test S.halted
     by_test : (b : Bool) → IsSound (cond b (ended S w HaltSeen) S)
     by_test true = sound_idle S w _ S.opened (λ x. refl) (λ x. refl) (λ x. refl) kept
     by_test false = kept
-sound_after S (Halt w) kept allowed = record { nodes = kept.nodes; workers = kept.workers; least = kept.least; claims = kept.claims }
+sound_after S (Halt w) kept allowed = record { instance = kept.instance; nodes = kept.nodes; workers = kept.workers; least = kept.least; claims = kept.claims }
 
 -- and the beginning does
-pub sound_beginning : (I : Network) (R : Branch) (workers budget start : ℕ) → IsNode I (root_of R) → IsSound (beginning I R workers budget start)
-sound_beginning I R workers budget start root = record { workers = All-replicate (λ x. IsSoundWork I start start (root_of R ∷ []) x.seen x.done) workers (new_worker start) (record { low = omega arith; high = omega arith; records = All-nil (IsSoundRecord I start (root_of R ∷ []) start) }); least = sym (all_start workers); claims = omega arith; nodes = All-from_recursion (λ m. IsNode I m.node) (record { node = root_of R; place = Queue 0; claimed = false } ∷ []) (root, tt) }
+pub sound_beginning : (I : Network) (R : Branch) (workers budget start : ℕ) → IsInstance I → IsNode I (root_of R) → IsSound (beginning I R workers budget start)
+sound_beginning I R workers budget start instance root = record { instance = instance; workers = All-replicate (λ x. IsSoundWork I start start (root_of R ∷ []) x.seen x.done) workers (new_worker start) (record { low = omega arith; high = omega arith; records = All-nil (IsSoundRecord I start (root_of R ∷ []) start) }); least = sym (all_start workers); claims = omega arith; nodes = All-from_recursion (λ m. IsNode I m.node) (record { node = root_of R; place = Queue 0; claimed = false } ∷ []) (root, tt) }
   where
     both_start : (a b : ℕ) → b ≡ a → min a b ≡ a
     both_start a b h = omega arith

@@ -1,11 +1,12 @@
 -- When what is gathered of a search accounts for every node that was made, and when it is finished.
-use Rattle.std.specs.Prelude.{◌≡◌, ℕ, ◌≤◌, ◌==◌, min, List, [], ◌∷◌, ◌++◌, length, map, All, Contains, if◌then◌else◌, IfSome, Option, Some, None, ◌⊎◌}
+use Rattle.std.specs.Prelude.{◌≡◌, ℕ, ◌≤◌, ◌==◌, min, List, [], ◌∷◌, ◌++◌, length, map, All, Contains, if◌then◌else◌, IfSome, Option, Some, None, ◌⊎◌, ⊤}
 use Rattle.std.specs.List.{flat_map}
 use Rattle.st_model.specs.declared.split_at.SplitAt.{SplitAt}
+use Rattle.st_model.specs.declared.split_at.SplitAt.TheVariants.{Vertex, Link}
 use Rattle.st_model.specs.declared.branch.Branch.{Branch}
 use Rattle.st_model.specs.declared.tree.Tree.{Tree}
 use Rattle.st_model.specs.Arborescence.{IsTree, cost}
-use Rattle.st_model.specs.Branch.{Belongs, yes_half, no_half}
+use Rattle.st_model.specs.Branch.{ReachesAsTold, yes_half, no_half}
 use Rattle.st_model.specs.Lists.{total}
 use Rattle.st_model.specs.Network.{Network}
 use Rattle.cut_packing.specs.declared.packing.Packing.{Packing}
@@ -40,6 +41,12 @@ done_packing (Close id P) = P
 abbrev pub AllPackings : (Packing → Type 0) → Gathered → Type 0
 AllPackings Q G = All (λ d. Q (done_packing d)) (records G) × All (λ N. Q N.packing) (waiting G)
 
+-- a record of a split at a vertex, or of a close: of no split at a link
+abbrev pub IsAtVertex : Done → Type 0
+IsAtVertex (Split id (Vertex v) inside outside P) = ⊤
+IsAtVertex (Split id (Link a b) inside outside P) = ⊥
+IsAtVertex (Close id P) = ⊤
+
 -- the ids of the halves that were made
 abbrev pub half_ids : Done → List ℕ
 half_ids (Split id at inside outside P) = inside ∷ outside ∷ []
@@ -64,7 +71,7 @@ pub data IsMade (R : Branch) (done : List Done) : ℕ → Branch → Type 0 wher
   inside_of : {id : ℕ} {at : SplitAt} {i o : ℕ} {P : Packing} {B : Branch} → Contains done (Split id at i o P) → IsMade R done id B → IsMade R done i (yes_half B at)
   outside_of : {id : ℕ} {at : SplitAt} {i o : ℕ} {P : Packing} {B : Branch} → Contains done (Split id at i o P) → IsMade R done id B → IsMade R done o (no_half B at)
 
--- a node was split at a vertex where its branch can be split, on a packing that allows it below the start cost
+-- a node was split where its branch can be split, on a packing that allows it below the start cost
 pub record IsRightSplit (I : Network) (R : Branch) (start : ℕ) (done : List Done) (id : ℕ) (at : SplitAt) (P : Packing) (B : Branch) : Type 0 where
   pub made : IsMade R done id B
   pub vertex : IsSplitAt I B at
@@ -131,8 +138,8 @@ least_found I x [] = x
 least_found I x (s ∷ ss) = less_found I s.best (least_found I x ss)
 
 pub record IsFinished (G : Gathered) (I : Network) (R : Branch) (start budget : ℕ) : Type 0 where
-  -- each tree that was found is one of the instance and of the branch that the search began with
-  pub trees : All (λ s. IfSome s.best (λ t. IsTree I t × Belongs R t)) G.segments
+  -- each tree that was found is one of the instance, and reaches what the branch says that the search began with
+  pub trees : All (λ s. IfSome s.best (λ t. IsTree I t × ReachesAsTold R t)) G.segments
   -- the least value is the least of the start cost and of what they cost
   pub least : G.least ≡ least_found I start G.segments
   -- nodes wait only where the whole budget was spent

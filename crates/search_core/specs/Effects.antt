@@ -44,7 +44,7 @@ granted S w = record (with_node S (id_in_hand S w) (λ m. record m { claimed = t
 abbrev pub refused : State → ℕ → State
 refused S w = with_worker S w (λ x. record x { refused = true; end = ClaimRefused })
 
--- both halves of a node that is split by w, the one inside in its hand, and the other fresh
+-- both halves of a node that is split by w, the one that says yes in its hand, and the other fresh
 abbrev pub halves_made : Option Made → ℕ → SplitAt → ℕ → ℕ → Packing → List Made
 halves_made None w at inside outside P = []
 halves_made (Some m) w at inside outside P =
@@ -53,7 +53,7 @@ halves_made (Some m) w at inside outside P =
     ∷ record { node = no_node N at outside; place = place.Fresh w; claimed = false }
     ∷ []
 
--- the halves join the nodes, and w holds the one inside
+-- the halves join the nodes, and w holds the one that says yes
 abbrev pub split_into : State → ℕ → List Made → ℕ → Done → State
 split_into S w halves inside done =
     record (with_worker S w (λ x. record x { hand = Some inside; up = false; done = x.done ++ done ∷ [] })) { nodes = S.nodes ++ halves }

@@ -4,7 +4,7 @@ use Rattle.std.specs.List.{flat_map}
 use Rattle.st_model.specs.declared.split_at.SplitAt.{SplitAt}
 use Rattle.st_model.specs.declared.branch.Branch.{Branch}
 use Rattle.st_model.specs.Lists.{total}
-use Rattle.st_model.specs.Network.{Network}
+use Rattle.st_model.specs.Network.{Network, IsInstance}
 use Rattle.cut_packing.specs.declared.packing.Packing.{Packing}
 use Rattle.cut_packing.specs.ProofTree.{Closes, IsSplitAt}
 use Rattle.branching.specs.declared.node.Node.{Node}
@@ -29,7 +29,7 @@ abbrev pub least_offered : ℕ → List Worker → ℕ
 least_offered start [] = start
 least_offered start (x ∷ xs) = min x.offered (least_offered start xs)
 
--- a node was split at a vertex where it can be, on a packing that allows it below the start cost, and both halves were made
+-- a node was split where it can be, on a packing that allows it below the start cost, and both halves were made
 pub record IsSoundSplit (I : Network) (start : ℕ) (nodes : List Node) (id : ℕ) (at : SplitAt) (inside outside : ℕ) (P : Packing) (N : Node) : Type 0 where
   pub node : Contains nodes N
   pub id_is : N.id ≡ id
@@ -55,8 +55,10 @@ pub record IsSoundWork (I : Network) (start least : ℕ) (nodes : List Node) (se
   pub high : seen ≤ start
   pub records : All (IsSoundRecord I start nodes seen) done
 
--- what is said of nodes, and of what each worker saw and did
+-- what is said of the instance, of nodes, and of what each worker saw and did
 pub record IsSound (S : State) : Type 0 where
+  -- the network is an instance
+  pub instance : IsInstance S.instance
   -- each node is a branch of the instance, with a packing that fits it
   pub nodes : All (λ m. IsNode S.instance m.node) S.nodes
   -- what each worker saw and did is sound

@@ -4,7 +4,7 @@ use Rattle.st_model.specs.declared.branch.Branch.{Branch}
 use Rattle.st_model.specs.declared.tree.Tree.{Tree}
 use Rattle.st_model.specs.Arborescence.{IsTree, cost}
 use Rattle.st_model.specs.Branch.{Belongs, IsBranch, LeavesRequired}
-use Rattle.st_model.specs.Network.{Network}
+use Rattle.st_model.specs.Network.{Network, IsInstance}
 use Rattle.search_core.specs.declared.event.Event.{Event}
 use Rattle.search_core.specs.declared.event.EventFault.{EventFault}
 use Rattle.search_core.specs.State.{State, beginning}
@@ -13,8 +13,9 @@ use Rattle.search_core.specs.Needs.{IsAllowed, IsFault}
 use Rattle.search_core.specs.Steps.{Run}
 use Rattle.search_core.specs.Kept.{IsKept}
 
--- a search may begin with a branch of the instance that leaves no required vertex outside
+-- a search may begin with a branch of an instance that leaves no required vertex outside
 pub record MayBegin (I : Network) (R : Branch) : Type 0 where
+  pub instance : IsInstance I
   pub branch : IsBranch I R
   pub required : LeavesRequired I R
 

@@ -4,8 +4,9 @@ use Rattle.std.specs.Option.{option_map_or}
 use Rattle.st_model.specs.declared.branch.Branch.{Branch}
 use Rattle.st_model.specs.declared.split_at.SplitAt.{SplitAt}
 use Rattle.st_model.specs.declared.split_at.SplitAt.TheVariants.{Vertex, Link}
-use Rattle.st_model.specs.Branch.{is_free, NoneIsCertain}
-use Rattle.st_model.specs.Network.{Network}
+use Rattle.st_model.specs.Branch.{is_free, is_present, NoneIsCertain}
+use Rattle.st_model.specs.Made.{has_pair}
+use Rattle.st_model.specs.Network.{Network, link}
 use Rattle.cut_packing.specs.declared.packing.Packing.{Packing}
 use Rattle.cut_packing.specs.Packing.{Fits, weight}
 use Rattle.cut_packing.specs.Full.{IsFull}
@@ -13,7 +14,7 @@ use Rattle.cut_packing.specs.ProofTree.{Closes}
 use Rattle.search_core.specs.declared.event.Event.{Event}
 use Rattle.search_core.specs.declared.event.Event.TheVariants.{Take, Pick, Give, Claim, See, Offer, Up, Split, Close, Down, SeeOpen, SeeHalt, Halt, Keep}
 use Rattle.search_core.specs.declared.event.EventFault.{EventFault}
-use Rattle.search_core.specs.declared.event.EventFault.TheVariants.{NoWorker, HandFull, HandEmpty, NotThere, NotClaimed, IsClaimed, WasRefused, NotRefused, OutOfTurn, BadVertex, UsedId, BadPacking, TooLight}
+use Rattle.search_core.specs.declared.event.EventFault.TheVariants.{NoWorker, HandFull, HandEmpty, NotThere, NotClaimed, IsClaimed, WasRefused, NotRefused, OutOfTurn, BadVertex, UsedId, BadPacking, TooLight, BadLink}
 use Rattle.search_core.specs.declared.made.Place.{Place}
 use Rattle.search_core.specs.declared.made.Place.TheVariants.{Queue, Fresh}
 use Rattle.search_core.specs.State.{State, made_as, hand, held, seen}
@@ -63,10 +64,19 @@ close_waits S w = option_map_or (λ x. nat_lt 0 x.closes) (slice_get S.workers w
 abbrev pub splits_at : Network → Branch → ℕ → Bool
 splits_at I B v = nat_le 1 v && nat_le v I.n && is_free I B v
 
--- whether it can be split here: at no link so far
+-- whether it can be split at the link between a and b, the lower first: it is there, both ends are present, and it is decided neither way
+abbrev pub splits_link : Network → Branch → ℕ → ℕ → Bool
+splits_link I B a b = (nat_lt a b && is_some (link I.links a b)) && (is_present B a && is_present B b) && (not (has_pair B.must a b) && not (has_pair B.barred a b))
+
+-- whether it can be split here
 abbrev pub may_split_at : Network → Branch → SplitAt → Bool
 may_split_at I B (Vertex v) = splits_at I B v
-may_split_at I B (Link a b) = false
+may_split_at I B (Link a b) = splits_link I B a b
+
+-- the fault of a split where the branch can't be split
+abbrev pub bad_split : SplitAt → EventFault
+bad_split (Vertex v) = BadVertex
+bad_split (Link a b) = BadLink
 
 -- whether the node in the hand of w can be split here
 abbrev pub can_split : State → ℕ → SplitAt → Bool
@@ -90,7 +100,7 @@ early_fault S (Claim w) = first ((no_worker S w, NoWorker) ∷ (is_none (held S 
 early_fault S (See w) = first ((no_worker S w, NoWorker) ∷ [])
 early_fault S (Offer w value) = first ((no_worker S w, NoWorker) ∷ [])
 early_fault S (Up w) = first ((no_worker S w, NoWorker) ∷ (is_none (held S w), HandEmpty) ∷ (not (is_claimed S w), NotClaimed) ∷ (up_waits S w, OutOfTurn) ∷ [])
-early_fault S (Split w at inside outside P) = first ((no_worker S w, NoWorker) ∷ (is_none (held S w), HandEmpty) ∷ (not (up_waits S w), OutOfTurn) ∷ (not (can_split S w at), BadVertex) ∷ ((inside == outside) || is_used S inside || is_used S outside, UsedId) ∷ [])
+early_fault S (Split w at inside outside P) = first ((no_worker S w, NoWorker) ∷ (is_none (held S w), HandEmpty) ∷ (not (up_waits S w), OutOfTurn) ∷ (not (can_split S w at), bad_split at) ∷ ((inside == outside) || is_used S inside || is_used S outside, UsedId) ∷ [])
 early_fault S (Close w P) = first ((no_worker S w, NoWorker) ∷ (is_none (held S w), HandEmpty) ∷ (not (is_claimed S w), NotClaimed) ∷ (up_waits S w, OutOfTurn) ∷ [])
 early_fault S (Down w) = first ((no_worker S w, NoWorker) ∷ (not (close_waits S w), OutOfTurn) ∷ [])
 early_fault S (SeeOpen w) = first ((no_worker S w, NoWorker) ∷ [])

@@ -93,7 +93,7 @@ pub enum EventFault {
     NotRefused,
     /// An up or a close waits, or doesn't, against the need.
     OutOfTurn,
-    /// The node can't be split there.
+    /// The node can't be split at the vertex.
     BadVertex,
     /// An id was made before, or the two are one.
     UsedId,
@@ -101,6 +101,9 @@ pub enum EventFault {
     BadPacking,
     /// The packing weighs less than the value seen.
     TooLight,
+    /// The node can't be split at the link: it isn't there, its lower end doesn't come first, an end
+    /// is outside, or it is a must or barred already.
+    BadLink,
 }
 
 /// Why a step changed nothing.

@@ -33,8 +33,8 @@ pub use done::{Done, End};
 pub use event::{Event, EventFault, StepError};
 pub use gathered::{Gathered, Searched, Segment};
 pub use law::{
-    complete_bounds, complete_counts, complete_is_few, complete_is_proof, events_keep,
-    faults_are_exact, settled_bounds,
+    complete_bounds, complete_counts, complete_is_few, complete_is_few_with_links,
+    complete_is_proof, events_keep, faults_are_exact, settled_bounds,
 };
 pub use made::{Made, Place};
 pub use records::Records;

@@ -1,8 +1,9 @@
 ghost use Rattle.std.specs.Prelude.{◌≡◌, not, ◌||◌, is_none, is_some};
 ghost use Rattle.st_model.specs.Lists.{has};
+ghost use Rattle.st_model.specs.Made.{has_pair, is_between};
 ghost use Rattle.cut_packing.specs.declared.packing.Packing.{Packing};
 ghost use Rattle.search_core.specs.State.{hand};
-ghost use Rattle.search_core.specs.Needs.{early_fault, is_queue, is_fresh_of, is_queued, is_fresh, holds, is_claimed, was_refused, up_waits, close_waits, may_split_at, splits_at, can_split, is_used, no_worker};
+ghost use Rattle.search_core.specs.Needs.{early_fault, is_queue, is_fresh_of, is_queued, is_fresh, holds, is_claimed, was_refused, up_waits, close_waits, may_split_at, splits_at, splits_link, bad_split, can_split, is_used, no_worker};
 
 use crate::{Event, EventFault, Place, Search};
 use st_model::{Branch, Instance, Need, SplitAt};
@@ -136,7 +137,7 @@ impl Search {
             return Some(EventFault::OutOfTurn);
         }
         if !self.can_split(w, at) {
-            return Some(EventFault::BadVertex);
+            return Some(bad_split(at));
         }
         if inside == outside || self.is_used(inside) || self.is_used(outside) {
             return Some(EventFault::UsedId);
@@ -298,13 +299,23 @@ fn is_fresh_of(w: u32, place: Place) -> bool
     }
 }
 
-// Whether a branch can be split there: at no link so far.
+// The fault of a split where the node can't be split.
+fn bad_split(at: SplitAt) -> EventFault
+    ensures { result ≡ bad_split at }
+{
+    match at {
+        SplitAt::Vertex(_) => EventFault::BadVertex,
+        SplitAt::Link(_, _) => EventFault::BadLink,
+    }
+}
+
+// Whether a branch can be split there.
 fn may_split_at(instance: &Instance, branch: &Branch, at: SplitAt) -> bool
     ensures { result ≡ may_split_at instance.now branch.now at }
 {
     match at {
         SplitAt::Vertex(vertex) => splits_at(instance, branch, vertex),
-        SplitAt::Link(_, _) => false,
+        SplitAt::Link(low, high) => splits_link(instance, branch, low, high),
     }
 }
 
@@ -319,6 +330,33 @@ fn splits_at(instance: &Instance, branch: &Branch, v: u32) -> bool
         return false;
     }
     instance.need(v) != Need::Required
+}
+
+// Whether a branch can be split at the link between two vertices, the lower first.
+fn splits_link(instance: &Instance, branch: &Branch, low: u32, high: u32) -> bool
+    ensures { result ≡ splits_link instance.now branch.now low high }
+{
+    if high <= low || instance.link_cost(low, high).is_none() {
+        return false;
+    }
+    if holds(branch.outside.as_slice(), low) || holds(branch.outside.as_slice(), high) {
+        return false;
+    }
+    !has_pair(branch.must.as_slice(), low, high) && !has_pair(branch.barred.as_slice(), low, high)
+}
+
+// Whether a list has a pair of vertices, in either order.
+fn has_pair(pairs: &[(u32, u32)], a: u32, b: u32) -> bool
+    ensures { result ≡ has_pair pairs.now a b }
+{
+    pairs.iter().any(|pair| is_between(*pair, a, b))
+}
+
+// Whether a pair is these two vertices, in either order.
+fn is_between(pair: (u32, u32), a: u32, b: u32) -> bool
+    ensures { result ≡ is_between pair a b }
+{
+    (pair.0 == a && pair.1 == b) || (pair.0 == b && pair.1 == a)
 }
 
 // Whether a list has a vertex.

@@ -56,6 +56,7 @@ impl Search {
         requires required { LeavesRequired instance.now branch.now }
         ensures { IfOk result (λ search. search ≡ beginning instance.now branch.now workers budget start_cost) }
     {
+        prove!(instance.vertices() >= 1);
         let mut nodes = Nodes::new(alloc);
         nodes.add(root(alloc, branch)?)?;
         Ok(Search {

@@ -104,7 +104,7 @@ pub fn close(workers: &mut Vec<Worker>, w: u32, done: Done) -> Result<(), AllocE
 }
 
 /// A worker splits the node in its hand: that is recorded, the halves join the nodes, and it has
-/// the half inside in its hand.
+/// the half that says yes in its hand.
 pub fn split(
     workers: &mut Vec<Worker>,
     nodes: &mut Nodes,

@@ -1,6 +1,6 @@
 //! The program `spent_budgets`: solves each file that its words name with a budget of 0 nodes, of 1,
 //! of 2 and so on, until the answer is optimal: by one worker and by three, each with reduction steps
-//! and without. Each log has to be accepted, with a bound below the cost where the answer isn't
+//! and without, and with splits at links. Each log has to be accepted, with a bound below the cost where the answer isn't
 //! optimal, and there the whole budget has to be spent. It writes the file's name and its cost, or the
 //! first budget at which that fails. The files have no amounts with decimals.
 #![tactic(auto)]
@@ -25,6 +25,20 @@ const REDUCED_BY_THREE: &[&str] = &["--workers", "3"];
 
 const PLAIN_BY_THREE: &[&str] = &["--plain", "--workers", "3"];
 
+const AT_LINKS: &[&str] = &["--links"];
+
+const AT_LINKS_BY_THREE: &[&str] = &["--links", "--plain", "--workers", "3"];
+
+/// All of these.
+const WAYS: [&[&str]; 6] = [
+    REDUCED,
+    PLAIN,
+    REDUCED_BY_THREE,
+    PLAIN_BY_THREE,
+    AT_LINKS,
+    AT_LINKS_BY_THREE,
+];
+
 /// A budget that is enough for each of the program's files.
 const ENOUGH: u64 = 200;
 
@@ -45,7 +59,7 @@ fn main(rt: HostRuntime) -> ExitCode {
     let mut shelf = DiskShelf::new(&rt);
     let mut out = StdSink::new(&rt);
     for name in names.skip(1) {
-        for way in [REDUCED, PLAIN, REDUCED_BY_THREE, PLAIN_BY_THREE] {
+        for way in WAYS {
             if tell(&rt, rt.alloc(), &name, way, &mut shelf, &mut out).is_err() {
                 return ExitCode::from(Status::NoMemory.code());
             }

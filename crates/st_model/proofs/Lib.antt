@@ -24,3 +24,4 @@ pub mod Walked
 pub mod Those
 pub mod Once
 pub mod Searched
+pub mod Pairs

@@ -15,3 +15,4 @@ pub mod Sides
 pub mod Led
 pub mod Wall
 pub mod Laws
+pub mod Linked

@@ -1,5 +1,5 @@
 -- Trees made of given pairs, and pairs that hang together.
-use Rattle.std.specs.Prelude.{◌≡◌, ℕ, Bool, IsTrue, ◌&&◌, ◌||◌, ◌==◌, List, All}
+use Rattle.std.specs.Prelude.{◌≡◌, ℕ, Bool, IsTrue, IsFalse, ◌&&◌, ◌||◌, ◌==◌, List, [], ◌∷◌, All, ⊤}
 use Rattle.std.specs.List.{list_any}
 use Rattle.st_model.specs.declared.tree.Tree.{Tree}
 
@@ -10,6 +10,11 @@ is_between pair u v = ((pair.0 == u) && (pair.1 == v)) || ((pair.0 == v) && (pai
 -- one of the pairs is u and v, in either order
 abbrev pub has_pair : List (ℕ × ℕ) → ℕ → ℕ → Bool
 has_pair pairs u v = list_any (λ pair. is_between pair u v) pairs
+
+-- no pair stands again, in either order
+abbrev pub AreApart : List (ℕ × ℕ) → Type 0
+AreApart [] = ⊤
+AreApart (pair ∷ pairs) = IsFalse (has_pair pairs pair.0 pair.1) × AreApart pairs
 
 -- each arc of the tree is one of the pairs, in either direction
 abbrev pub IsMadeOf : List (ℕ × ℕ) → Tree → Type 0

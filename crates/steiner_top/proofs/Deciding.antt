@@ -57,7 +57,7 @@ answered_found w bytes status tree primal dual expanded searches log scale texts
     certificate = log;
     sent = sent;
     given = refl;
-    found = subst (λ J. IsFound w.nodes w.plain J tree primal dual expanded searches log) (law.one_instance s.instance I scale unit s.reads reads).0 s.found;
+    found = subst (λ J. IsFound w.nodes w.plain w.links J tree primal dual expanded searches log) (law.one_instance s.instance I scale unit s.reads reads).0 s.found;
     text = s.text;
     took = took;
     ends = ends;

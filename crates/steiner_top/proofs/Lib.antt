@@ -1,6 +1,7 @@
 mod Asking
 mod Reasons
 mod Remaining
+mod FewerLinks
 mod WritableSteps
 mod Cheapest
 mod Bests

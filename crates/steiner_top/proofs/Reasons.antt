@@ -28,12 +28,12 @@ use Rattle.steiner_top.specs.Output.{line_of, status_of_verdict}
 use Rattle.steiner_top.specs.Causes.{Texts, IsAnswered, IsCutShort, IsSaved, IsStopped, IsUnanswered, StopsAtLoad}
 
 -- bytes that are refused are answered so
-pub refused_answer : (nodes : ℕ) (plain : Bool) (bytes : List ℕ) (result : Result Outcome SolveFault) → RefusedExactly bytes → Solves nodes plain bytes result → (line : ℕ) (reason : Reason) → Refused bytes line reason → (result ≡ Err (Stp (record { line = line; reason = reason }))) ⊎ (result ≡ Err NoMemory)
-refused_answer nodes plain bytes (Ok outcome) law h line reason r = absurd (law.not_both h.0 h.1 line reason h.2 r)
-refused_answer nodes plain bytes (Err (Stp f)) law h line reason r =
+pub refused_answer : (nodes : ℕ) (plain links : Bool) (bytes : List ℕ) (result : Result Outcome SolveFault) → RefusedExactly bytes → Solves nodes plain links bytes result → (line : ℕ) (reason : Reason) → Refused bytes line reason → (result ≡ Err (Stp (record { line = line; reason = reason }))) ⊎ (result ≡ Err NoMemory)
+refused_answer nodes plain links bytes (Ok outcome) law h line reason r = absurd (law.not_both h.0 h.1 line reason h.2 r)
+refused_answer nodes plain links bytes (Err (Stp f)) law h line reason r =
     let one = law.one_fault f.line line f.reason reason h r in
     inl (ap₂ (λ l q. Err (Stp (record { line = l; reason = q }))) one.0 one.1)
-refused_answer nodes plain bytes (Err NoMemory) law h line reason r = inr refl
+refused_answer nodes plain links bytes (Err NoMemory) law h line reason r = inr refl
 
 -- a text without which a run stops is one of two
 pub first_stops : (a b : List ℕ) (texts : Texts) (status : Status) → IsStopped (a ∷ []) texts status → IsStopped (a ∷ b ∷ []) texts status

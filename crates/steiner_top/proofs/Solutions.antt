@@ -13,7 +13,7 @@ use Rattle.steiner_top.specs.Answer.{IsOutcomeText, SolveAnswer, status_of_outco
 use Rattle.steiner_top.specs.Outcome.{Solves}
 
 -- an outcome, its status and its text
-pub outcome_answers : (w : SolveWords) (bytes : List ℕ) (outcome : Outcome) (status : Status) (sent : List ℕ) → Solves w.nodes w.plain bytes (Ok outcome)
+pub outcome_answers : (w : SolveWords) (bytes : List ℕ) (outcome : Outcome) (status : Status) (sent : List ℕ) → Solves w.nodes w.plain w.links bytes (Ok outcome)
     → status ≡ status_of_outcome outcome → IsOutcomeText w outcome sent → SolveAnswer w bytes status (Some outcome) sent
 outcome_answers w bytes (Found tree primal dual expanded searches log scale) status sent (I, unit, reads, found) ends text = rw ends (at (dual == primal) refl)
   where

@@ -39,13 +39,13 @@ no_wall I wall connected h = by_case (has wall 1) refl
         absurd cc
 
 -- so solving it gives a tree
-has_tree : (nodes : ℕ) (plain : Bool) (I : Network) (scale : Scale) (outcome : Outcome) → IsConnected I → IsOutcome nodes plain I scale outcome → HasTree outcome
-has_tree nodes plain I unit (Found tree primal dual expanded searches log scale) connected h = tt
-has_tree nodes plain I unit (NoTree log) connected h = no_wall I h.wall connected (subst (AcceptsClaim I) h.claims h.accepted)
+has_tree : (nodes : ℕ) (plain links : Bool) (I : Network) (scale : Scale) (outcome : Outcome) → IsConnected I → IsOutcome nodes plain links I scale outcome → HasTree outcome
+has_tree nodes plain links I unit (Found tree primal dual expanded searches log scale) connected h = tt
+has_tree nodes plain links I unit (NoTree log) connected h = no_wall I h.wall connected (subst (AcceptsClaim I) h.claims h.accepted)
 
 -- a tree whose cost is a bound is a best one
-best_tree : (nodes : ℕ) (plain : Bool) (I : Network) (tree : Tree) (primal dual expanded : ℕ) (searches : List Searched) (log : Log) → IsFound nodes plain I tree primal dual expanded searches log → dual ≡ primal → IsBest I tree
-best_tree nodes plain I tree primal dual expanded searches log h same = record {
+best_tree : (nodes : ℕ) (plain links : Bool) (I : Network) (tree : Tree) (primal dual expanded : ℕ) (searches : List Searched) (log : Log) → IsFound nodes plain links I tree primal dual expanded searches log → dual ≡ primal → IsBest I tree
+best_tree nodes plain links I tree primal dual expanded searches log h same = record {
   tree = h.is_tree;
   least = λ t is. let below = h.is_bound t is in let cost_is = h.is_cost in omega (arith, below, cost_is, same);
 }
@@ -55,7 +55,7 @@ best_cost : (I : Network) (t u : Tree) → IsBest I t → IsBest I u → cost I 
 best_cost I t u first second = let low = first.least u second.tree in let high = second.least t first.tree in omega (arith, low, high)
 
 tried_found : (w : TrialWords) (status : Status) (tree : Tree) (primal dual expanded : ℕ) (searches : List Searched) (log : Log) (text : List ℕ)
-    → IsFound 1000000 false (tried_instance w) tree primal dual expanded searches log → text ≡ summary primal dual → ((status ≡ Optimal) × (dual ≡ primal)) ⊎ ((status ≡ Budget) × (dual < primal))
+    → IsFound 1000000 false false (tried_instance w) tree primal dual expanded searches log → text ≡ summary primal dual → ((status ≡ Optimal) × (dual ≡ primal)) ⊎ ((status ≡ Budget) × (dual < primal))
     → IsTried w status (Some (Found tree primal dual expanded searches log Whole)) text
 tried_found w status tree primal dual expanded searches log text h is ends = record {
   tree = tree;
@@ -68,7 +68,7 @@ tried_found w status tree primal dual expanded searches log text h is ends = rec
   found = h;
   text = is;
   ends = ends;
-  best = λ optimal. best_tree 1000000 false I tree primal dual expanded searches log h (reached optimal);
+  best = λ optimal. best_tree 1000000 false false I tree primal dual expanded searches log h (reached optimal);
   only = λ optimal t best. is ∙ ap₂ summary (costs optimal t best) (reached optimal ∙ costs optimal t best);
 } where
   I : Network
@@ -81,10 +81,10 @@ tried_found w status tree primal dual expanded searches log text h is ends = rec
   ]
 
   costs : status ≡ Optimal → (t : Tree) → IsBest I t → primal ≡ cost I t
-  costs optimal t best = h.is_cost ∙ best_cost I tree t (best_tree 1000000 false I tree primal dual expanded searches log h (reached optimal)) best
+  costs optimal t best = h.is_cost ∙ best_cost I tree t (best_tree 1000000 false false I tree primal dual expanded searches log h (reached optimal)) best
 
 -- what solving the instance gave is what is sent, as a summary
-pub tried : (w : TrialWords) (outcome : Outcome) (text : List ℕ) → IsOutcome 1000000 false (tried_instance w) Whole outcome → IsSummary outcome text → IsTried w (status_of_outcome outcome) (Some outcome) text
+pub tried : (w : TrialWords) (outcome : Outcome) (text : List ℕ) → IsOutcome 1000000 false false (tried_instance w) Whole outcome → IsSummary outcome text → IsTried w (status_of_outcome outcome) (Some outcome) text
 tried w (Found tree primal dual expanded searches log scale) text h is = subst (λ q. IsTried w (cond (eqb dual primal) Optimal Budget) (Some (Found tree primal dual expanded searches log q)) text) (sym h.1) (by_case (eqb dual primal) refl)
   where
     by_case : (b : Bool) → eqb dual primal ≡ b → IsTried w (cond b Optimal Budget) (Some (Found tree primal dual expanded searches log Whole)) text
@@ -106,7 +106,7 @@ numbers_in_range w = record {
 }
 
 -- so solving what they say gives a tree
-pub drawn_has_tree : (w : Trial) (I : Network) (scale : Scale) (outcome : Outcome) → GeneratedAreConnected → I ≡ tried_instance (trial_words w) → IsOutcome 1000000 false I scale outcome → HasTree outcome
+pub drawn_has_tree : (w : Trial) (I : Network) (scale : Scale) (outcome : Outcome) → GeneratedAreConnected → I ≡ tried_instance (trial_words w) → IsOutcome 1000000 false false I scale outcome → HasTree outcome
 drawn_has_tree w I scale outcome law is h =
     let connected = law w.drawn.seed w.drawn.n w.drawn.m w.drawn.t false (numbers_in_range w.drawn) in
-    has_tree 1000000 false I scale outcome (subst IsConnected (sym is) connected) h
+    has_tree 1000000 false false I scale outcome (subst IsConnected (sym is) connected) h

@@ -6,7 +6,7 @@ use Rattle.std.proofs.lemmas.Nat.{mul-le}
 use Rattle.st_model.specs.declared.branch.Branch.{Branch}
 use Rattle.st_model.specs.declared.tree.Tree.{Tree}
 use Rattle.st_model.specs.Arborescence.{IsTree, cost, reached}
-use Rattle.st_model.specs.Branch.{Belongs, all_trees}
+use Rattle.st_model.specs.Branch.{all_trees, ReachesAsTold}
 use Rattle.st_model.specs.Lists.{has}
 use Rattle.st_model.specs.Network.{Network, IsInstance, is_needed, is_required}
 use Rattle.st_model.specs.Terminals.{IsTerminal, NobodyPays, terminal_count}
@@ -42,7 +42,7 @@ within_none I t none s tree some = absurd (let count = no_terminal I none in ome
 -- ---- the start
 
 -- who is gone is no terminal and has no links, so no tree that reaches a terminal reaches them
-pub reaches_nobody_alone : (I : Network) (B : Branch) (t : Tree) (v : ℕ) → LeavesOutLone I B → IsTree I t → IsTerminal I v → Belongs B t
+pub reaches_nobody_alone : (I : Network) (B : Branch) (t : Tree) (v : ℕ) → LeavesOutLone I B → IsTree I t → IsTerminal I v → ReachesAsTold B t
 reaches_nobody_alone I B t v lone tree terminal = record {
   inside = λ w there. absurd (false≢true (ap (λ (xs : List ℕ). has xs w) (sym lone.inside) ∙ there));
   outside = λ w gone. false_from_ne_true (has (reached t) w) (λ there. reached_linked I t v w tree terminal there (λ same. false≢true (sym (lone.free w gone) ∙ subst (λ (x : ℕ). is_required I x ≡ true) same terminal.required)) (λ x. lone.alone w x gone));
@@ -54,7 +54,7 @@ terminals_present I g v of terminal = of.whole v terminal.vertex
 
 -- there is a near tree where there is a tree
 pub some_near : (I : Network) (g : Graph) (t : Tree) → IsInstance I → IsWholeOf I g → IsTree I t → HasNoTree g all_trees → ⊥
-some_near I g t instance of tree none = none t (subst (λ (N : Network). IsTree N t) (sym of.network) tree) (belongs_to_all t) (reaches_present I g t of instance tree)
+some_near I g t instance of tree none = none t (subst (λ (N : Network). IsTree N t) (sym of.network) tree) (belongs_to_all t).reaches (reaches_present I g t of instance tree)
 
 -- who is gone of what is left
 pub left_alone : (s : State) → IsState s → LeavesOutLone s.instance (left_over s)

@@ -35,7 +35,7 @@ IsOutcomeText w (NoTree log) sent = sent ≡ infeasible_line
 pub record IsSolution (w : SolveWords) (bytes : List ℕ) (tree : Tree) (primal dual expanded : ℕ) (searches : List Searched) (log : Log) (scale : Scale) (sent : List ℕ) : Type 0 where
   pub instance : Network
   pub reads : Reads bytes instance scale
-  pub found : IsFound w.nodes w.plain instance tree primal dual expanded searches log
+  pub found : IsFound w.nodes w.plain w.links instance tree primal dual expanded searches log
   pub text : IsSolutionText w.file w.workers tree dual primal scale sent
 
 -- the file's instance has no tree

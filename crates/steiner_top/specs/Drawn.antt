@@ -49,7 +49,7 @@ pub record IsTried (w : TrialWords) (status : Status) (outcome : Option Outcome)
   pub searches : List Searched
   pub certificate : Log
   pub given : outcome ≡ Some (Found tree primal dual expanded searches certificate Whole)
-  pub found : IsFound 1000000 false (tried_instance w) tree primal dual expanded searches certificate
+  pub found : IsFound 1000000 false false (tried_instance w) tree primal dual expanded searches certificate
   pub text : sent ≡ summary primal dual
   pub ends : ((status ≡ Optimal) × (dual ≡ primal)) ⊎ ((status ≡ Budget) × (dual < primal))
   -- where they are equal the tree is a best one, and any best tree says what is sent: it depends on the words alone

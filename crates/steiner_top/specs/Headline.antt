@@ -45,7 +45,7 @@ pub record IsSolved (w : SolveWords) (bytes : List ℕ) (I : Network) (scale : S
   pub certificate : Log
   pub sent : List ℕ
   pub given : outcome ≡ Some (Found tree primal dual expanded searches certificate scale)
-  pub found : IsFound w.nodes w.plain I tree primal dual expanded searches certificate
+  pub found : IsFound w.nodes w.plain w.links I tree primal dual expanded searches certificate
   pub text : IsSolutionText w.file w.workers tree dual primal scale sent
   pub took : now ≡ append_known taken sent
   pub ends : ((status ≡ Optimal) × (dual ≡ primal)) ⊎ ((status ≡ Budget) × (dual < primal))

@@ -41,11 +41,11 @@ pub record LeavesOutLone (I : Network) (B : Branch) : Type 0 where
   pub alone : (v w : ℕ) → IsTrue (has B.outside v) → link I.links v w ≡ None
 
 -- a search of what is left and the best tree that it found, all of which can be written in a log
-pub record IsBestOf (s : State) (budget : ℕ) (b : Best) : Type 0 where
+pub record IsBestOf (s : State) (budget : ℕ) (links : Bool) (b : Best) : Type 0 where
   pub is_left : IsTreeOf s b.tree
   pub is_least : b.search.gathered.least ≡ cost s.instance b.tree
   pub near : NobodyPays s.instance → IsWithinTwice s.instance b.tree
-  pub searched : IsSearchOf s budget b.search
+  pub searched : IsSearchOf s budget links b.search
   pub writable : AllPackings IsWritablePacking b.search.gathered
 
 -- a tree is claimed

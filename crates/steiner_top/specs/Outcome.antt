@@ -1,7 +1,8 @@
 -- What solving a file gives: a tree and a bound with their certificate, or a certificate that there is no tree.
-use Rattle.std.specs.Prelude.{◌≡◌, ℕ, ◌+◌, ◌^◌, ◌<◌, ◌≤◌, Bool, true, false, if◌then◌else◌, List, [], ◌∷◌, Result, Ok, Err}
+use Rattle.std.specs.Prelude.{◌≡◌, ℕ, ◌+◌, ◌^◌, ◌<◌, ◌≤◌, Bool, true, false, IsFalse, if◌then◌else◌, List, [], ◌∷◌, All, Result, Ok, Err}
 use Rattle.amounts.specs.declared.scale.Scale.{Scale}
 use Rattle.st_model.specs.declared.tree.Tree.{Tree}
+use Rattle.st_model.specs.Linked.{linked_pairs}
 use Rattle.st_model.specs.Lists.{sum_to}
 use Rattle.st_model.specs.Network.{Network, is_required}
 use Rattle.st_model.specs.Arborescence.{IsTree, IsBound, cost}
@@ -14,13 +15,14 @@ use Rattle.lift_back.specs.declared.step.Step.{Step}
 use Rattle.lift_back.specs.State.{State, IsTreeOf, whole}
 use Rattle.lift_back.specs.Steps.{Applies}
 use Rattle.log_format.specs.declared.log.Log.{Log}
+use Rattle.log_format.specs.declared.log.Version.TheVariants.{Two}
 use Rattle.log_format.specs.declared.log.Claim.TheVariants as claim
 use Rattle.log_format.specs.declared.proof_line.ProofLine.{ProofLine}
 use Rattle.log_format.specs.Accepts.{Accepts, ProvesAfter, left_of, left_over}
 use Rattle.log_format.specs.Text.{IsLog}
 use Rattle.search_core.specs.declared.gathered.Searched.{Searched}
 use Rattle.reductions.specs.Results.{HasNoVertexStep}
-use Rattle.search_core.specs.Complete.{IsComplete, IsFinished}
+use Rattle.search_core.specs.Complete.{IsAtVertex, IsComplete, IsFinished, records}
 use Rattle.certificate_log.specs.Assembled.{IsAssembled}
 use Rattle.certificate_log.specs.Spent.{IsSpent}
 use Rattle.steiner_top.specs.declared.outcome.Outcome.{Outcome}
@@ -41,8 +43,8 @@ abbrev pub AreSteps : Bool → List Step → State → Type 0
 AreSteps true steps left = steps ≡ []
 AreSteps false steps left = HasNoVertexStep left
 
--- a search of what is left, which began with the cost of a tree of it, within a budget
-pub record IsSearchOf (left : State) (budget : ℕ) (s : Searched) : Type 0 where
+-- a search of what is left, which began with the cost of a tree of it, within a budget; it may split nodes at links, or it may not
+pub record IsSearchOf (left : State) (budget : ℕ) (links : Bool) (s : Searched) : Type 0 where
   -- it goes on from no earlier search
   pub first : s.close ≡ 0
   pub budget_is : s.budget ≡ budget
@@ -51,9 +53,11 @@ pub record IsSearchOf (left : State) (budget : ℕ) (s : Searched) : Type 0 wher
   pub complete : IsComplete s.gathered left.instance (left_over left) s.start budget
   -- and none was left unless the budget was spent
   pub finished : IsFinished s.gathered left.instance (left_over left) s.start budget
+  -- without links each split is at a vertex
+  pub sites : IsFalse links → All IsAtVertex (records s.gathered)
 
 -- the log claims this tree and this bound, and its proof is that of one search of what its steps leave; it shows no greater bound, and spent the budget if they are apart
-pub record IsCertificate (nodes : ℕ) (plain : Bool) (I : Network) (tree : Tree) (primal dual expanded : ℕ) (searches : List Searched) (log : Log) : Type 0 where
+pub record IsCertificate (nodes : ℕ) (plain links : Bool) (I : Network) (tree : Tree) (primal dual expanded : ℕ) (searches : List Searched) (log : Log) : Type 0 where
   pub steps : List Step
   pub proof : List ProofLine
   pub claims : log.claim ≡ claim.Found primal dual tree steps proof
@@ -63,7 +67,7 @@ pub record IsCertificate (nodes : ℕ) (plain : Bool) (I : Network) (tree : Tree
   pub reduced : AreSteps plain steps left
   -- the one search of it
   pub search : Searched
-  pub searched : IsSearchOf left nodes search
+  pub searched : IsSearchOf left nodes links search
   pub only : searches ≡ search ∷ []
   -- how many units of the budget it took
   pub expanded_is : expanded ≡ search.gathered.claimed
@@ -77,29 +81,32 @@ pub record IsCertificate (nodes : ℕ) (plain : Bool) (I : Network) (tree : Tree
   pub accepted : Accepts I log
 
 -- a tree of this cost, a bound on the cost of every tree, and their certificate
-pub record IsFound (nodes : ℕ) (plain : Bool) (I : Network) (tree : Tree) (primal dual expanded : ℕ) (searches : List Searched) (log : Log) : Type 0 where
+pub record IsFound (nodes : ℕ) (plain links : Bool) (I : Network) (tree : Tree) (primal dual expanded : ℕ) (searches : List Searched) (log : Log) : Type 0 where
   pub is_tree : IsTree I tree
   pub is_cost : primal ≡ cost I tree
   pub is_bound : IsBound I dual
   pub is_below : dual ≤ primal
   -- where nobody pays it costs at most twice what each tree costs, less a share, whatever the budget
   pub near : NobodyPays I → IsWithinTwice I tree
-  pub certified : IsCertificate nodes plain I tree primal dual expanded searches log
-  -- a budget that is sure to suffice
-  pub enough : 2 ^ (free_vertices I + 1) ≤ nodes → dual ≡ primal
+  pub certified : IsCertificate nodes plain links I tree primal dual expanded searches log
+  -- a budget that is sure to suffice, where each split is at a vertex
+  pub enough : IsFalse links → 2 ^ (free_vertices I + 1) ≤ nodes → dual ≡ primal
+  -- and one that is, wherever nodes are split
+  pub enough_with_links : 2 ^ (free_vertices I + linked_pairs I + 1) ≤ nodes → dual ≡ primal
 
 -- the instance has no tree, and the log says why
 pub record IsWithoutTree (I : Network) (log : Log) : Type 0 where
   pub wall : List ℕ
   pub none : (t : Tree) → IsTree I t → ⊥
+  pub version : log.version ≡ Two
   pub claims : log.claim ≡ claim.NoTree wall
   pub is_log : IsLog log
   pub accepted : Accepts I log
 
--- what is right of an instance whose costs count units of this scale, where so many nodes may be expanded, and it is to be plain or not
-abbrev pub IsOutcome : ℕ → Bool → Network → Scale → Outcome → Type 0
-IsOutcome nodes plain I unit (Found tree primal dual expanded searches log scale) = IsFound nodes plain I tree primal dual expanded searches log × (scale ≡ unit)
-IsOutcome nodes plain I unit (NoTree log) = IsWithoutTree I log
+-- what is right of an instance whose costs count units of this scale, where so many nodes may be expanded, it is to be plain or not, and nodes may be split at links or not
+abbrev pub IsOutcome : ℕ → Bool → Bool → Network → Scale → Outcome → Type 0
+IsOutcome nodes plain links I unit (Found tree primal dual expanded searches log scale) = IsFound nodes plain links I tree primal dual expanded searches log × (scale ≡ unit)
+IsOutcome nodes plain links I unit (NoTree log) = IsWithoutTree I log
 
 -- the certificate of an outcome
 abbrev pub certificate_of : Outcome → Log
@@ -107,10 +114,10 @@ certificate_of (Found tree primal dual expanded searches log scale) = log
 certificate_of (NoTree log) = log
 
 -- what the bytes of a file give: an outcome of their instance, or the line at which they are refused
-abbrev pub Solves : ℕ → Bool → List ℕ → Result Outcome SolveFault → Type 0
-Solves nodes plain bytes (Ok outcome) = (I : Network) × (scale : Scale) × Reads bytes I scale × IsOutcome nodes plain I scale outcome
-Solves nodes plain bytes (Err (Stp f)) = Refused bytes f.line f.reason
-Solves nodes plain bytes (Err NoMemory) = Unit {0}
+abbrev pub Solves : ℕ → Bool → Bool → List ℕ → Result Outcome SolveFault → Type 0
+Solves nodes plain links bytes (Ok outcome) = (I : Network) × (scale : Scale) × Reads bytes I scale × IsOutcome nodes plain links I scale outcome
+Solves nodes plain links bytes (Err (Stp f)) = Refused bytes f.line f.reason
+Solves nodes plain links bytes (Err NoMemory) = Unit {0}
 
 -- the fault of a file that isn't read
 abbrev pub fault_of_file : ReadError → SolveFault

@@ -1,6 +1,6 @@
 ghost use Rattle.std.specs.Prelude.{◌≡◌, All, IfOk, IfSome, min};
 ghost use Rattle.st_model.specs.Arborescence.{IsTree, cost};
-ghost use Rattle.st_model.specs.Branch.{Belongs};
+ghost use Rattle.st_model.specs.Branch.{ReachesAsTold};
 ghost use Rattle.search_core.specs.Complete.{least_found, less_found};
 
 use search_core::{Searched, Segment};
@@ -23,11 +23,11 @@ pub fn cheapest(
     segments: &[Segment],
 ) -> Result<Tree, AllocError>
     requires tree { IsTree instance.now start }
-    requires belongs { Belongs branch.now start }
+    requires reaches { ReachesAsTold branch.now start }
     requires found { All (λ s. IfSome s.best
-        (λ t. IsTree instance.now t × Belongs branch.now t)) segments.now }
+        (λ t. IsTree instance.now t × ReachesAsTold branch.now t)) segments.now }
     ensures tree { IfOk result (IsTree instance.now) }
-    ensures belongs { IfOk result (Belongs branch.now) }
+    ensures reaches { IfOk result (ReachesAsTold branch.now) }
     ensures least { IfOk result (λ t. cost instance.now t
         ≡ least_found instance.now (cost instance.now start) segments.now) }
 {
@@ -47,11 +47,11 @@ fn with_found(
     segment: &Segment,
 ) -> Result<Tree, AllocError>
     requires tree { IsTree instance.now tree }
-    requires belongs { Belongs branch.now tree }
+    requires reaches { ReachesAsTold branch.now tree }
     requires found { IfSome segment.now.best
-        (λ t. IsTree instance.now t × Belongs branch.now t) }
+        (λ t. IsTree instance.now t × ReachesAsTold branch.now t) }
     ensures tree { IfOk result (IsTree instance.now) }
-    ensures belongs { IfOk result (Belongs branch.now) }
+    ensures reaches { IfOk result (ReachesAsTold branch.now) }
     ensures least { IfOk result (λ t. cost instance.now t
         ≡ less_found instance.now segment.now.best (cost instance.now tree)) }
 {
@@ -69,10 +69,10 @@ fn cheaper(
     first: Tree,
     second: &Tree,
 ) -> Result<Tree, AllocError>
-    requires first { IsTree instance.now first × Belongs branch.now first }
-    requires second { IsTree instance.now second.now × Belongs branch.now second.now }
+    requires first { IsTree instance.now first × ReachesAsTold branch.now first }
+    requires second { IsTree instance.now second.now × ReachesAsTold branch.now second.now }
     ensures tree { IfOk result (IsTree instance.now) }
-    ensures belongs { IfOk result (Belongs branch.now) }
+    ensures reaches { IfOk result (ReachesAsTold branch.now) }
     ensures least { IfOk result (λ t. cost instance.now t
         ≡ min (cost instance.now second.now) (cost instance.now first)) }
 {

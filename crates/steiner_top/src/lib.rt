@@ -24,6 +24,7 @@ mod start;
 mod status;
 mod trial_command;
 mod verify_command;
+mod wanted;
 
 pub use command_line::{
     CheckWords, Cmd, DrawWords, FewWords, GenWords, SolveWords, TrialWords, VerifyWords, WordFault,
@@ -33,4 +34,5 @@ pub use outcome::{Outcome, SolveFault};
 pub use running::{Ended, run};
 pub use solving::solve_bytes;
 pub use status::Status;
+pub use wanted::Wanted;
 pub use worker_loop::{Gate, OpenGate};

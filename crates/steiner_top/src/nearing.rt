@@ -1,7 +1,7 @@
 ghost use Rattle.std.specs.Prelude.{◌↔◌, ◌≤◌, ℕ, IfNone, IfOk, IfSome, IsTrue};
 ghost use Rattle.st_model.specs.declared.tree.Tree.{Tree as Grown};
 ghost use Rattle.st_model.specs.Arborescence.{IsTree, cost};
-ghost use Rattle.st_model.specs.Branch.{Belongs, IsBranch, NoneIsCertain};
+ghost use Rattle.st_model.specs.Branch.{IsBranch, NoneIsCertain, ReachesAsTold};
 ghost use Rattle.st_model.specs.Lists.{sum_to};
 ghost use Rattle.st_model.specs.Network.{pays};
 ghost use Rattle.st_model.specs.Terminals.{IsTerminal, NobodyPays};
@@ -19,10 +19,10 @@ use twice_tree::near_tree;
 /// or, where nobody pays and that is cheaper, a near one.
 pub fn near_start(alloc: Global, whole: &Whole, branch: &Sides) -> Result<Tree, AllocError>
     requires branch { IsBranch whole.now.instance branch.now }
-    requires some { (t : Grown) × IsTree whole.now.instance t × Belongs branch.now t }
+    requires some { (t : Grown) × IsTree whole.now.instance t × ReachesAsTold branch.now t }
     requires gone { LeavesOutLone whole.now.instance branch.now }
     ensures tree { IfOk result (IsTree whole.now.instance) }
-    ensures belongs { IfOk result (Belongs branch.now) }
+    ensures reaches { IfOk result (ReachesAsTold branch.now) }
     // Where nobody has to be reached, it is no dearer than leaving everybody out.
     ensures cheap { IfOk result (λ tree. NoneIsCertain whole.now.instance branch.now
         → cost whole.now.instance tree ≤ sum_to (pays whole.now.instance) whole.now.instance.n) }
@@ -39,9 +39,9 @@ fn nearer(alloc: Global, whole: &Whole, branch: &Sides, tree: Tree) -> Result<Tr
     requires branch { IsBranch whole.now.instance branch.now }
     requires gone { LeavesOutLone whole.now.instance branch.now }
     requires tree { IsTree whole.now.instance tree }
-    requires belongs { Belongs branch.now tree }
+    requires reaches { ReachesAsTold branch.now tree }
     ensures tree { IfOk result (IsTree whole.now.instance) }
-    ensures belongs { IfOk result (Belongs branch.now) }
+    ensures reaches { IfOk result (ReachesAsTold branch.now) }
     ensures cost { IfOk result (λ new. cost whole.now.instance new ≤ cost whole.now.instance tree) }
     ensures near { IfOk result (λ new. NobodyPays whole.now.instance → IsWithinTwice whole.now.instance new) }
 {
@@ -69,11 +69,11 @@ fn cheaper(
 ) -> Result<Tree, AllocError>
     requires branch { IsBranch whole.now.instance branch.now }
     requires tree { IsTree whole.now.instance tree }
-    requires belongs { Belongs branch.now tree }
+    requires reaches { ReachesAsTold branch.now tree }
     requires near { IsTree whole.now.instance near }
-    requires near_belongs { Belongs branch.now near }
+    requires near_reaches { ReachesAsTold branch.now near }
     ensures tree { IfOk result (IsTree whole.now.instance) }
-    ensures belongs { IfOk result (Belongs branch.now) }
+    ensures reaches { IfOk result (ReachesAsTold branch.now) }
     ensures cost { IfOk result (λ new. cost whole.now.instance new ≤ cost whole.now.instance tree) }
     ensures near { IfOk result (λ new. cost whole.now.instance new ≤ cost whole.now.instance near) }
 {

@@ -29,7 +29,8 @@ pub struct Ended {
 ///
 /// `solve FILE` loads the file from the shelf, reads it as an STP file and solves it within the
 /// budget of nodes, by a search of what reduction steps leave of it unless the words say `--plain`,
-/// saves the log if the words ask for it, and then sends the solution to the sink.
+/// which splits nodes at vertices alone unless they say `--links`, saves the log if the words ask
+/// for it, and then sends the solution to the sink.
 /// `check FILE LOG` loads both, and sends what may be concluded of the file from the log.
 /// `few FILE` sends a best tree of a file with at most twelve terminals in which no other vertex pays, without a search.
 /// `verify FILE SOLUTION` loads both, and sends what the tree costs that the solution claims, or what is wrong with it.

@@ -17,6 +17,7 @@ use crate::lines::{infeasible, refused_stp};
 use crate::loading::load;
 use crate::outcome::{Outcome, SolveFault};
 use crate::solving::solve_bytes;
+use crate::wanted::Wanted;
 use command_line::SolveWords;
 use dimacs_writer::solution_text;
 use log_format::write_log;
@@ -76,15 +77,13 @@ fn answer_bytes<R: Threads + Wait + Sync, G: Gate>(
     ensures { IfOk result (λ a.
         SolveAnswer (solve_words words.now) bytes.now a.status a.outcome a.text.items) }
 {
-    match solve_bytes(
-        rt,
-        alloc,
-        bytes,
-        words.workers,
-        words.nodes,
-        words.plain,
-        gate,
-    ) {
+    let wanted = Wanted {
+        workers: words.workers,
+        nodes: words.nodes,
+        plain: words.plain,
+        links: words.links,
+    };
+    match solve_bytes(rt, alloc, bytes, wanted, gate) {
         Ok(outcome) => {
             let text = outcome_text(alloc, words, &outcome)?;
             let status = outcome_status(&outcome);

@@ -18,11 +18,12 @@ use crate::nearing::near_start;
 use crate::outcome::{Outcome, SolveFault};
 use crate::reducing::{count_steps, left_of, left_over};
 use crate::start::wall_of;
+use crate::wanted::Wanted;
 use amounts::Scale;
 use certificate_log::assemble;
 use graph_store::Whole;
 use lift_back::Reduced;
-use log_format::{Claim, Log};
+use log_format::{Claim, Log, Version};
 use search_core::Searched;
 use st_model::{Instance, Listed, Sides, Tree, tree_cost};
 use std::alloc::{AllocError, Global};
@@ -33,25 +34,24 @@ use worker_loop::{Gate, run_all};
 
 /// Solves an STP file, all of the bytes, expanding so many nodes at most: a tree and a bound with
 /// a certificate, the bound being the tree's cost unless the budget was spent; or a certificate
-/// that there is no tree. Unless it is to be plain, the search is over what a reduction leaves. The
-/// gate learns of each node that is worked on.
+/// that there is no tree. Unless it is to be plain, the search is over what a reduction leaves, and
+/// it splits nodes at vertices alone unless links are allowed. The gate learns of each node that is
+/// worked on.
 pub fn solve_bytes<R: Threads + Wait + Sync, G: Gate>(
     rt: &R,
     alloc: Global,
     stp: &[u8],
-    workers: u32,
-    nodes: u64,
-    plain: bool,
+    wanted: Wanted,
     gate: &G,
 ) -> Result<Outcome, SolveFault>
     // Each answer has its reason.
-    ensures exact { Solves nodes plain stp.now result }
+    ensures exact { Solves wanted.nodes wanted.plain wanted.links stp.now result }
     // Bytes that are refused are answered with that line and reason, unless memory runs out.
     ensures refused { (line : ℕ) (reason : Reason) → Refused stp.now line reason
         → (result ≡ Err (Stp (record { line = line; reason = reason }))) ⊎ (result ≡ Err NoMemory) }
 {
     stp_reader::refused_exactly();
-    solve(rt, alloc, stp, workers, nodes, plain, gate)
+    solve(rt, alloc, stp, wanted, gate)
 }
 
 // Reads the file and solves its instance.
@@ -59,15 +59,13 @@ fn solve<R: Threads + Wait + Sync, G: Gate>(
     rt: &R,
     alloc: Global,
     stp: &[u8],
-    workers: u32,
-    nodes: u64,
-    plain: bool,
+    wanted: Wanted,
     gate: &G,
 ) -> Result<Outcome, SolveFault>
-    ensures { Solves nodes plain stp.now result }
+    ensures { Solves wanted.nodes wanted.plain wanted.links stp.now result }
 {
     let reading = read_stp(alloc, stp)?;
-    let outcome = solve_reading(rt, alloc, &reading, workers, nodes, plain, gate)?;
+    let outcome = solve_reading(rt, alloc, &reading, wanted, gate)?;
     Ok(outcome)
 }
 
@@ -76,16 +74,15 @@ pub fn solve_reading<R: Threads + Wait + Sync, G: Gate>(
     rt: &R,
     alloc: Global,
     reading: &Reading,
-    workers: u32,
-    nodes: u64,
-    plain: bool,
+    wanted: Wanted,
     gate: &G,
 ) -> Result<Outcome, AllocError>
-    ensures { IfOk result (IsOutcome nodes plain reading.now.instance reading.now.scale) }
+    ensures { IfOk result
+        (IsOutcome wanted.nodes wanted.plain wanted.links reading.now.instance reading.now.scale) }
 {
     match wall_of(alloc, &reading.instance)? {
         Some(wall) => Ok(without_tree(&reading.instance, wall)),
-        None => find(rt, alloc, reading, workers, nodes, plain, gate),
+        None => find(rt, alloc, reading, wanted, gate),
     }
 }
 
@@ -94,19 +91,18 @@ fn find<R: Threads + Wait + Sync, G: Gate>(
     rt: &R,
     alloc: Global,
     reading: &Reading,
-    workers: u32,
-    nodes: u64,
-    plain: bool,
+    wanted: Wanted,
     gate: &G,
 ) -> Result<Outcome, AllocError>
     requires { (t : Grown) × IsTree reading.now.instance t }
-    ensures { IfOk result (IsOutcome nodes plain reading.now.instance reading.now.scale) }
+    ensures { IfOk result
+        (IsOutcome wanted.nodes wanted.plain wanted.links reading.now.instance reading.now.scale) }
 {
     let instance = &reading.instance;
     prove!(1 <= instance.vertices());
-    let left = left_of(alloc, instance, plain)?;
-    let best = search_left(rt, alloc, &left.reduced, workers, nodes, gate)?;
-    found(alloc, reading, nodes, plain, left, best)
+    let left = left_of(alloc, instance, wanted.plain)?;
+    let best = search_left(rt, alloc, &left.reduced, wanted, gate)?;
+    found(alloc, reading, wanted, left, best)
 }
 
 // Searches for a least tree of what is left.
@@ -114,19 +110,18 @@ fn search_left<R: Threads + Wait + Sync, G: Gate>(
     rt: &R,
     alloc: Global,
     reduced: &Reduced,
-    workers: u32,
-    nodes: u64,
+    wanted: Wanted,
     gate: &G,
 ) -> Result<Best, AllocError>
     requires state { IsState reduced.now.state }
     requires some { HasSomeTree reduced.now.state }
-    ensures { IfOk result (IsBestOf reduced.now.state nodes) }
+    ensures { IfOk result (IsBestOf reduced.now.state wanted.nodes wanted.links) }
 {
     let rest = reduced.instance(alloc)?;
     let whole = Whole::of(alloc, rest)?;
     let branch = left_over(alloc, reduced)?;
     let sides = Sides::of(alloc, branch)?;
-    search_from(rt, alloc, reduced, &whole, &sides, workers, nodes, gate)
+    search_from(rt, alloc, reduced, &whole, &sides, wanted, gate)
 }
 
 // Searches for one from a first tree of it.
@@ -136,20 +131,29 @@ fn search_from<R: Threads + Wait + Sync, G: Gate>(
     reduced: &Reduced,
     whole: &Whole,
     sides: &Sides,
-    workers: u32,
-    nodes: u64,
+    wanted: Wanted,
     gate: &G,
 ) -> Result<Best, AllocError>
     requires state { IsState reduced.now.state }
     requires some { HasSomeTree reduced.now.state }
     requires whole { whole.now.instance ≡ reduced.now.state.instance }
     requires sides { sides.now ≡ left_over reduced.now.state }
-    ensures { IfOk result (IsBestOf reduced.now.state nodes) }
+    ensures { IfOk result (IsBestOf reduced.now.state wanted.nodes wanted.links) }
 {
     let start = near_start(alloc, whole, sides)?;
     let branch = sides.branch();
     let first = tree_cost(&whole.instance, &start);
-    let gathered = run_all(rt, alloc, whole, branch, &start, workers, nodes, gate)?;
+    let gathered = run_all(
+        rt,
+        alloc,
+        whole,
+        branch,
+        &start,
+        wanted.workers,
+        wanted.nodes,
+        wanted.links,
+        gate,
+    )?;
     let tree = cheapest(
         alloc,
         &whole.instance,
@@ -162,7 +166,7 @@ fn search_from<R: Threads + Wait + Sync, G: Gate>(
         search: Searched {
             close: 0,
             start: first,
-            budget: nodes,
+            budget: wanted.nodes,
             gathered,
         },
     })
@@ -172,14 +176,14 @@ fn search_from<R: Threads + Wait + Sync, G: Gate>(
 fn found(
     alloc: Global,
     reading: &Reading,
-    nodes: u64,
-    plain: bool,
+    wanted: Wanted,
     left: Left,
     best: Best,
 ) -> Result<Outcome, AllocError>
-    requires left { IsLeftOf reading.now.instance plain left }
-    requires best { IsBestOf left.reduced.state nodes best }
-    ensures { IfOk result (IsOutcome nodes plain reading.now.instance reading.now.scale) }
+    requires left { IsLeftOf reading.now.instance wanted.plain left }
+    requires best { IsBestOf left.reduced.state wanted.nodes wanted.links best }
+    ensures { IfOk result
+        (IsOutcome wanted.nodes wanted.plain wanted.links reading.now.instance reading.now.scale) }
 {
     log_format::accepted_holds();
     prove!(1 <= reading.instance.vertices());
@@ -234,12 +238,14 @@ fn claimed(alloc: Global, log: &Log) -> Result<(Tree, u64, u64), AllocError>
 fn without_tree(instance: &Instance, wall: Vec<u32>) -> Outcome
     requires set { IsWritableSet wall.items }
     requires wall { IsWall instance.now wall.items }
-    ensures { (nodes : ℕ) (plain : Bool) (unit : FileScale) → IsOutcome nodes plain instance.now unit result }
+    ensures { (nodes : ℕ) (plain links : Bool) (unit : FileScale)
+        → IsOutcome nodes plain links instance.now unit result }
 {
     log_format::accepted_holds();
     prove!(1 <= instance.vertices());
     Outcome::NoTree {
         certificate: Log {
+            version: Version::Two,
             claim: Claim::NoTree {
                 wall: Listed::of(wall),
             },

@@ -1,7 +1,7 @@
 ghost use Rattle.std.specs.Prelude.{◌≤◌, IfOk, IfSome, IfNone};
 ghost use Rattle.st_model.specs.declared.tree.Tree.{Tree as Grown};
 ghost use Rattle.st_model.specs.Arborescence.{IsTree, cost};
-ghost use Rattle.st_model.specs.Branch.{Belongs, IsBranch, NoneIsCertain};
+ghost use Rattle.st_model.specs.Branch.{IsBranch, NoneIsCertain, ReachesAsTold};
 ghost use Rattle.st_model.specs.Lists.{sum_to};
 ghost use Rattle.st_model.specs.Network.{pays};
 ghost use Rattle.st_model.specs.Wall.{IsWall};
@@ -27,9 +27,9 @@ pub fn wall_of(alloc: Global, instance: &Instance) -> Result<Option<Vec<u32>>, A
 /// A tree of a branch that has one, from which a search may start.
 pub fn start_tree(alloc: Global, whole: &Whole, branch: &Sides) -> Result<Tree, AllocError>
     requires branch { IsBranch whole.now.instance branch.now }
-    requires some { (t : Grown) × IsTree whole.now.instance t × Belongs branch.now t }
+    requires some { (t : Grown) × IsTree whole.now.instance t × ReachesAsTold branch.now t }
     ensures tree { IfOk result (IsTree whole.now.instance) }
-    ensures belongs { IfOk result (Belongs branch.now) }
+    ensures reaches { IfOk result (ReachesAsTold branch.now) }
     // Where nobody has to be reached, it is no dearer than leaving everybody out.
     ensures cheap { IfOk result (λ tree. NoneIsCertain whole.now.instance branch.now
         → cost whole.now.instance tree ≤ sum_to (pays whole.now.instance) whole.now.instance.n) }

@@ -8,6 +8,7 @@ use crate::lines::summary;
 use crate::outcome::Outcome;
 use crate::solve_command::outcome_status;
 use crate::solving::solve_reading;
+use crate::wanted::Wanted;
 use amounts::Scale;
 use command_line::TrialWords;
 use instance_gen::{generate, generated_are_connected};
@@ -55,7 +56,13 @@ pub fn trial_command<R: Threads + Wait + Sync, G: Gate>(
 {
     generated_are_connected();
     let reading = draw(alloc, words)?;
-    let outcome = solve_reading(rt, alloc, &reading, words.workers, NODES, false, gate)?;
+    let wanted = Wanted {
+        workers: words.workers,
+        nodes: NODES,
+        plain: false,
+        links: false,
+    };
+    let outcome = solve_reading(rt, alloc, &reading, wanted, gate)?;
     let text = summary_of(alloc, &outcome)?;
     Ok(Answer {
         status: outcome_status(&outcome),

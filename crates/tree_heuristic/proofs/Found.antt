@@ -6,7 +6,8 @@ use Rattle.std.proofs.lemmas.Bool.{or_cases, false≢true, false_from_ne_true}
 use Rattle.st_model.specs.declared.branch.Branch.{Branch}
 use Rattle.st_model.specs.declared.tree.Tree.{Tree}
 use Rattle.st_model.specs.Arborescence.{IsArborescence, IsTree, reached, cost}
-use Rattle.st_model.specs.Branch.{Belongs, IsBranch, IsVertexSet, is_certain, NoneIsCertain}
+use Rattle.st_model.specs.Ground.{ground}
+use Rattle.st_model.specs.Branch.{IsBranch, IsVertexSet, ReachesAsTold, is_certain, NoneIsCertain}
 use Rattle.st_model.specs.Laws.{LoneStartsMissTheRest}
 use Rattle.st_model.specs.Lists.{has}
 use Rattle.st_model.specs.Network.{Network, IsInstance, IsVertex, link, is_required, pays}
@@ -50,19 +51,19 @@ spread_tree g B out s t graph is start arcs all = record {
   required = λ v vertex h. spread_reached g out s t v is start arcs ∙ all v vertex (certain_required g.network B v h);
 }
 
--- a tree that reaches only what may join, and all that is inside
-joining_belongs : (g : Graph) (B : Branch) (out : List ℕ) (t : Tree) → IsGraph g → IsBranch g.network B → ((v : ℕ) → IsVertex g.network.n v → has out v ≡ has B.outside v) → ((v : ℕ) → IsTrue (has (reached t) v) → MayJoin g out v) → ((v : ℕ) → IsVertex g.network.n v → IsTrue (is_certain g.network B v) → IsTrue (has (reached t) v)) → Belongs B t
-joining_belongs g B out t graph branch same only_joining all = record {
+-- a tree that reaches only what may join, and all that is inside, reaches what the branch says
+joining_reaches : (g : Graph) (B : Branch) (out : List ℕ) (t : Tree) → IsGraph g → IsBranch g.network B → ((v : ℕ) → IsVertex g.network.n v → has out v ≡ has B.outside v) → ((v : ℕ) → IsTrue (has (reached t) v) → MayJoin g out v) → ((v : ℕ) → IsVertex g.network.n v → IsTrue (is_certain g.network B v) → IsTrue (has (reached t) v)) → ReachesAsTold B t
+joining_reaches g B out t graph branch same only_joining all = record {
   inside = λ v h. all v (IsVertexSet-member g.network.n B.inside v branch.inside h) (certain_inside g.network B v h);
   outside = λ v h. false_from_ne_true (has (reached t) v) (λ there. let here = only_joining v there in clash h (sym (same v (in_range g v graph here.present)) ∙ here.inside));
 }
 
--- so it is a tree of the branch
+-- so it is a tree that reaches what the branch says
 pub spread_tree_of : (g : Graph) (B : Branch) (out : List ℕ) (s : Spread) (t : Tree) → IsGraph g → IsBranch g.network B → ((v : ℕ) → IsVertex g.network.n v → has out v ≡ has B.outside v) → IsSpread g out s → t.start ≡ s.start → t.arcs ≡ s.arcs.items
     → ((v : ℕ) → IsVertex g.network.n v → IsTrue (is_certain g.network B v) → IsTrue (has s.reached.members v)) → IsTreeOf g B t
 spread_tree_of g B out s t graph branch outside is start arcs all = record {
   tree = spread_tree g B out s t graph is start arcs all;
-  belongs = joining_belongs g B out t graph branch outside only_joining (λ v vertex h. same v ∙ all v vertex h);
+  reaches = joining_reaches g B out t graph branch outside only_joining (λ v vertex h. same v ∙ all v vertex h);
   present = λ v h. (only_joining v h).present;
 }
   where
@@ -73,15 +74,15 @@ spread_tree_of g B out s t graph branch outside is start arcs all = record {
     only_joining v h = is.only_joining v (sym (same v) ∙ h)
 
 -- no tree of vertices that may join reaches one of such a set and one that isn't of it
-pub no_tree_across : (g : Graph) (B : Branch) (out R : List ℕ) (c d : ℕ) → IsGraph g → ((v : ℕ) → IsVertex g.network.n v → has out v ≡ has B.outside v) → IsClosed g.network out R R → IsVertex g.network.n c → IsTrue (is_certain g.network B c) → IsTrue (has R c) → IsVertex g.network.n d → IsTrue (is_certain g.network B d) → IsFalse (has R d) → (t : Tree) → IsTree g.network t → Belongs B t → ⊥
-no_tree_across g B out R c d graph outside closed c_vertex c_certain c_in d_vertex d_certain d_out t tree belongs =
+pub no_tree_across : (g : Graph) (B : Branch) (out R : List ℕ) (c d : ℕ) → IsGraph g → ((v : ℕ) → IsVertex g.network.n v → has out v ≡ has B.outside v) → IsClosed g.network out R R → IsVertex g.network.n c → IsTrue (is_certain g.network B c) → IsTrue (has R c) → IsVertex g.network.n d → IsTrue (is_certain g.network B d) → IsFalse (has R d) → (t : Tree) → IsTree g.network t → ReachesAsTold B t → ⊥
+no_tree_across g B out R c d graph outside closed c_vertex c_certain c_in d_vertex d_certain d_out t tree reaches =
     let all = one_side g.network (has R) (has R t.start) (t.start ∷ []) t.arcs same tree.arborescence.grows (λ w h. ap (has R) (sym (has-one t.start w h))) in
-    let c_is = all c (certain_reached g.network B t c tree belongs c_vertex c_certain) in
-    let d_is = all d (certain_reached g.network B t d tree belongs d_vertex d_certain) in
+    let c_is = all c (certain_reached (ground g.network) B t c tree reaches c_vertex c_certain) in
+    let d_is = all d (certain_reached (ground g.network) B t d tree reaches d_vertex d_certain) in
     clash c_in (c_is ∙ (sym d_is ∙ d_out))
   where
     off : (v : ℕ) → IsTrue (has (reached t) v) → IsVertex g.network.n v → IsFalse (has out v)
-    off v h vertex = outside v vertex ∙ false_from_ne_true (has B.outside v) (λ o. clash h (belongs.outside v o))
+    off v h vertex = outside v vertex ∙ false_from_ne_true (has B.outside v) (λ o. clash h (reaches.outside v o))
 
     same : (u v : ℕ) → IsTrue (has (reached t) u) → IsTrue (has (reached t) v) → IsSome (link g.network.links u v) → has R u ≡ has R v
     same u v hu hv linked =
@@ -106,30 +107,30 @@ first_alone I instance free = record {
   required = λ v vertex h. absurd (free v vertex h);
 }
 
--- a vertex alone that may join belongs to a branch that holds no vertex for certain
-alone_belongs : (g : Graph) (B : Branch) (out : List ℕ) (v : ℕ) → IsBranch g.network B → ((w : ℕ) → IsVertex g.network.n w → has out w ≡ has B.outside w) → NoneIsCertain g.network B → IsVertex g.network.n v → MayJoin g out v → Belongs B (record { start = v; arcs = [] })
-alone_belongs g B out v branch same free vertex here = record {
+-- a vertex alone that may join reaches what a branch says that holds no vertex for certain
+alone_reaches : (g : Graph) (B : Branch) (out : List ℕ) (v : ℕ) → IsBranch g.network B → ((w : ℕ) → IsVertex g.network.n w → has out w ≡ has B.outside w) → NoneIsCertain g.network B → IsVertex g.network.n v → MayJoin g out v → ReachesAsTold B (record { start = v; arcs = [] })
+alone_reaches g B out v branch same free vertex here = record {
   inside = λ w h. absurd (clash (certain_inside g.network B w h) (free w (IsVertexSet-member g.network.n B.inside w branch.inside h)));
   outside = λ w h. false_from_ne_true (has (v ∷ []) w) (λ there. clash (subst (λ x. IsTrue (has B.outside x)) (sym (has-one v w there)) h) (sym (same v vertex) ∙ here.inside));
 }
 
--- so it is a tree of the branch
+-- so it is a tree that reaches what the branch says
 pub alone_tree : (g : Graph) (B : Branch) (out : List ℕ) (v : ℕ) → IsGraph g → IsBranch g.network B → ((w : ℕ) → IsVertex g.network.n w → has out w ≡ has B.outside w) → NoneIsCertain g.network B → IsVertex g.network.n v → MayJoin g out v → IsTreeOf g B (record { start = v; arcs = [] })
 alone_tree g B out v graph branch same free vertex here = record {
   tree = record {
     arborescence = record { start = vertex; grows = tt };
     required = λ w there h. absurd (clash (certain_required g.network B w h) (free w there));
   };
-  belongs = alone_belongs g B out v branch same free vertex here;
+  reaches = alone_reaches g B out v branch same free vertex here;
   present = λ w h. subst (λ x. IsTrue (is_in g x)) (has-one v w h) here.present;
 }
 
--- the start of a tree of the branch may join
-pub start_may_join : (g : Graph) (B : Branch) (out : List ℕ) (t : Tree) → IsGraph g → ((w : ℕ) → IsVertex g.network.n w → has out w ≡ has B.outside w) → Belongs B t → ReachesPresent g t → IsVertex g.network.n t.start × MayJoin g out t.start
-start_may_join g B out t graph same belongs present =
+-- the start of a tree that reaches what the branch says may join
+pub start_may_join : (g : Graph) (B : Branch) (out : List ℕ) (t : Tree) → IsGraph g → ((w : ℕ) → IsVertex g.network.n w → has out w ≡ has B.outside w) → ReachesAsTold B t → ReachesPresent g t → IsVertex g.network.n t.start × MayJoin g out t.start
+start_may_join g B out t graph same reaches present =
     let there = has-reached_from (t.start ∷ []) t.arcs t.start (has-cons_head [] t.start t.start refl) in
     let vertex = in_range g t.start graph (present t.start there) in
-    (vertex, record { present = present t.start there; inside = same t.start vertex ∙ false_from_ne_true (has B.outside t.start) (λ o. clash there (belongs.outside t.start o)) })
+    (vertex, record { present = present t.start there; inside = same t.start vertex ∙ false_from_ne_true (has B.outside t.start) (λ o. clash there (reaches.outside t.start o)) })
 
 -- of two trees without arcs the one whose start pays more costs no more
 pub dearer_alone : (I : Network) (s t : Tree) → LoneStartsMissTheRest → IsVertex I.n s.start → IsVertex I.n t.start → s.arcs ≡ [] → t.arcs ≡ [] → pays I s.start ≤ pays I t.start → cost I t ≤ cost I s

@@ -5,7 +5,7 @@ use Rattle.std.proofs.lemmas.Bool.{or_right, false_from_ne_true, or_cases, or_pa
 use Rattle.st_model.specs.declared.branch.Branch.{Branch}
 use Rattle.st_model.specs.declared.tree.Tree.{Tree}
 use Rattle.st_model.specs.Arborescence.{Grows, IsArborescence, IsTree, arc_cost, reached}
-use Rattle.st_model.specs.Branch.{Belongs, IsBranch, is_certain}
+use Rattle.st_model.specs.Branch.{IsBranch, ReachesAsTold, is_certain}
 use Rattle.st_model.specs.Lists.{has}
 use Rattle.st_model.specs.Network.{Network, IsInstance, IsVertex, is_required, pays}
 use Rattle.st_model.proofs.Branches.{IsVertexSet-member}
@@ -89,17 +89,17 @@ no_leaf_to_spare I B inside t instance same tree worth start v arc at free =
     let high = (end_vertex I (t.start ∷ []) t.arcs v arc instance tree.grows at).1 in
     leaf_pays I inside t.start t.arcs v arc tree.grows worth start at (must_certain I B inside v (same v (omega arith)) ∙ free)
 
--- what is left is a tree of the branch
+-- what is left is a tree that reaches what the branch says
 pub pruned_tree : (I : Network) (B : Branch) (inside : List ℕ) (old new : Tree) → IsInstance I → IsTree I old → IsPruned I inside old new → IsTree I new
 pruned_tree I B inside old new instance tree is = record {
   arborescence = is.arborescence;
   required = λ v vertex h. is.keeps v (rw h refl) (tree.required v vertex h);
 }
 
-pub pruned_belongs : (I : Network) (B : Branch) (inside : List ℕ) (old new : Tree) → IsBranch I B → ((v : ℕ) → v < I.n + 1 → has inside v ≡ has B.inside v) → Belongs B old → IsPruned I inside old new → Belongs B new
-pruned_belongs I B inside old new branch same belongs is = record {
+pub pruned_reaches : (I : Network) (B : Branch) (inside : List ℕ) (old new : Tree) → IsBranch I B → ((v : ℕ) → v < I.n + 1 → has inside v ≡ has B.inside v) → ReachesAsTold B old → IsPruned I inside old new → ReachesAsTold B new
+pruned_reaches I B inside old new branch same reaches is = record {
   inside = λ v h.
       let high = (IsVertexSet-member I.n B.inside v branch.inside h).1 in
-      is.keeps v (or_right (is_required I v) _ (same v (omega arith) ∙ h)) (belongs.inside v h);
-  outside = λ v h. false_from_ne_true (has (reached new) v) (λ there. clash (is.within v there) (belongs.outside v h));
+      is.keeps v (or_right (is_required I v) _ (same v (omega arith) ∙ h)) (reaches.inside v h);
+  outside = λ v h. false_from_ne_true (has (reached new) v) (λ there. clash (is.within v there) (reaches.outside v h));
 }

@@ -3,7 +3,6 @@ use Rattle.std.specs.Prelude.{◌≡◌, ℕ, ◌+◌, ◌≤◌, IsTrue, IsFals
 use Rattle.st_model.specs.Arborescence.{Grows}
 use Rattle.st_model.specs.Growth.{reaches}
 use Rattle.st_model.specs.Lists.{has}
-use Rattle.st_model.specs.Branch.{IsVertexSet}
 use Rattle.st_model.specs.Network.{Network, IsVertex, link, pays}
 use Rattle.graph_store.specs.declared.half.Half.{Half}
 use Rattle.graph_store.specs.Graph.{Graph, is_in}

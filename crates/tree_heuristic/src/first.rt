@@ -1,6 +1,6 @@
 ghost use Rattle.std.specs.Prelude.{◌≡◌, ◌<◌, ◌≤◌, ◌↔◌, ℕ, [], IfOk, IfSome, IfNone, IsTrue, IsFalse};
 ghost use Rattle.st_model.specs.Arborescence.{IsArborescence, IsTree, cost};
-ghost use Rattle.st_model.specs.Branch.{Belongs, IsBranch, is_certain, NoneIsCertain};
+ghost use Rattle.st_model.specs.Branch.{IsBranch, ReachesAsTold, is_certain, NoneIsCertain};
 ghost use Rattle.st_model.specs.Network.{IsVertex, pays};
 ghost use Rattle.graph_store.specs.Graph.{IsGraph, is_in};
 ghost use Rattle.tree_heuristic.specs.Reaching.{HasNoTree, IsNoDearerThanOne, IsTreeOf, ReachesPresent};
@@ -13,14 +13,14 @@ use graph_store::Store;
 use st_model::{Listed, Need, Sides, Tree, VertexSet, lone_starts_miss_the_rest};
 use std::alloc::{AllocError, Global};
 
-/// A tree of the branch that reaches only present vertices; `None` exactly where there is none.
-/// Where no vertex is required or inside it costs no more than each tree of one present vertex.
-/// The tree takes one cheapest path after another to what it has to reach (Takahashi and
+/// A tree that reaches what the branch says, and only present vertices; `None` exactly where there
+/// is none. Where no vertex is required or inside it costs no more than each tree of one present
+/// vertex. The tree takes one cheapest path after another to what it has to reach (Takahashi and
 /// Matsuyama 1980), and to a vertex whose prize is more than the path costs.
 pub fn first_tree(alloc: Global, store: &Store, branch: &Sides) -> Result<Option<Tree>, AllocError>
     requires { IsBranch store.now.network branch.now }
     ensures tree { IfOk result (λ found. IfSome found (IsTree store.now.network)) }
-    ensures belongs { IfOk result (λ found. IfSome found (Belongs branch.now)) }
+    ensures reaches { IfOk result (λ found. IfSome found (ReachesAsTold branch.now)) }
     ensures present { IfOk result (λ found. IfSome found (ReachesPresent store.now)) }
     ensures none { IfOk result (λ found. IfNone found (HasNoTree store.now branch.now)) }
     ensures lone { IfOk result (λ found. IfSome found (λ t. NoneIsCertain store.now.network branch.now
@@ -39,7 +39,7 @@ pub fn guided_tree(
 ) -> Result<Option<Tree>, AllocError>
     requires { IsBranch store.now.network branch.now }
     ensures tree { IfOk result (λ found. IfSome found (IsTree store.now.network)) }
-    ensures belongs { IfOk result (λ found. IfSome found (Belongs branch.now)) }
+    ensures reaches { IfOk result (λ found. IfSome found (ReachesAsTold branch.now)) }
     ensures present { IfOk result (λ found. IfSome found (ReachesPresent store.now)) }
     ensures none { IfOk result (λ found. IfNone found (HasNoTree store.now branch.now)) }
     ensures lone { IfOk result (λ found. IfSome found (λ t. NoneIsCertain store.now.network branch.now

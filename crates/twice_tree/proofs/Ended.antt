@@ -6,7 +6,7 @@ use Rattle.std.proofs.lemmas.Bool.{eqb-true, false≢true, or_cases}
 use Rattle.std.proofs.lemmas.List.Elements.{All-nil}
 use Rattle.st_model.specs.declared.tree.Tree.{Tree}
 use Rattle.st_model.specs.Arborescence.{IsArborescence, IsTree, arc_cost, reached}
-use Rattle.st_model.specs.Branch.{AreThose, Belongs, all_trees}
+use Rattle.st_model.specs.Branch.{AreThose, all_trees}
 use Rattle.st_model.specs.Lists.{has, total}
 use Rattle.st_model.specs.Network.{Network, IsInstance, IsVertex, is_required}
 use Rattle.st_model.specs.Terminals.{IsTerminal, NobodyPays, terminal_count}
@@ -112,7 +112,7 @@ module _ (g : Graph) (graph : IsGraph g) (none : (v : ℕ) → IsTerminal g.netw
 
 -- where nobody is present
 pub none_present : (g : Graph) → ((v : ℕ) → IsVertex g.network.n v → IsFalse (is_in g v)) → HasNoTree g all_trees
-none_present g none t tree belongs present =
+none_present g none t tree reaches present =
     let here = present t.start (has-reached_from (t.start ∷ []) t.arcs t.start (has-cons_head [] t.start t.start refl)) in
     false≢true (sym (none t.start tree.arborescence.start) ∙ here)
 

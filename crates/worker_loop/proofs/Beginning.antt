@@ -5,7 +5,7 @@ use Rattle.std.proofs.lemmas.List.Elements.{All-nil}
 use Rattle.st_model.specs.declared.branch.Branch.{Branch}
 use Rattle.st_model.specs.declared.tree.Tree.{Tree}
 use Rattle.st_model.specs.Arborescence.{IsTree}
-use Rattle.st_model.specs.Branch.{Belongs, IsBranch, LeavesRequired}
+use Rattle.st_model.specs.Branch.{ReachesAsTold, IsBranch, LeavesRequired}
 use Rattle.st_model.specs.Network.{Network, is_required}
 use Rattle.st_model.proofs.Branches.{IsVertexSet-member}
 use Rattle.log_format.specs.Text.{IsWritableCut}
@@ -20,9 +20,9 @@ root_sound I R branch required = record {
   part = record { inside = λ v h. h; outside = λ v h. h };
 }
 
--- a branch to which some tree belongs leaves nobody required out
-pub belongs_leaves : (I : Network) (R : Branch) (t : Tree) → IsBranch I R → IsTree I t → Belongs R t → LeavesRequired I R
-belongs_leaves I R t branch tree belongs v out = by_case (is_required I v) refl where
+-- a branch of which a tree reaches what it says leaves nobody required out
+pub reaches_leaves : (I : Network) (R : Branch) (t : Tree) → IsBranch I R → IsTree I t → ReachesAsTold R t → LeavesRequired I R
+reaches_leaves I R t branch tree reaches v out = by_case (is_required I v) refl where
   by_case : (b : Bool) → is_required I v ≡ b → IsFalse (is_required I v)
   by_case false e = e
-  by_case true e = let no : true ≡ false = sym (tree.required v (IsVertexSet-member I.n R.outside v branch.outside out) e) ∙ belongs.outside v out in absurd cc
+  by_case true e = let no : true ≡ false = sym (tree.required v (IsVertexSet-member I.n R.outside v branch.outside out) e) ∙ reaches.outside v out in absurd cc

@@ -13,3 +13,4 @@ pub mod TeamCounts
 pub mod TeamFinds
 pub mod TeamSearch
 pub mod Searching
+pub mod Allowed

@@ -1,5 +1,5 @@
 -- The workers of a team in their slots, as members of it.
-use Rattle.std.proofs.Common.{◌≡◌, ℕ, suc, ◌+◌, List, [], ◌∷◌, ◌++◌, length, append-nil, Option, Some, None, refl, sym, ap, ◌∙◌, subst, length-append, append_assoc, arith}
+use Rattle.std.proofs.Common.{◌≡◌, ℕ, Bool, suc, ◌+◌, List, [], ◌∷◌, ◌++◌, length, append-nil, Option, Some, None, refl, sym, ap, ◌∙◌, subst, length-append, append_assoc, arith}
 use Rattle.std.specs.Prelude.{IfSome, map}
 use Rattle.std.proofs.lemmas.List.{map-append, length-map}
 use Rattle.st_model.specs.declared.branch.Branch.{Branch}
@@ -33,9 +33,9 @@ taken_of_next f made after all y x rest now grown next same before =
     ap (λ xs. xs ++ map f now) grown ∙ (append_assoc made (y ∷ []) (map f now) ∙ (ap (λ z. made ++ z ∷ map f now) same ∙ (ap (λ xs. made ++ map f xs) (sym next) ∙ before)))
 
 -- one more worker is seated
-pub seated_push : {Q : Type 0} (workers seat : ℕ) (ss : List (Slot Q)) (s : Slot Q) → AreSeated workers seat ss → IsSeated workers (seat + length ss) s → AreSeated workers seat (ss ++ s ∷ [])
-seated_push workers seat [] s all one = (subst (λ (k : ℕ). IsSeated workers k s) (omega arith) one, tt)
-seated_push workers seat (b ∷ bs) s all one = (all.0, seated_push workers (seat + 1) bs s all.1 (subst (λ (k : ℕ). IsSeated workers k s) (omega arith) one))
+pub seated_push : {Q : Type 0} (workers : ℕ) (links : Bool) (seat : ℕ) (ss : List (Slot Q)) (s : Slot Q) → AreSeated workers links seat ss → IsSeated workers links (seat + length ss) s → AreSeated workers links seat (ss ++ s ∷ [])
+seated_push workers links seat [] s all one = (subst (λ (k : ℕ). IsSeated workers links k s) (omega arith) one, tt)
+seated_push workers links seat (b ∷ bs) s all one = (all.0, seated_push workers links (seat + 1) bs s all.1 (subst (λ (k : ℕ). IsSeated workers links k s) (omega arith) one))
 
 abbrev pub members : {Q : Type 0} → List (Slot Q) → List (Slot Q) → List Segment → List Member
 members [] as' ss = []
@@ -53,16 +53,16 @@ pub record AreMembers {Q : Type 0} (I : Network) (R : Branch) (start workers sea
   pub segments_are : segments_of (members bs as' ss) ≡ ss
   pub count : length (members bs as' ss) ≡ length bs
 
-abbrev first_of : List (Option Segment) → Option Segment
+abbrev pub first_of : List (Option Segment) → Option Segment
 first_of [] = None
 first_of (x ∷ xs) = x
 
-abbrev rest_of : List (Option Segment) → List (Option Segment)
+abbrev pub rest_of : List (Option Segment) → List (Option Segment)
 rest_of [] = []
 rest_of (x ∷ xs) = xs
 
 -- a worker that ran in its seat has run
-has_run : {Q : Type 0} (I : Network) (R : Branch) (start workers seat : ℕ) (b a : Slot Q) (s : Segment) → IsSeated workers seat b → HasRunIn I R start b a → Some s ≡ a.segment
+has_run : {Q : Type 0} {links : Bool} (I : Network) (R : Branch) (start workers seat : ℕ) (b a : Slot Q) (s : Segment) → IsSeated workers links seat b → HasRunIn I R start b a → Some s ≡ a.segment
     → (tasks : List Task) × HasRun I R start seat workers b.worker.pass a.worker.pass a.worker.ledger a.worker.best tasks s
 has_run I R start workers seat b a s seated ran here =
     let r = subst (λ (o : Option Segment). IfSome o
@@ -70,16 +70,16 @@ has_run I R start workers seat b a s seated ran here =
     subst (λ (k : ℕ). (tasks : List Task) × HasRun I R start k workers b.worker.pass a.worker.pass a.worker.ledger a.worker.best tasks s) seated.seat_is
     (subst (λ (n : ℕ). (tasks : List Task) × HasRun I R start b.worker.seat n b.worker.pass a.worker.pass a.worker.ledger a.worker.best tasks s) seated.workers_are r)
 
-pub are_members : {Q : Type 0} (I : Network) (R : Branch) (start workers seat : ℕ) (bs as' : List (Slot Q)) (ss : List Segment) → AreSeated workers seat bs → length as' ≡ length bs
+pub are_members : {Q : Type 0} (I : Network) (R : Branch) (start workers : ℕ) (links : Bool) (seat : ℕ) (bs as' : List (Slot Q)) (ss : List Segment) → AreSeated workers links seat bs → length as' ≡ length bs
     → HaveRunIn I R start bs as'
     → map Some ss ≡ map segment_of as' → AreMembers I R start workers seat bs as' ss
-are_members I R start workers seat [] [] [] seated same ran found = record { run = tt; before = refl; after = refl; accounts_are = refl; sights_are = refl; segments_are = refl; count = refl }
-are_members I R start workers seat [] [] (s ∷ ss) seated same ran found = absurd (omega (arith, ap (λ (xs : List (Option Segment)). length xs) found))
-are_members I R start workers seat [] (a ∷ as') ss seated same ran found = absurd (omega arith)
-are_members I R start workers seat (b ∷ bs) [] ss seated same ran found = absurd (omega arith)
-are_members I R start workers seat (b ∷ bs) (a ∷ as') [] seated same ran found = absurd (omega (arith, ap (λ (xs : List (Option Segment)). length xs) found))
-are_members I R start workers seat (b ∷ bs) (a ∷ as') (s ∷ ss) seated same ran found =
-    let h = are_members I R start workers (seat + 1) bs as' ss seated.1 (omega arith) (λ k d lt. ran (suc k) d (omega arith)) (ap rest_of found) in
+are_members I R start workers links seat [] [] [] seated same ran found = record { run = tt; before = refl; after = refl; accounts_are = refl; sights_are = refl; segments_are = refl; count = refl }
+are_members I R start workers links seat [] [] (s ∷ ss) seated same ran found = absurd (omega (arith, ap (λ (xs : List (Option Segment)). length xs) found))
+are_members I R start workers links seat [] (a ∷ as') ss seated same ran found = absurd (omega arith)
+are_members I R start workers links seat (b ∷ bs) [] ss seated same ran found = absurd (omega arith)
+are_members I R start workers links seat (b ∷ bs) (a ∷ as') [] seated same ran found = absurd (omega (arith, ap (λ (xs : List (Option Segment)). length xs) found))
+are_members I R start workers links seat (b ∷ bs) (a ∷ as') (s ∷ ss) seated same ran found =
+    let h = are_members I R start workers links (seat + 1) bs as' ss seated.1 (omega arith) (λ k d lt. ran (suc k) d (omega arith)) (ap rest_of found) in
     let one : HasRunIn I R start b a = ran 0 b (omega arith) in
     record {
       run = (has_run I R start workers seat b a s seated.0 one (ap first_of found), h.run);

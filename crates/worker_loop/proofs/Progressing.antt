@@ -249,6 +249,7 @@ pub same_worker : {Q : Type 0} (a b c : Worker Q) → SameWorker a b → SameWor
 same_worker a b c h k = record {
   seat = k.seat ∙ h.seat;
   workers = k.workers ∙ h.workers;
+  links = k.links ∙ h.links;
   pass = (k.pass.0 ∙ h.pass.0, k.pass.1 ∙ h.pass.1);
   ledger = k.ledger ∙ h.ledger;
   best = k.best ∙ h.best;

@@ -77,16 +77,47 @@ packing_is P Q h =
     made : (a b : Option ℕ) (cs ds : List Cut) → a ≡ b → cs ≡ ds → ◌≡◌ {A = Packing} (record { root = a; cuts = cs }) (record { root = b; cuts = ds })
     made a b cs ds e f = rw (e, f) refl
 
+abbrev same_pair : ℕ × ℕ → ℕ × ℕ → Bool
+same_pair p q = eqb p.0 q.0 && eqb p.1 q.1
+
+pairs_itself : (ps : List (ℕ × ℕ)) → same_list same_pair ps ps ≡ true
+pairs_itself ps = list_itself same_pair (λ p. and_from (eqb p.0 p.0) (eqb p.1 p.1) (eq-eqb p.0 p.0 refl) (eq-eqb p.1 p.1 refl)) ps
+
+pairs_is : (ps qs : List (ℕ × ℕ)) → same_list same_pair ps qs ≡ true → ps ≡ qs
+pairs_is ps qs h = list_is same_pair pair_is ps qs h
+  where
+    pair_is : (p q : ℕ × ℕ) → same_pair p q ≡ true → p ≡ q
+    pair_is p q e = let parts = and_parts (eqb p.0 q.0) (eqb p.1 q.1) e in made p.0 q.0 p.1 q.1 (eqb-true p.0 q.0 parts.0) (eqb-true p.1 q.1 parts.1)
+      where
+        made : (a b c d : ℕ) → a ≡ b → c ≡ d → ◌≡◌ {A = ℕ × ℕ} (a, c) (b, d)
+        made a b c d e f = rw (e, f) refl
+
+abbrev same_sides : Branch → Branch → Bool
+same_sides B C = same_list eqb B.inside C.inside && same_list eqb B.outside C.outside
+
+abbrev same_links : Branch → Branch → Bool
+same_links B C = same_list same_pair B.must C.must && same_list same_pair B.barred C.barred
+
 abbrev same_branch : Branch → Branch → Bool
-same_branch B C = same_list eqb B.inside C.inside && same_list eqb B.outside C.outside
+same_branch B C = same_sides B C && same_links B C
+
+branch_itself : (B : Branch) → same_branch B B ≡ true
+branch_itself B =
+    let sides = and_from (same_list eqb B.inside B.inside) (same_list eqb B.outside B.outside) (set_itself B.inside) (set_itself B.outside) in
+    let links = and_from (same_list same_pair B.must B.must) (same_list same_pair B.barred B.barred) (pairs_itself B.must) (pairs_itself B.barred) in
+    and_from (same_sides B B) (same_links B B) sides links
 
 branch_is : (B C : Branch) → same_branch B C ≡ true → B ≡ C
 branch_is B C h =
-    let parts = and_parts (same_list eqb B.inside C.inside) (same_list eqb B.outside C.outside) h in
-    made B.inside C.inside B.outside C.outside (set_is B.inside C.inside parts.0) (set_is B.outside C.outside parts.1)
+    let both = and_parts (same_sides B C) (same_links B C) h in
+    let sides = and_parts (same_list eqb B.inside C.inside) (same_list eqb B.outside C.outside) both.0 in
+    let links = and_parts (same_list same_pair B.must C.must) (same_list same_pair B.barred C.barred) both.1 in
+    made B.inside C.inside B.outside C.outside B.must C.must B.barred C.barred
+    (set_is B.inside C.inside sides.0) (set_is B.outside C.outside sides.1) (pairs_is B.must C.must links.0) (pairs_is B.barred C.barred links.1)
   where
-    made : (a b c d : List ℕ) → a ≡ b → c ≡ d → ◌≡◌ {A = Branch} (record { inside = a; outside = c }) (record { inside = b; outside = d })
-    made a b c d e f = rw (e, f) refl
+    made : (a b c d : List ℕ) (p q r s : List (ℕ × ℕ)) → a ≡ b → c ≡ d → p ≡ q → r ≡ s
+        → ◌≡◌ {A = Branch} (record { inside = a; outside = c; must = p; barred = r }) (record { inside = b; outside = d; must = q; barred = s })
+    made a b c d p q r s e f g h = rw (e, f, g, h) refl
 
 -- whether two nodes are the same
 abbrev pub same_node : Node → Node → Bool
@@ -94,9 +125,8 @@ same_node N M = eqb N.id M.id && (same_branch N.branch M.branch && same_packing 
 
 pub node_itself : (N : Node) → same_node N N ≡ true
 node_itself N =
-    let branch = and_from (same_list eqb N.branch.inside N.branch.inside) (same_list eqb N.branch.outside N.branch.outside) (set_itself N.branch.inside) (set_itself N.branch.outside) in
     and_from (eqb N.id N.id) (same_branch N.branch N.branch && same_packing N.packing N.packing) (eq-eqb N.id N.id refl)
-    (and_from (same_branch N.branch N.branch) (same_packing N.packing N.packing) branch (packing_itself N.packing))
+    (and_from (same_branch N.branch N.branch) (same_packing N.packing N.packing) (branch_itself N.branch) (packing_itself N.packing))
 
 pub node_is : (N M : Node) → same_node N M ≡ true → N ≡ M
 node_is N M h =

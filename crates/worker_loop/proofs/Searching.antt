@@ -1,8 +1,8 @@
 -- What is gathered of a team that ran is a search.
-use Rattle.std.proofs.Common.{◌≡◌, ℕ, zero, suc, ◌+◌, ◌%◌, ◌^◌, ◌<◌, ◌≤◌, min, List, [], ◌∷◌, length, Some, refl, sym, ap, ◌∙◌, subst, arith}
-use Rattle.std.specs.Prelude.{All, map, slice_index_or}
-use Rattle.std.specs.List.{sum_by}
-use Rattle.std.proofs.lemmas.List.Elements.{All-cons, All-head, All-nil, All-tail}
+use Rattle.std.proofs.Common.{◌≡◌, ℕ, Bool, Option, zero, suc, ◌+◌, ◌%◌, ◌^◌, ◌<◌, ◌≤◌, min, List, [], ◌∷◌, length, Some, refl, sym, ap, ◌∙◌, subst, arith}
+use Rattle.std.specs.Prelude.{All, IfSome, map, slice_index_or}
+use Rattle.std.specs.List.{flat_map, sum_by}
+use Rattle.std.proofs.lemmas.List.Elements.{All-append, All-cons, All-head, All-nil, All-tail}
 use Rattle.std.proofs.lemmas.List.{length-map}
 use Rattle.st_model.specs.declared.branch.Branch.{Branch}
 use Rattle.st_model.specs.Network.{Network}
@@ -17,13 +17,14 @@ use Rattle.search_core.specs.declared.gathered.Segment.{Segment}
 use Rattle.worker_loop.specs.declared.team.Slot.{Slot}
 use Rattle.worker_loop.specs.Progress.{IsUnused}
 use Rattle.worker_loop.specs.Slots.{AreSeated, HasRunIn, HaveRunIn, IsSeated, account_of, pass_of, segment_of, sight_of}
+use Rattle.worker_loop.specs.Run.{IsAllowed}
 use Rattle.worker_loop.specs.Sound.{IsSound}
 use Rattle.worker_loop.specs.Team.{IsCounted, IsLowest, IsPooled, IsSearched, Member, accounts, sights}
-use Rattle.worker_loop.proofs.Members.{are_members, members}
+use Rattle.worker_loop.proofs.Members.{are_members, first_of, members, rest_of}
 use Rattle.worker_loop.proofs.TeamSearch.{team_searches}
 
 -- a worker with new seats is unused
-pub unused_one : {Q : Type 0} (L M : _) (allowed start workers seat : ℕ) (s : Slot Q) → 0 < workers → IsSeated workers seat s → account_of s ≡ new_account L allowed → sight_of s ≡ new_sight M start
+pub unused_one : {Q : Type 0} {links : Bool} (L M : _) (allowed start workers seat : ℕ) (s : Slot Q) → 0 < workers → IsSeated workers links seat s → account_of s ≡ new_account L allowed → sight_of s ≡ new_sight M start
     → IsUnused start s.worker
 unused_one L M allowed start workers seat s some seated account sight = record {
   some = subst (λ (n : ℕ). 0 < n) (sym seated.workers_are) some;
@@ -32,15 +33,15 @@ unused_one L M allowed start workers seat s some seated account sight = record {
   sight = subst (λ (m : Sight). m ≡ new_sight m.incumbent start) (sym sight) refl;
 }
 
-pub all_unused : {Q : Type 0} (L M : _) (allowed start workers seat : ℕ) (bs : List (Slot Q)) → 0 < workers → AreSeated workers seat bs → All (λ u. u ≡ new_account L allowed) (map account_of bs)
+pub all_unused : {Q : Type 0} (L M : _) (allowed start workers : ℕ) (links : Bool) (seat : ℕ) (bs : List (Slot Q)) → 0 < workers → AreSeated workers links seat bs → All (λ u. u ≡ new_account L allowed) (map account_of bs)
     → All (λ m. m ≡ new_sight M start) (map sight_of bs) → All (λ s. IsUnused start s.worker) bs
-all_unused L M allowed start workers seat [] some seated accounts sights = All-nil (λ s. IsUnused start s.worker)
-all_unused {Q} L M allowed start workers seat (b ∷ bs) some seated accounts sights =
+all_unused L M allowed start workers links seat [] some seated accounts sights = All-nil (λ s. IsUnused start s.worker)
+all_unused {Q} L M allowed start workers links seat (b ∷ bs) some seated accounts sights =
     let F : Account → Type 0 = λ u. u ≡ new_account L allowed in
     let G : Sight → Type 0 = λ m. m ≡ new_sight M start in
     All-cons (λ (s : Slot Q). IsUnused start s.worker) b bs
     (unused_one L M allowed start workers seat b some seated.0 (All-head F (account_of b) (map account_of bs) accounts) (All-head G (sight_of b) (map sight_of bs) sights))
-    (all_unused L M allowed start workers (seat + 1) bs some seated.1 (All-tail F (account_of b) (map account_of bs) accounts) (All-tail G (sight_of b) (map sight_of bs) sights))
+    (all_unused L M allowed start workers links (seat + 1) bs some seated.1 (All-tail F (account_of b) (map account_of bs) accounts) (All-tail G (sight_of b) (map sight_of bs) sights))
 
 -- they are of the same ledger and the same incumbent when they have run
 pub same_ledgers : {Q : Type 0} (I : Network) (R : Branch) (start : ℕ) (L : _) (allowed : ℕ) (bs as' : List (Slot Q)) → length as' ≡ length bs → HaveRunIn I R start bs as'
@@ -101,13 +102,26 @@ pub record IsClosedTeam {Q : Type 0} (I : Network) (R : Branch) (start allowed w
   pub is_least : least ≡ least_of start (all_offers (map sight_of as'))
   pub seen : All (λ (m : Sight). least ≤ m.lowest) (map sight_of as')
 
-pub searched_so : {Q : Type 0} (I : Network) (R : Branch) (start budget allowed workers : ℕ) (bs as' : List (Slot Q)) (ss : List Segment) (queued : List Node) (least opened claimed : ℕ)
-    → workers ≤ 64 → length bs ≡ workers → length as' ≡ length bs → AreSeated workers 0 bs → HaveRunIn I R start bs as' → map Some ss ≡ map segment_of as'
+-- where no worker splits a node at a link that may not, no record of the team tells of such a split
+pub sites_all : {Q : Type 0} (I : Network) (R : Branch) (start workers : ℕ) (links : Bool) (seat : ℕ) (bs as' : List (Slot Q)) (ss : List Segment) → AreSeated workers links seat bs → length as' ≡ length bs
+    → HaveRunIn I R start bs as' → map Some ss ≡ map segment_of as' → All (IsAllowed links) (flat_map (λ s. s.done) ss)
+sites_all I R start workers links seat bs as' [] seated same ran found = All-nil (IsAllowed links)
+sites_all I R start workers links seat [] [] (s ∷ ss) seated same ran found = absurd (omega (arith, ap (λ (xs : List (Option Segment)). length xs) found))
+sites_all I R start workers links seat [] (a ∷ as') (s ∷ ss) seated same ran found = absurd (omega arith)
+sites_all I R start workers links seat (b ∷ bs) [] (s ∷ ss) seated same ran found = absurd (omega arith)
+sites_all I R start workers links seat (b ∷ bs) (a ∷ as') (s ∷ ss) seated same ran found =
+    let one : HasRunIn I R start b a = ran 0 b (omega arith) in
+    let here = subst (λ (o : Option Segment). IfSome o (λ t. All (IsAllowed b.worker.links) t.done)) (sym (ap first_of found)) one.sites in
+    All-append (IsAllowed links) s.done (flat_map (λ t. t.done) ss) (subst (λ (l : Bool). All (IsAllowed l) s.done) seated.0.links_are here)
+    (sites_all I R start workers links (seat + 1) bs as' ss seated.1 (omega arith) (λ k d lt. ran (suc k) d (omega arith)) (ap rest_of found))
+
+pub searched_so : {Q : Type 0} (I : Network) (R : Branch) (start budget allowed workers : ℕ) (links : Bool) (bs as' : List (Slot Q)) (ss : List Segment) (queued : List Node) (least opened claimed : ℕ)
+    → workers ≤ 64 → length bs ≡ workers → length as' ≡ length bs → AreSeated workers links 0 bs → HaveRunIn I R start bs as' → map Some ss ≡ map segment_of as'
     → allowed ≡ min budget 9223372036854775807 → (claimed ≡ 9223372036854775807 → ⊥)
     → IsClosedTeam I R start allowed workers bs as' queued least opened claimed
     → IsSearched (record { segments = ss; queued = queued; least = least; claimed = claimed }) I R start budget
-searched_so I R start budget allowed workers bs as' ss queued least opened claimed few count same seated ran found is_allowed fewer h =
-    let t = are_members I R start workers 0 bs as' ss seated same ran found in
+searched_so I R start budget allowed workers links bs as' ss queued least opened claimed few count same seated ran found is_allowed fewer h =
+    let t = are_members I R start workers links 0 bs as' ss seated same ran found in
     let team : List Member = members bs as' ss in
     let pooled : IsPooled I R team queued = record {
       root = λ w. subst (λ (ps : List Station). all_gave w ps ≡ all_took w ps + w (root_of R)) (sym t.before) (h.root w);

@@ -6,7 +6,7 @@ use Rattle.st_model.specs.declared.branch.Branch.{Branch}
 use Rattle.st_model.specs.declared.tree.Tree.{Tree}
 use Rattle.st_model.specs.Network.{Network}
 use Rattle.st_model.specs.Arborescence.{IsTree, cost}
-use Rattle.st_model.specs.Branch.{Belongs}
+use Rattle.st_model.specs.Branch.{ReachesAsTold}
 use Rattle.incumbent.specs.Least.{least_of}
 use Rattle.incumbent.proofs.Least.{least_append, least_at_start}
 use Rattle.incumbent.specs.Seat.{all_offers}
@@ -20,9 +20,9 @@ less_low : (I : Network) (best : Option Tree) (start least : ℕ) → least ≤ 
 less_low I None start least low = omega arith
 less_low I (Some t) start least low = omega arith
 
-is_found : (I : Network) (R : Branch) (start : ℕ) (best : Option Tree) → IfSome best (IsFound I R start) → IfSome best (λ t. IsTree I t × Belongs R t)
+is_found : (I : Network) (R : Branch) (start : ℕ) (best : Option Tree) → IfSome best (IsFound I R start) → IfSome best (λ t. IsTree I t × ReachesAsTold R t)
 is_found I R start None h = tt
-is_found I R start (Some t) h = (h.tree, h.belongs)
+is_found I R start (Some t) h = (h.tree, h.reaches)
 
 is_cheaper : (I : Network) (R : Branch) (start : ℕ) (best : Option Tree) → IfSome best (IsFound I R start) → IfSome best (λ t. cost I t < start)
 is_cheaper I R start None h = tt
@@ -33,7 +33,7 @@ abbrev FindsFound : Network → Branch → ℕ → Segment → Type 0
 FindsFound I R start s = IfSome s.best (IsFound I R start)
 
 abbrev pub FindsTree : Network → Branch → Segment → Type 0
-FindsTree I R s = IfSome s.best (λ t. IsTree I t × Belongs R t)
+FindsTree I R s = IfSome s.best (λ t. IsTree I t × ReachesAsTold R t)
 
 abbrev pub FindsCheaper : Network → ℕ → Segment → Type 0
 FindsCheaper I start s = IfSome s.best (λ t. cost I t < start)

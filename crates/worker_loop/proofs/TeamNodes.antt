@@ -2,17 +2,18 @@
 use Rattle.std.proofs.Common.{◌≡◌, ℕ, zero, suc, ◌+◌, ◌≤◌, Bool, true, false, cond, List, [], ◌∷◌, length, map, refl, sym, ap, subst, ◌∙◌, ◌⊎◌, inl, inr, arith}
 use Rattle.std.specs.Prelude.{nat_lt, Contains}
 use Rattle.std.specs.List.{flat_map, sum_by}
-use Rattle.cut_packing.specs.ProofTree.{IsSplitAt}
+use Rattle.std.proofs.lemmas.List.{length-append}
 use Rattle.st_model.specs.declared.split_at.SplitAt.{SplitAt}
 use Rattle.st_model.specs.declared.split_at.SplitAt.TheVariants.{Vertex, Link}
 use Rattle.st_model.specs.declared.branch.Branch.{Branch}
-use Rattle.st_model.specs.Branch.{with_vertex, yes_half, no_half}
+use Rattle.st_model.specs.Lists.{has}
+use Rattle.st_model.specs.Branch.{joined, with_vertex, yes_half, no_half}
 use Rattle.st_model.specs.Network.{Network}
 use Rattle.cut_packing.specs.declared.packing.Packing.{Packing}
 use Rattle.cut_packing.specs.Packing.{weight}
 use Rattle.branching.specs.declared.node.Node.{Node}
 use Rattle.branching.specs.Node.{yes_node, no_node}
-use Rattle.branching.proofs.NoLighter.{halves_are_no_lighter_lem}
+use Rattle.branching.proofs.NoLighter.{halves_weigh}
 use Rattle.search_core.specs.declared.done.Done.{Done}
 use Rattle.search_core.specs.declared.done.Done.TheVariants.{Split, Close}
 use Rattle.search_core.specs.Complete.{IsHalf, IsMade, KeepsWeight, done_id, inside, outside, inside_of, outside_of, root}
@@ -87,9 +88,9 @@ comes R tasks waiting N accounted there = among_halves R tasks N (some there)
     some (inl h) = omega (arith, here, accounted (is_it N), weight_le (is_it N) (map node_of tasks) N h)
     some (inr h) = omega (arith, here, accounted (is_it N), weight_le (is_it N) waiting N h)
 
--- how many vertices a branch decides
+-- how many vertices and links a branch decides
 abbrev decided : Branch → ℕ
-decided B = length B.inside + length B.outside
+decided B = (length B.inside + length B.outside) + (length B.must + length B.barred)
 
 one_longer : (xs : List ℕ) (v : ℕ) → length (with_vertex xs v) ≡ length xs + 1
 one_longer [] v = refl
@@ -99,15 +100,25 @@ one_longer (x ∷ xs) v = by_case (nat_lt x v) (one_longer xs v)
     by_case true e = omega (arith, e)
     by_case false e = omega arith
 
--- a half decides one vertex more
-one_more : (I : Network) (B : Branch) (at : SplitAt) → IsSplitAt I B at → (decided (yes_half B at) ≡ decided B + 1) × (decided (no_half B at) ≡ decided B + 1)
-one_more I B (Vertex v) may = (omega (arith, one_longer B.inside v), omega (arith, one_longer B.outside v))
-one_more I B (Link a b) may = absurd may
+no_shorter : (xs : List ℕ) (v : ℕ) → length xs ≤ length (joined xs v)
+no_shorter xs v = by_case (has xs v)
+  where
+    by_case : (b : Bool) → length xs ≤ length (cond b xs (with_vertex xs v))
+    by_case true = omega arith
+    by_case false = omega (arith, one_longer xs v)
 
-half_more : (I : Network) (T : Task) (N : Node) (h : IsHalfOf T N) → IsSplitAt I T.node.branch h.at → decided N.branch ≡ decided T.node.branch + 1
-half_more I T N h may = elim h.is_half [
-  | inl is ↦ ap (λ (M : Node). decided M.branch) is ∙ (one_more I T.node.branch h.at may).0
-  | inr is ↦ ap (λ (M : Node). decided M.branch) is ∙ (one_more I T.node.branch h.at may).1
+-- a half decides more
+one_more : (B : Branch) (at : SplitAt) → (decided B + 1 ≤ decided (yes_half B at)) × (decided B + 1 ≤ decided (no_half B at))
+one_more B (Vertex v) = (omega (arith, one_longer B.inside v), omega (arith, one_longer B.outside v))
+one_more B (Link a b) = (
+  omega (arith, no_shorter B.inside a, no_shorter (joined B.inside a) b, length-append B.must ((a, b) ∷ [])),
+  omega (arith, length-append B.barred ((a, b) ∷ [])),
+)
+
+half_more : (T : Task) (N : Node) → IsHalfOf T N → decided T.node.branch + 1 ≤ decided N.branch
+half_more T N h = elim h.is_half [
+  | inl is ↦ let e = ap (λ (M : Node). decided M.branch) is in let more = (one_more T.node.branch h.at).0 in omega (arith, e, more)
+  | inr is ↦ let e = ap (λ (M : Node). decided M.branch) is in let more = (one_more T.node.branch h.at).1 in omega (arith, e, more)
 ]
 
 -- the record of the split
@@ -130,23 +141,19 @@ same_id I R start seen T N h task = sym task.same ∙ ap done_id h.is_split
 split_so : (I : Network) (start seen : ℕ) (N : Node) (d : Done) (id : ℕ) (at : SplitAt) (i o : ℕ) (P : Packing) → d ≡ Split id at i o P → IsDoneWith I start seen N d → IsSplitTask I start N at P
 split_so I start seen N d id at i o P is h = subst (IsDoneWith I start seen N) is h
 
--- a half of a right task decides one vertex more
-right_more : (I : Network) (R : Branch) (start seen : ℕ) (T : Task) (N : Node) → IsHalfOf T N → IsTask I R start seen T → decided N.branch ≡ decided T.node.branch + 1
-right_more I R start seen T N h task = half_more I T N h (split_so I start seen T.node T.done h.id h.at h.i h.o h.P h.is_split task.done_right).place
-
--- by induction on how many vertices the branch decides
+-- by induction on how much the branch decides
 made_below : (I : Network) (R : Branch) (start : ℕ) (tasks : List Task) (waiting : List Node) → AreTasks I R start tasks → IsAccounted R tasks waiting
     → (k : ℕ) (N : Node) → decided N.branch ≤ k → Among (map node_of tasks) N ⊎ Among waiting N → IsMade R (map done_of tasks) N.id N.branch
 made_below I R start tasks waiting right accounted zero N few there = elim (comes R tasks waiting N accounted there) [
   | inl is ↦ subst (λ (M : Node). IsMade R (map done_of tasks) M.id M.branch) (sym is) root
-  | inr half ↦ let task = right half.0 half.1 in absurd (omega (arith, few, right_more I R start task.0 half.0 N half.2 task.1))
+  | inr half ↦ absurd (omega (arith, few, half_more half.0 N half.2))
 ]
 made_below I R start tasks waiting right accounted (suc k) N few there = elim (comes R tasks waiting N accounted there) [
   | inl is ↦ subst (λ (M : Node). IsMade R (map done_of tasks) M.id M.branch) (sym is) root
   | inr half ↦
       let T = half.0 in
       let task = right T half.1 in
-      let parent = made_below I R start tasks waiting right accounted k T.node (omega (arith, few, right_more I R start task.0 T N half.2 task.1)) (inl (among_map node_of tasks T half.1)) in
+      let parent = made_below I R start tasks waiting right accounted k T.node (omega (arith, few, half_more T N half.2)) (inl (among_map node_of tasks T half.1)) in
       half_made R tasks T N half.2 half.1 (subst (λ (id : ℕ). IsMade R (map done_of tasks) id T.node.branch) (same_id I R start task.0 T N half.2 task.1) parent)
 ]
 
@@ -169,7 +176,7 @@ keeps_weight I R start tasks waiting N right accounted there = elim (comes R tas
         let made = subst (λ (id : ℕ). IsMade R (map done_of tasks) id T.node.branch) (same_id I R start task.0 T N h task.1)
         (was_made I R start tasks waiting T.node right accounted (inl (among_map node_of tasks T among))) in
         let of_split = split_so I start task.0 T.node T.done h.id h.at h.i h.o h.P h.is_split task.1.done_right in
-        let weighs = halves_are_no_lighter_lem I (packed T.node.id T.node.branch h.P) h.at h.i h.o of_split.packed.node of_split.place in
+        let weighs = halves_weigh I (packed T.node.id T.node.branch h.P) h.at h.i h.o of_split.packed.node of_split.place in
         let done = recorded tasks T N h among in
         inr (
           h.id,
@@ -179,12 +186,12 @@ keeps_weight I R start tasks waiting N right accounted there = elim (comes R tas
             | inl is ↦ record {
               half = subst (λ (M : Node). IsHalf (map done_of tasks) h.id h.P M.id) (sym is) (inside done);
               made = made;
-              weight = subst (λ (M : Node). weight I T.node.branch h.P ≤ weight I M.branch M.packing) (sym is) weighs.0.no_lighter;
+              weight = subst (λ (M : Node). weight I T.node.branch h.P ≤ weight I M.branch M.packing) (sym is) weighs.0;
             }
             | inr is ↦ record {
               half = subst (λ (M : Node). IsHalf (map done_of tasks) h.id h.P M.id) (sym is) (outside done);
               made = made;
-              weight = subst (λ (M : Node). weight I T.node.branch h.P ≤ weight I M.branch M.packing) (sym is) weighs.1.no_lighter;
+              weight = subst (λ (M : Node). weight I T.node.branch h.P ≤ weight I M.branch M.packing) (sym is) weighs.1;
             }
           ],
         )

@@ -3,18 +3,17 @@ use Rattle.std.proofs.Common.{◌≡◌, ℕ, Bool, true, false, ◌+◌, ◌<�
 use Rattle.std.specs.Prelude.{IfSome}
 use Rattle.std.specs.List.{sum_by}
 use Rattle.std.proofs.lemmas.List.Elements.{All-cons, All-nil}
-use Rattle.st_model.specs.declared.split_at.SplitAt.TheVariants.{Vertex}
+use Rattle.st_model.specs.declared.split_at.SplitAt.{SplitAt}
 use Rattle.st_model.specs.declared.branch.Branch.{Branch}
 use Rattle.st_model.specs.declared.tree.Tree.{Tree}
 use Rattle.st_model.specs.Branch.{NoneIsCertain}
-use Rattle.st_model.specs.Network.{Network}
+use Rattle.st_model.specs.Network.{Network, IsInstance}
 use Rattle.cut_packing.specs.declared.packing.Packing.{Packing}
 use Rattle.cut_packing.specs.Full.{IsFull}
 use Rattle.cut_packing.specs.Packing.{weight}
-use Rattle.cut_packing.specs.ProofTree.{IsSplit}
+use Rattle.cut_packing.specs.ProofTree.{IsSplitAt}
 use Rattle.branching.specs.declared.node.Node.{Node}
-use Rattle.branching.specs.Choice.{IsChoice}
-use Rattle.branching.specs.Node.{inside_half, outside_half}
+use Rattle.branching.specs.Node.{yes_node, no_node}
 use Rattle.incumbent.specs.Least.{least_of}
 use Rattle.incumbent.specs.Seat.{Known as Sight, having_seen}
 use Rattle.incumbent.proofs.Least.{least_append, least_at_start}
@@ -25,16 +24,16 @@ use Rattle.search_core.specs.declared.done.Done.{Done}
 use Rattle.search_core.specs.declared.done.Done.TheVariants as recorded
 use Rattle.better_trees.specs.Better.{IsBetter, least_after}
 use Rattle.better_trees.specs.Part.{IsPartOf}
-use Rattle.better_trees.proofs.Found.{belongs_to_whole}
+use Rattle.better_trees.proofs.Found.{reaches_in_whole}
 use Rattle.node_work.specs.declared.step.End.TheVariants.{Close}
 use Rattle.better_trees.specs.declared.price.Priced.{Priced}
 use Rattle.worker_loop.specs.declared.work.Work.{Work}
 use Rattle.worker_loop.specs.Progress.{Adopts, AreDrawnBelow, HasSeen, IsClosed, IsHalved, IsWorkedOn, Moment, as_of, half_of, other_of}
 use Rattle.worker_loop.specs.Run.{IsFound, IsSplitTask, halves_by}
 use Rattle.worker_loop.specs.Sound.{IsSound}
-use Rattle.node_work.specs.Step.{IsEnd, SplitsAt}
+use Rattle.node_work.specs.Step.{IsChoiceAt, IsEnd, SplitsAt}
 use Rattle.worker_loop.proofs.Drawing.{drawn_close, drawn_split}
-use Rattle.worker_loop.proofs.Parts.{inside_part, outside_part}
+use Rattle.worker_loop.proofs.Parts.{yes_part, no_part}
 use Rattle.node_work.proofs.Splits.{writable_halves}
 
 -- what a worker has seen and kept when it saw r and a better tree, if there was one
@@ -60,7 +59,7 @@ seen_better I R start r N p s best seen seen' sound low b under h =
     let first : least_of start s.offers ≤ start = least_at_start start s.offers in
     let found : IsFound I R start p.tree = record {
       tree = b.is_tree;
-      belongs = belongs_to_whole R N.branch p.tree sound.part b.belongs;
+      reaches = reaches_in_whole R N.branch p.tree sound.part b.reaches;
       cheaper = omega (arith, b.is_price, b.cheaper, low, h.low, first);
     } in
     record {
@@ -108,12 +107,12 @@ still_seen : (I : Network) (R : Branch) (start : ℕ) (s s' : Sight) (best best'
 still_seen I R start s s' best best' seen seen' a b c h = rw (a, b, c) h
 
 -- a node was closed by what a step found
-pub closed_on : (I : Network) (R : Branch) (start seat workers r : ℕ) (N : Node) (q : Station) (u : Account) (s s' : Sight) (next : ℕ) (k k' : Work) (m : Moment) (better : Option Priced)
+pub closed_on : (I : Network) (R : Branch) (start seat workers r : ℕ) (links : Bool) (N : Node) (q : Station) (u : Account) (s s' : Sight) (next : ℕ) (k k' : Work) (m : Moment) (better : Option Priced)
     (P : Packing) → IsSound I R N
-    → r ≤ s.lowest → IfSome better (IsBetter I N.branch r) → IsEnd I N (least_after r better) (Close P)
+    → r ≤ s.lowest → IfSome better (IsBetter I N.branch r) → IsEnd I N (least_after r better) links (Close P)
     → Adopts better (having_seen s r) s' (record { done = k.done; best = k.best; seen = r }) k' → IsClosed N.id P (as_of q u s' next k') m
     → IsWorkedOn I R start seat workers N (as_of q u s next k) m [] (recorded.Close N.id P)
-closed_on I R start seat workers r N q u s s' next k k' m better P sound low is_better end adopts closed =
+closed_on I R start seat workers r links N q u s s' next k k' m better P sound low is_better end adopts closed =
     let a = adopted I R start r N s s' k k' better sound low is_better adopts in
     let grown : m.work.done.items ≡ k.done.items ++ recorded.Close N.id P ∷ [] = closed.done ∙ ap (λ (ds : List Done). ds ++ recorded.Close N.id P ∷ []) a.done in
     record {
@@ -146,8 +145,8 @@ closed_on I R start seat workers r N q u s s' next k k' m better P sound low is_
     plain a = omega arith
 
 -- the packing with which the halves begin allows the split below the start cost
-split_task : (I : Network) (N M : Node) (least start v : ℕ) → least ≤ start → SplitsAt I N least M v → IsSplitTask I start N (Vertex v) M.packing
-split_task I N M least start v low h = record {
+split_task : (I : Network) (N M : Node) (least start : ℕ) (links : Bool) (at : SplitAt) → least ≤ start → SplitsAt I N least links M at → IsSplitTask I start N at M.packing
+split_task I N M least start links at low h = record {
   place = h.split;
   allows = record { fits = subst (λ (B : Branch). Rattle.cut_packing.specs.Packing.Fits I B M.packing) h.same h.node.node.fits; full = by_bound h.bounded };
   packed =
@@ -160,75 +159,74 @@ split_task I N M least start v low h = record {
         };
         writable = there.writable;
       };
-  no_lighter = subst (λ (B : Branch). weight I N.branch N.packing ≤ weight I B M.packing) h.same h.no_lighter;
 }
   where
-    by_bound : ((NoneIsCertain I N.branch × IsChoice I N.branch v) ⊎ (IsFull I M.branch M.packing × (weight I M.branch M.packing < least)))
+    by_bound : ((NoneIsCertain I N.branch × IsChoiceAt I N.branch at) ⊎ (IsFull I M.branch M.packing × (weight I M.branch M.packing < least)))
         → IsFullBelow I N.branch M.packing start ⊎ NoneIsCertain I N.branch
     by_bound (inl none) = inr none.0
     by_bound (inr full) = inl (subst (λ (B : Branch). IsFullBelow I B M.packing start) h.same (record { full = full.0; below = omega (arith, full.1, low) }))
 
 -- the halves that a record tells of are those of the node that was split
-same_halves : (B : Branch) (M : Node) (id v i o : ℕ) → M.branch ≡ B → halves_by B (recorded.Split id (Vertex v) i o M.packing) ≡ inside_half M v i ∷ outside_half M v o ∷ []
-same_halves B M id v i o same = ap (λ (C : Branch). halves_by C (recorded.Split id (Vertex v) i o M.packing)) (sym same)
+same_halves : (B : Branch) (M : Node) (id : ℕ) (at : SplitAt) (i o : ℕ) → M.branch ≡ B → halves_by B (recorded.Split id at i o M.packing) ≡ yes_node M at i ∷ no_node M at o ∷ []
+same_halves B M id at i o same = ap (λ (C : Branch). halves_by C (recorded.Split id at i o M.packing)) (sym same)
 
 -- a node whose packing a step made heavier is as sound
-pub split_sound : (I : Network) (R : Branch) (N M : Node) (least v : ℕ) → IsSound I R N → SplitsAt I N least M v → IsSound I R M
-split_sound I R N M least v sound h = record { node = h.node; part = subst (λ (B : Branch). IsPartOf R B) (sym h.same) sound.part }
+pub split_sound : (I : Network) (R : Branch) (N M : Node) (least : ℕ) (links : Bool) (at : SplitAt) → IsSound I R N → SplitsAt I N least links M at → IsSound I R M
+split_sound I R N M least links at sound h = record { node = h.node; part = subst (λ (B : Branch). IsPartOf R B) (sym h.same) sound.part }
 
-pub split_vertex : (I : Network) (N M : Node) (least v : ℕ) → SplitsAt I N least M v → IsSplit I M.branch v
-split_vertex I N M least v h = subst (λ (B : Branch). IsSplit I B v) (sym h.same) h.split
+pub split_there : (I : Network) (N M : Node) (least : ℕ) (links : Bool) (at : SplitAt) → SplitsAt I N least links M at → IsSplitAt I M.branch at
+split_there I N M least links at h = subst (λ (B : Branch). IsSplitAt I B at) (sym h.same) h.split
 
 -- the halves of a sound node are sound
-pub sound_inside : (I : Network) (R : Branch) (N : Node) (v id : ℕ) → IsSound I R N → IsSplit I N.branch v → IsSound I R (inside_half N v id)
-sound_inside I R N v id sound split = record { node = (writable_halves I N v id id sound.node split).0; part = inside_part R N.branch v sound.part }
+pub sound_yes : (I : Network) (R : Branch) (N : Node) (at : SplitAt) (id : ℕ) → IsInstance I → IsSound I R N → IsSplitAt I N.branch at → IsSound I R (yes_node N at id)
+sound_yes I R N at id instance sound split = record { node = (writable_halves I N at id id instance sound.node split).0; part = yes_part R N.branch at sound.part }
 
-pub sound_outside : (I : Network) (R : Branch) (N : Node) (v id : ℕ) → IsSound I R N → IsSplit I N.branch v → IsSound I R (outside_half N v id)
-sound_outside I R N v id sound split = record { node = (writable_halves I N v id id sound.node split).1; part = outside_part R N.branch v sound.part }
+pub sound_no : (I : Network) (R : Branch) (N : Node) (at : SplitAt) (id : ℕ) → IsInstance I → IsSound I R N → IsSplitAt I N.branch at → IsSound I R (no_node N at id)
+sound_no I R N at id instance sound split = record { node = (writable_halves I N at id id instance sound.node split).1; part = no_part R N.branch at sound.part }
 
 least_low : (r : ℕ) (better : Option Priced) (I : Network) (B : Branch) → IfSome better (IsBetter I B r) → least_after r better ≤ r
 least_low r None I B h = omega arith
 least_low r (Some p) I B h = omega (arith, h.cheaper)
 
 -- the half to go on with is sound
-pub sound_half : (I : Network) (R : Branch) (N : Node) (v i o : ℕ) (deleted : Bool) → IsSound I R N → IsSplit I N.branch v → IsSound I R (half_of deleted N v i o)
-sound_half I R N v i o true sound split = sound_outside I R N v o sound split
-sound_half I R N v i o false sound split = sound_inside I R N v i sound split
+pub sound_half : (I : Network) (R : Branch) (N : Node) (at : SplitAt) (i o : ℕ) (planned : Bool) → IsInstance I → IsSound I R N → IsSplitAt I N.branch at → IsSound I R (half_of planned N at i o)
+sound_half I R N at i o true instance sound split = sound_no I R N at o instance sound split
+sound_half I R N at i o false instance sound split = sound_yes I R N at i instance sound split
 
 -- however nodes are weighed, both halves weigh as much in either order
-both_halves : (w : Node → ℕ) (N : Node) (v i o : ℕ) (deleted : Bool) → w (half_of deleted N v i o) + w (other_of deleted N v i o) ≡ w (inside_half N v i) + w (outside_half N v o)
-both_halves w N v i o true = swapped (w (outside_half N v o)) (w (inside_half N v i))
+both_halves : (w : Node → ℕ) (N : Node) (at : SplitAt) (i o : ℕ) (planned : Bool) → w (half_of planned N at i o) + w (other_of planned N at i o) ≡ w (yes_node N at i) + w (no_node N at o)
+both_halves w N at i o true = swapped (w (no_node N at o)) (w (yes_node N at i))
   where
     swapped : (a b : ℕ) → a + b ≡ b + a
     swapped a b = omega arith
-both_halves w N v i o false = refl
+both_halves w N at i o false = refl
 
 -- a node was split as a step says
-pub split_on : (I : Network) (R : Branch) (start seat workers r : ℕ) (N M half : Node) (v : ℕ) (deleted : Bool) (q : Station) (u : Account) (s s' : Sight) (next : ℕ) (k k' : Work) (m : Moment)
-    (better : Option Priced) → IsSound I R N
-    → r ≤ s.lowest → s.lowest ≤ start → IfSome better (IsBetter I N.branch r) → SplitsAt I N (least_after r better) M v
-    → Adopts better (having_seen s r) s' (record { done = k.done; best = k.best; seen = r }) k' → IsHalved workers N.id M v deleted (as_of q u s' next k') m half
-    → IsWorkedOn I R start seat workers N (as_of q u s next k) m (half ∷ []) (recorded.Split N.id (Vertex v) next (next + workers) M.packing)
-split_on I R start seat workers r N M half v deleted q u s s' next k k' m better sound low first is_better end adopts halved =
+pub split_on : (I : Network) (R : Branch) (start seat workers r : ℕ) (links : Bool) (N M half : Node) (at : SplitAt) (planned : Bool) (q : Station) (u : Account) (s s' : Sight) (next : ℕ) (k k' : Work) (m : Moment)
+    (better : Option Priced) → IsInstance I → IsSound I R N
+    → r ≤ s.lowest → s.lowest ≤ start → IfSome better (IsBetter I N.branch r) → SplitsAt I N (least_after r better) links M at
+    → Adopts better (having_seen s r) s' (record { done = k.done; best = k.best; seen = r }) k' → IsHalved workers N.id M at planned (as_of q u s' next k') m half
+    → IsWorkedOn I R start seat workers N (as_of q u s next k) m (half ∷ []) (recorded.Split N.id at next (next + workers) M.packing)
+split_on I R start seat workers r links N M half at planned q u s s' next k k' m better instance sound low first is_better end adopts halved =
     let a = adopted I R start r N s s' k k' better sound low is_better adopts in
-    let d = recorded.Split N.id (Vertex v) next (next + workers) M.packing in
+    let d = recorded.Split N.id at next (next + workers) M.packing in
     let grown : m.work.done.items ≡ k.done.items ++ d ∷ [] = halved.done ∙ ap (λ (ds : List Done). ds ++ d ∷ []) a.done in
     let less : least_after r better ≤ start = omega (arith, least_low r better I N.branch is_better, low, first) in
-    let halves_sound : IsSound I R (half_of deleted M v next (next + workers)) =
-    sound_half I R M v next (next + workers) deleted (split_sound I R N M (least_after r better) v sound end) (split_vertex I N M (least_after r better) v end) in
+    let halves_sound : IsSound I R (half_of planned M at next (next + workers)) =
+    sound_half I R M at next (next + workers) planned instance (split_sound I R N M (least_after r better) links at sound end) (split_there I N M (least_after r better) links at end) in
     record {
-      task = record { sound = sound; same = refl; done_right = split_task I N M (least_after r better) start v less end };
+      task = record { sound = sound; same = refl; done_right = split_task I N M (least_after r better) start links at less end };
       records = grown;
       held_sound = All-cons (IsSound I R) half [] (subst (IsSound I R) (sym halved.half_is) halves_sound) (All-nil (IsSound I R));
       nodes = λ w.
-          let halves : sum_by w (halves_by N.branch d) ≡ sum_by w (inside_half M v next ∷ outside_half M v (next + workers) ∷ []) = ap (sum_by w)
-          (same_halves N.branch M N.id v next (next + workers) end.same) in
-          let one : sum_by w (half ∷ []) ≡ sum_by w (half_of deleted M v next (next + workers) ∷ []) = ap (λ (n : Node). sum_by w (n ∷ [])) halved.half_is in
-          balance (gave w q) (gave w m.pass) (took w q) (took w m.pass) _ (w (half_of deleted M v next (next + workers))) (w (other_of deleted M v next (next + workers)))
-          (w (inside_half M v next)) (w (outside_half M v (next + workers))) _ (halved.pass w) one (both_halves w M v next (next + workers) deleted) halves;
+          let halves : sum_by w (halves_by N.branch d) ≡ sum_by w (yes_node M at next ∷ no_node M at (next + workers) ∷ []) = ap (sum_by w)
+          (same_halves N.branch M N.id at next (next + workers) end.same) in
+          let one : sum_by w (half ∷ []) ≡ sum_by w (half_of planned M at next (next + workers) ∷ []) = ap (λ (n : Node). sum_by w (n ∷ [])) halved.half_is in
+          balance (gave w q) (gave w m.pass) (took w q) (took w m.pass) _ (w (half_of planned M at next (next + workers))) (w (other_of planned M at next (next + workers)))
+          (w (yes_node M at next)) (w (no_node M at (next + workers))) _ (halved.pass w) one (both_halves w M at next (next + workers) planned) halves;
       drawn = λ h.
           subst (λ (n : ℕ). AreDrawnBelow seat workers n m.work.done.items) (sym halved.next)
-          (subst (λ (ds : List Done). AreDrawnBelow seat workers (next + workers + workers) ds) (sym grown) (drawn_split seat workers next N.id (Vertex v) k.done.items M.packing h));
+          (subst (λ (ds : List Done). AreDrawnBelow seat workers (next + workers + workers) ds) (sym grown) (drawn_split seat workers next N.id at k.done.items M.packing h));
       seen = λ h. still_seen I R start s' m.sight k'.best m.work.best k'.seen m.work.seen halved.sight halved.best halved.seen (a.seen h);
       lower = omega (arith, halved.seen, a.lower, low);
       ups = ap (λ (v : Account). v.tally.ups) halved.account;

@@ -2,7 +2,7 @@
 use Rattle.std.specs.Prelude.{◌≡◌, ◌≢◌, ℕ, Bool, if◌then◌else◌, ◌+◌, ◌*◌, ◌<◌, ◌≤◌, min, List, [], ◌∷◌, ◌++◌, length, map, All, Option, Some, None}
 use Rattle.std.specs.List.{flat_map, sum_by}
 use Rattle.std.specs.Option.{option_to_list}
-use Rattle.st_model.specs.declared.split_at.SplitAt.TheVariants.{Vertex}
+use Rattle.st_model.specs.declared.split_at.SplitAt.{SplitAt}
 use Rattle.st_model.specs.declared.branch.Branch.{Branch}
 use Rattle.st_model.specs.declared.tree.Tree.{Tree}
 use Rattle.st_model.specs.Lists.{sum_to}
@@ -10,7 +10,7 @@ use Rattle.st_model.specs.Network.{Network, IsInstance, pays}
 use Rattle.st_model.specs.Branch.{NoneIsCertain}
 use Rattle.cut_packing.specs.declared.packing.Packing.{Packing}
 use Rattle.branching.specs.declared.node.Node.{Node}
-use Rattle.branching.specs.Node.{inside_half, outside_half}
+use Rattle.branching.specs.Node.{yes_node, no_node}
 use Rattle.incumbent.specs.Least.{least_of}
 use Rattle.incumbent.specs.Seat.{Known as Sight, fresh as new_sight, having_offered}
 use Rattle.open_ledger.specs.Seat.{Known as Account, counting, fresh as new_account}
@@ -51,6 +51,7 @@ moment w k = as_of w.pass w.ledger w.best w.next k
 pub record SameWorker {Q : Type 0} (before after : Worker Q) : Type 0 where
   pub seat : after.seat ≡ before.seat
   pub workers : after.workers ≡ before.workers
+  pub links : after.links ≡ before.links
   pub pass : SamePass before.pass after.pass
   pub ledger : after.ledger.ledger ≡ before.ledger.ledger
   pub best : after.best.incumbent ≡ before.best.incumbent
@@ -111,22 +112,22 @@ pub record IsClosed (id : ℕ) (P : Packing) (m m' : Moment) : Type 0 where
   pub best : m'.work.best ≡ m.work.best
   pub seen : m'.work.seen ≡ m.work.seen
 
--- of the two halves of a node, the one to go on with: where the vertex is deleted, the one outside
-abbrev pub half_of : Bool → Node → ℕ → ℕ → ℕ → Node
-half_of deleted N v i o = if deleted then outside_half N v o else inside_half N v i
+-- of the two halves of a node, the one to go on with: where there is a plan, the one that says no
+abbrev pub half_of : Bool → Node → SplitAt → ℕ → ℕ → Node
+half_of planned N at i o = if planned then no_node N at o else yes_node N at i
 
 -- and the other one
-abbrev pub other_of : Bool → Node → ℕ → ℕ → ℕ → Node
-other_of deleted N v i o = if deleted then inside_half N v i else outside_half N v o
+abbrev pub other_of : Bool → Node → SplitAt → ℕ → ℕ → Node
+other_of planned N at i o = if planned then yes_node N at i else no_node N at o
 
 -- the node under an id was split, with the packing of N: one half is in hand, and the other one was given
-pub record IsHalved (workers id : ℕ) (N : Node) (v : ℕ) (deleted : Bool) (m m' : Moment) (half : Node) : Type 0 where
-  pub half_is : half ≡ half_of deleted N v m.next (m.next + workers)
-  pub pass : Moves m.pass m'.pass (other_of deleted N v m.next (m.next + workers) ∷ []) []
+pub record IsHalved (workers id : ℕ) (N : Node) (at : SplitAt) (planned : Bool) (m m' : Moment) (half : Node) : Type 0 where
+  pub half_is : half ≡ half_of planned N at m.next (m.next + workers)
+  pub pass : Moves m.pass m'.pass (other_of planned N at m.next (m.next + workers) ∷ []) []
   pub account : m'.account ≡ counting m.account (with_up m.account.tally)
   pub sight : m'.sight ≡ m.sight
   pub next : m'.next ≡ m.next + workers + workers
-  pub done : m'.work.done.items ≡ m.work.done.items ++ Split id (Vertex v) m.next (m.next + workers) N.packing ∷ []
+  pub done : m'.work.done.items ≡ m.work.done.items ++ Split id at m.next (m.next + workers) N.packing ∷ []
   pub best : m'.work.best ≡ m.work.best
   pub seen : m'.work.seen ≡ m.work.seen
 

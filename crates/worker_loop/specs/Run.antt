@@ -1,14 +1,13 @@
 -- What one worker did in a whole run.
-use Rattle.std.specs.Prelude.{◌≡◌, ◌≢◌, ℕ, ◌+◌, ◌*◌, ◌<◌, ◌≤◌, List, [], ◌∷◌, length, map, Option, Some, None, All, IfSome}
+use Rattle.std.specs.Prelude.{◌≡◌, ◌≢◌, ℕ, Bool, ◌+◌, ◌*◌, ◌<◌, ◌≤◌, List, [], ◌∷◌, length, map, Option, Some, None, All, IfSome}
 use Rattle.std.specs.List.{flat_map, sum_by}
 use Rattle.st_model.specs.declared.split_at.SplitAt.{SplitAt}
 use Rattle.st_model.specs.declared.branch.Branch.{Branch}
 use Rattle.st_model.specs.declared.tree.Tree.{Tree}
 use Rattle.st_model.specs.Arborescence.{IsTree, cost}
-use Rattle.st_model.specs.Branch.{Belongs}
+use Rattle.st_model.specs.Branch.{ReachesAsTold}
 use Rattle.st_model.specs.Network.{Network}
 use Rattle.cut_packing.specs.declared.packing.Packing.{Packing}
-use Rattle.cut_packing.specs.Packing.{weight}
 use Rattle.cut_packing.specs.ProofTree.{Closes, IsSplitAt}
 use Rattle.log_format.specs.Text.{IsWritablePacking}
 use Rattle.branching.specs.declared.node.Node.{Node}
@@ -26,6 +25,7 @@ use Rattle.search_core.specs.declared.done.End.{End}
 use Rattle.search_core.specs.declared.done.End.TheVariants.{OpenZero, ClaimRefused, HaltSeen}
 use Rattle.search_core.specs.declared.gathered.Segment.{Segment}
 use Rattle.node_work.specs.Node.{IsWritableNode}
+use Rattle.node_work.specs.Step.{MaySplit}
 use Rattle.worker_loop.specs.Sound.{IsSound}
 
 -- the node that a worker worked on, and the record of it
@@ -52,12 +52,11 @@ halves_by B (Split id at i o P) = yes_node (packed id B P) at i ∷ no_node (pac
 abbrev pub halves_of : Task → List Node
 halves_of T = halves_by T.node.branch T.done
 
--- a node was split on a packing that is no lighter than its own
+-- a node was split on a packing that allows it
 pub record IsSplitTask (I : Network) (start : ℕ) (N : Node) (at : SplitAt) (P : Packing) : Type 0 where
   pub place : IsSplitAt I N.branch at
   pub allows : AllowsSplit I N.branch P start
   pub packed : IsWritableNode I (packed N.id N.branch P)
-  pub no_lighter : weight I N.branch N.packing ≤ weight I N.branch P
 
 -- a node was closed by a packing that weighs at least what the worker saw last
 pub record IsCloseTask (I : Network) (seen : ℕ) (N : Node) (P : Packing) : Type 0 where
@@ -74,6 +73,11 @@ pub record IsTask (I : Network) (R : Branch) (start seen : ℕ) (T : Task) : Typ
   pub sound : IsSound I R T.node
   pub same : done_id T.done ≡ T.node.id
   pub done_right : IsDoneWith I start seen T.node T.done
+
+-- a record tells of no split at a link, unless links are to be split
+abbrev pub IsAllowed : Bool → Done → Type 0
+IsAllowed links (Split id at i o P) = MaySplit links at
+IsAllowed links (Close id P) = Unit {0}
 
 -- the number of splits that a record tells of, and of closes
 abbrev pub splits : Done → ℕ
@@ -93,10 +97,10 @@ pub record AreDrawn (seat workers : ℕ) (done : List Done) : Type 0 where
   pub once : (id : ℕ) → times id (drawn_ids done) ≤ 1
   pub own : (id : ℕ) → 0 < times id (drawn_ids done) → (j : ℕ) × (id ≡ 1 + seat + workers * j)
 
--- a tree of the branch that is cheaper than the start
+-- a tree that reaches what the branch says and is cheaper than the start
 pub record IsFound (I : Network) (R : Branch) (start : ℕ) (t : Tree) : Type 0 where
   pub tree : IsTree I t
-  pub belongs : Belongs R t
+  pub reaches : ReachesAsTold R t
   pub cheaper : cost I t < start
 
 -- the best tree that was found: there is none exactly where nothing was offered, and its cost is the least that was

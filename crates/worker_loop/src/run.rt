@@ -1,9 +1,9 @@
-ghost use Rattle.std.specs.Prelude.{◌≡◌, ◌∷◌, [], IfOk, MatchResult};
+ghost use Rattle.std.specs.Prelude.{◌≡◌, ◌∷◌, [], All, IfOk, MatchResult};
 ghost use Rattle.std.specs.Option.{option_to_list};
 ghost use Rattle.node_pool.specs.Pool.{Station};
 ghost use Rattle.worker_loop.specs.declared.work.Work.{Work};
 ghost use Rattle.worker_loop.specs.Progress.{HasWorked, SameWorker, moment};
-ghost use Rattle.worker_loop.specs.Run.{IsEnding};
+ghost use Rattle.worker_loop.specs.Run.{IsAllowed, IsEnding};
 ghost use Rattle.worker_loop.specs.Slots.{Brings, MayRun};
 
 use crate::aim::Aim;
@@ -30,6 +30,7 @@ impl<Q: Aim> Worker<Q> {
         requires ready { MayRun crew.now.whole.now.instance Q.instance Q.branch Q.start self.old }
         ensures same { SameWorker self.old self.new }
         ensures run { IfOk result (Brings Q.instance Q.branch Q.start self.old self.new) }
+        ensures sites { IfOk result (λ s. All (IsAllowed self.old.links) s.done) }
     {
         match self.search(crew) {
             Ok(segment) => Ok(segment),
@@ -48,6 +49,7 @@ impl<Q: Aim> Worker<Q> {
         requires ready { MayRun crew.now.whole.now.instance Q.instance Q.branch Q.start self.old }
         ensures same { SameWorker self.old self.new }
         ensures run { IfOk result (Brings Q.instance Q.branch Q.start self.old self.new) }
+        ensures sites { IfOk result (λ s. All (IsAllowed self.old.links) s.done) }
     {
         let mut known = Known::first(crew.hint, crew.start);
         let mut work = Work::begin(crew.alloc, self.best.see());

@@ -40,10 +40,12 @@ impl<Q: Aim> Slot<Q> {
     }
 }
 
-/// The workers with these passes and seats, the first in seat 0.
+/// The workers with these passes and seats, the first in seat 0, which split nodes at links only if
+/// `links` says so.
 pub fn team_of<Q: Aim>(
     alloc: Global,
     workers: u32,
+    links: bool,
     passes: Vec<Pass<SoundFor<Q>>>,
     accounts: Vec<LedgerSeat>,
     sights: Vec<BestSeat>,
@@ -51,7 +53,7 @@ pub fn team_of<Q: Aim>(
     requires passes { length passes.items ≡ workers }
     requires accounts { length accounts.items ≡ workers }
     requires sights { length sights.items ≡ workers }
-    ensures seats { IfOk result (λ team. AreSeated workers 0 team.items) }
+    ensures seats { IfOk result (λ team. AreSeated workers links 0 team.items) }
     ensures passes { IfOk result (λ team. map pass_of team.items ≡ passes.items) }
     ensures accounts { IfOk result (λ team. map account_of team.items ≡ accounts.items) }
     ensures sights { IfOk result (λ team. map sight_of team.items ≡ sights.items) }
@@ -71,7 +73,7 @@ pub fn team_of<Q: Aim>(
             return Err(AllocError);
         };
         team.push(Slot {
-            worker: Worker::of(seat, workers, pass, account, sight),
+            worker: Worker::of(seat, workers, links, pass, account, sight),
             segment: None,
         })?;
     }

@@ -1,9 +1,11 @@
-ghost use Rattle.std.specs.Prelude.{◌≡◌, ◌≤◌, ◌∷◌, [], IfOk, OnOk};
+ghost use Rattle.std.specs.Prelude.{◌≡◌, ◌≤◌, ◌∷◌, [], All, IfOk, OnOk};
 ghost use Rattle.std.specs.Option.{option_to_list};
-ghost use Rattle.cut_packing.specs.ProofTree.{IsSplit};
+ghost use Rattle.st_model.specs.Network.{IsInstance};
+ghost use Rattle.cut_packing.specs.ProofTree.{IsSplitAt};
 ghost use Rattle.node_pool.specs.Pool.{Station};
 ghost use Rattle.search_core.specs.declared.done.Done.{Done};
 ghost use Rattle.worker_loop.specs.Progress.{Adopts, HasTurned, HasWorked, IsAim, IsClosed, IsHalved, IsWorkedOn, SameWorker, moment};
+ghost use Rattle.worker_loop.specs.Run.{IsAllowed};
 ghost use Rattle.worker_loop.specs.Sound.{IsSound};
 
 use crate::aim::Aim;
@@ -13,9 +15,9 @@ use crate::hint::Known;
 use crate::work::Work;
 use crate::worker::Worker;
 use better_trees::{Incumbent, Priced};
-use branching::{Node, halves};
+use branching::{Node, halves_at};
 use cut_packing::Packing;
-use node_work::{End, Step, expand};
+use node_work::{End, Manner, Step, expand};
 use open_ledger::Why;
 use search_core::{Done, End as Ending};
 use st_model::SplitAt;
@@ -55,6 +57,8 @@ impl<Q: Aim> Worker<Q> {
             → HasWorked Q.instance Q.branch Q.start self.old.seat self.old.workers p (moment self.old work.old)
             (node ∷ [])
             → HasTurned Q.instance Q.branch Q.start self.old.seat self.old.workers p (moment self.new work.new) t) }
+        ensures sites { OnOk result (All (IsAllowed self.old.links) work.old.done.items
+            → All (IsAllowed self.old.links) work.new.done.items) }
     {
         if self.ledger.see_halt() {
             return Ok(Turn::Left(node, Ending::HaltSeen));
@@ -82,26 +86,24 @@ impl<Q: Aim> Worker<Q> {
         requires low { self.old.best.lowest ≤ Q.start }
         ensures same { SameWorker self.old self.new }
         ensures worked { IfOk result (λ half. (d : Done) × IsWorkedOn Q.instance Q.branch Q.start self.old.seat
-            self.old.workers node (moment self.old work.old) (moment self.new work.new) (option_to_list half) d) }
+            self.old.workers node (moment self.old work.old) (moment self.new work.new) (option_to_list half) d
+            × IsAllowed self.old.links d) }
     {
         let id = node.id;
         work.seen = self.best.see();
         known.catch_up(crew.alloc, work.seen)?;
         let plan = known.plan.take();
         let has_all = known.take_processors(&node);
-        let threads = if has_all { self.workers } else { 1 };
+        let manner = Manner {
+            threads: if has_all { self.workers as usize } else { 1 },
+            links: self.links,
+        };
         let incumbent = Incumbent {
             tree: known.tree(),
             cost: work.seen,
         };
         let step = expand(
-            crew.rt,
-            crew.alloc,
-            crew.whole,
-            node,
-            &incumbent,
-            plan,
-            threads as usize,
+            crew.rt, crew.alloc, crew.whole, node, &incumbent, plan, manner,
         );
         known.give_back(has_all);
         let Step { better, end } = step?;
@@ -112,10 +114,10 @@ impl<Q: Aim> Worker<Q> {
                 self.close(id, packing, work)?;
                 Ok(None)
             }
-            End::Split(node, vertex, plan) => {
-                let is_deleted = plan.is_some();
+            End::Split(node, at, plan) => {
+                let is_planned = plan.is_some();
                 known.plan = plan;
-                let half = self.split(crew, id, node, vertex, is_deleted, work)?;
+                let half = self.split(crew, id, node, at, is_planned, work)?;
                 Ok(Some(half))
             }
         }
@@ -124,7 +126,8 @@ impl<Q: Aim> Worker<Q> {
     // Keeps a better tree, if there is one, and then offers what it costs.
     fn adopt(&mut self, better: Option<Priced>, work: &mut Work)
         ensures same { (self.new.seat ≡ self.old.seat) × (self.new.workers ≡ self.old.workers)
-            × (self.new.next ≡ self.old.next) × (self.new.pass ≡ self.old.pass) × (self.new.ledger ≡ self.old.ledger) }
+            × (self.new.next ≡ self.old.next) × (self.new.pass ≡ self.old.pass) × (self.new.ledger ≡ self.old.ledger)
+            × (self.new.links ≡ self.old.links) }
         ensures adopts { Adopts better self.old.best self.new.best work.old work.new }
     {
         if let Some(Priced { tree, price }) = better {
@@ -144,41 +147,38 @@ impl<Q: Aim> Worker<Q> {
     }
 
     // Splits the node under an id, with the packing with which its halves begin: answers the half to
-    // go on with, the one outside where the vertex is deleted and else the one inside, and gives the
+    // go on with, the one that says no where there is a plan and else the one that says yes, and gives the
     // other one to the pool.
     fn split<R, G>(
         &mut self,
         crew: &Crew<'_, R, G>,
         id: u64,
         node: Node,
-        vertex: u32,
-        is_deleted: bool,
+        at: SplitAt,
+        is_planned: bool,
         work: &mut Work,
     ) -> Result<Node, AllocError>
         requires node { IsSound Q.instance Q.branch node }
-        requires vertex { IsSplit Q.instance node.branch vertex }
+        requires split { IsSplitAt Q.instance node.branch at }
+        requires instance { IsInstance Q.instance }
         ensures same { SameWorker self.old self.new }
-        ensures halved { IfOk result (IsHalved self.old.workers id node vertex is_deleted
+        ensures halved { IfOk result (IsHalved self.old.workers id node at is_planned
             (moment self.old work.old) (moment self.new work.new)) }
     {
         self.ledger.up();
         let (first, second) = self.draw()?;
         let packing = node.packing.shared(crew.alloc)?;
-        let Ok((inside, outside)) = halves(crew.alloc, node, vertex, first, second) else {
+        let Ok((yes, no)) = halves_at(crew.alloc, node, at, first, second) else {
             return Err(AllocError);
         };
         work.done.push(Done::Split {
             id,
-            at: SplitAt::Vertex(vertex),
+            at,
             inside: first,
             outside: second,
             packing,
         })?;
-        let (half, other) = if is_deleted {
-            (outside, inside)
-        } else {
-            (inside, outside)
-        };
+        let (half, other) = if is_planned { (no, yes) } else { (yes, no) };
         let is_shared = is_for_others(id, work.done.len());
         self.give(crew.hint, other, is_shared)?;
         Ok(half)

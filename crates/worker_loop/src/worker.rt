@@ -26,12 +26,13 @@ const NAP: u64 = 100;
 // And for how many while another worker has all processors.
 const NAP_BESIDE: u64 = 1000;
 
-/// A worker of a team: its seat, how many workers there are, the next id that it draws, its pass of
-/// the pool, and its seats at the ledger and the incumbent.
+/// A worker of a team: its seat, how many workers there are, whether it may split nodes at links, the
+/// next id that it draws, its pass of the pool, and its seats at the ledger and the incumbent.
 #[derive(Drop)]
 pub struct Worker<Q: Aim> {
     pub seat: u32,
     pub workers: u32,
+    pub links: bool,
     pub next: u64,
     pub pass: Pass<SoundFor<Q>>,
     pub ledger: LedgerSeat,
@@ -39,10 +40,12 @@ pub struct Worker<Q: Aim> {
 }
 
 impl<Q: Aim> Worker<Q> {
-    /// The worker in this seat of so many. It draws the ids 1 and its seat, and every so many on.
+    /// The worker in this seat of so many, which splits nodes at links only if `links` says so. It draws
+    /// the ids 1 and its seat, and every so many on.
     pub fn of(
         seat: u32,
         workers: u32,
+        links: bool,
         pass: Pass<SoundFor<Q>>,
         ledger: LedgerSeat,
         best: BestSeat,
@@ -50,6 +53,7 @@ impl<Q: Aim> Worker<Q> {
         ensures { result ≡ record {
           seat = seat;
           workers = workers;
+          links = links;
           next = 1 + seat;
           pass = pass;
           ledger = ledger;
@@ -59,6 +63,7 @@ impl<Q: Aim> Worker<Q> {
         Worker {
             seat,
             workers,
+            links,
             next: 1 + u64::from(seat),
             pass,
             ledger,
@@ -78,7 +83,7 @@ impl<Q: Aim> Worker<Q> {
     // Takes a node of the pool, and counts as one that looks for it meanwhile. Err: why the worker ends.
     pub(crate) fn fetch<R: Wait>(&mut self, rt: &R, hint: &Hint) -> Result<Node, End>
         ensures seat { (self.new.seat ≡ self.old.seat) × (self.new.workers ≡ self.old.workers)
-            × (self.new.next ≡ self.old.next) × (self.new.best ≡ self.old.best) }
+            × (self.new.next ≡ self.old.next) × (self.new.best ≡ self.old.best) × (self.new.links ≡ self.old.links) }
         ensures same { SamePass self.old.pass self.new.pass }
         ensures looks { HasLooked self.old.ledger self.new.ledger }
         ensures took { MatchResult result (λ node. Moves self.old.pass self.new.pass [] (node ∷ []))
@@ -94,7 +99,7 @@ impl<Q: Aim> Worker<Q> {
     // Looks for a node in the pool until it finds one. Err: why the worker ends.
     fn look<R: Wait>(&mut self, rt: &R, hint: &Hint) -> Result<Node, End>
         ensures seat { (self.new.seat ≡ self.old.seat) × (self.new.workers ≡ self.old.workers)
-            × (self.new.next ≡ self.old.next) × (self.new.best ≡ self.old.best) }
+            × (self.new.next ≡ self.old.next) × (self.new.best ≡ self.old.best) × (self.new.links ≡ self.old.links) }
         ensures same { SamePass self.old.pass self.new.pass }
         ensures looks { HasLooked self.old.ledger self.new.ledger }
         ensures took { MatchResult result (λ node. Moves self.old.pass self.new.pass [] (node ∷ []))
@@ -129,7 +134,8 @@ impl<Q: Aim> Worker<Q> {
     // Two new ids. Err: an id would not fit.
     pub(crate) fn draw(&mut self) -> Result<(u64, u64), AllocError>
         ensures same { (self.new.seat ≡ self.old.seat) × (self.new.workers ≡ self.old.workers)
-            × (self.new.pass ≡ self.old.pass) × (self.new.ledger ≡ self.old.ledger) × (self.new.best ≡ self.old.best) }
+            × (self.new.pass ≡ self.old.pass) × (self.new.ledger ≡ self.old.ledger) × (self.new.best ≡ self.old.best)
+            × (self.new.links ≡ self.old.links) }
         ensures ids { IfOk result (λ ids. (ids.0 ≡ self.old.next) × (ids.1 ≡ self.old.next + self.old.workers)) }
         ensures next { OnOk result (self.new.next ≡ self.old.next + self.old.workers + self.old.workers) }
     {
@@ -150,7 +156,8 @@ impl<Q: Aim> Worker<Q> {
     ) -> Result<(), AllocError>
         requires { IsSound Q.instance Q.branch node }
         ensures same { (self.new.seat ≡ self.old.seat) × (self.new.workers ≡ self.old.workers)
-            × (self.new.next ≡ self.old.next) × (self.new.ledger ≡ self.old.ledger) × (self.new.best ≡ self.old.best) }
+            × (self.new.next ≡ self.old.next) × (self.new.ledger ≡ self.old.ledger) × (self.new.best ≡ self.old.best)
+            × (self.new.links ≡ self.old.links) }
         ensures pass { SamePass self.old.pass self.new.pass }
         ensures gave { OnOk result (Moves self.old.pass self.new.pass (node ∷ []) []) }
     {

@@ -2,7 +2,7 @@ ghost use Rattle.std.specs.Prelude.{◌≤◌, IfOk};
 ghost use Rattle.dual_ascent.specs.Left.{AreEndsOf};
 
 use bidirected_form::Arcs;
-use cut_packing::Packing;
+use cut_packing::{Packing, fits};
 use dual_ascent::{Ascent, ascend};
 use graph_store::Store;
 use prize_transform::Twins;
@@ -16,9 +16,17 @@ pub fn whole(alloc: Global, instance: &Instance) -> Result<(Arcs, Twins), AllocE
     requires { 1 ≤ instance.now.n }
     ensures { IfOk result (λ made. AreEndsOf made.0 made.1) }
 {
-    let store = Store::of(alloc, instance)?;
     let branch = Sides::of(alloc, Branch::all(alloc))?;
-    whole_of(alloc, &store, &branch)
+    whole_in(alloc, instance, &branch)
+}
+
+// The same in a branch.
+fn whole_in(alloc: Global, instance: &Instance, branch: &Sides) -> Result<(Arcs, Twins), AllocError>
+    requires { 1 ≤ instance.now.n }
+    ensures { IfOk result (λ made. AreEndsOf made.0 made.1) }
+{
+    let store = Store::of(alloc, instance)?;
+    whole_of(alloc, &store, branch)
 }
 
 // The arcs of a branch from vertex 1 on, and the ends, all whole.
@@ -160,6 +168,60 @@ fn takes_no_more_than_the_prize(rt: HostRuntime) -> Result<(), Fail> {
         let found = outcome_of_pair(rt.alloc(), prize)?;
         assert_eq!(rt; found, (want, Some(arc), left), "for {prize}");
     }
+    Ok(())
+}
+
+// What an ascent over a branch makes.
+fn ascend_in(alloc: Global, instance: &Instance, branch: &Sides) -> Result<Ascent, AllocError>
+    requires { 1 ≤ instance.now.n }
+{
+    let (mut arcs, mut twins) = whole_in(alloc, instance, branch)?;
+    ascend(alloc, &mut arcs, &mut twins, &[], 100)
+}
+
+// How an ascent comes out, and whether its cuts fit a branch.
+type Judged = ((bool, u64, usize), bool);
+
+// How an ascent over a branch comes out, and whether its cuts fit that one or another.
+fn judged(
+    alloc: Global,
+    instance: &Instance,
+    branch: &Sides,
+    other: &Sides,
+) -> Result<Judged, AllocError>
+    requires { 1 ≤ instance.now.n }
+{
+    let ascent = ascend_in(alloc, instance, branch)?;
+    let fits_other = fits(alloc, instance, other, ascent.packing())?;
+    Ok((outcome(&ascent), fits_other))
+}
+
+// The branch of the triangle's trees that do without the link from 2 to the centre.
+fn without_spoke(alloc: Global) -> Result<Sides, AllocError> {
+    Sides::of(alloc, Branch::all(alloc).with_barred(alloc, 2, 4)?)
+}
+
+// How an ascent over that branch comes out, and whether its cuts fit the branch.
+fn judged_without_spoke(alloc: Global) -> Result<Judged, AllocError> {
+    let instance = triangle_with_centre(alloc, 4)?;
+    let branch = without_spoke(alloc)?;
+    judged(alloc, &instance, &branch, &branch)
+}
+
+// The same, and whether its cuts fit the branch of all trees.
+fn judged_in_all_trees(alloc: Global) -> Result<Judged, AllocError> {
+    let instance = triangle_with_centre(alloc, 4)?;
+    let branch = without_spoke(alloc)?;
+    let all = Sides::of(alloc, Branch::all(alloc))?;
+    judged(alloc, &instance, &branch, &all)
+}
+
+#[test]
+fn raises_by_more_where_a_link_is_barred(rt: HostRuntime) -> Result<(), Fail> {
+    // A cut of 4 round 2, one of 2 round 3, and one of 2 round 3 and the centre; the arc from the
+    // centre to 2 would bear 4, and its link costs 2.
+    assert_eq!(rt; judged_without_spoke(rt.alloc())?, ((false, 8, 3), true));
+    assert_eq!(rt; judged_in_all_trees(rt.alloc())?, ((false, 8, 3), false));
     Ok(())
 }
 

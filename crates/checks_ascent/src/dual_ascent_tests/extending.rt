@@ -6,7 +6,7 @@ ghost use Rattle.st_model.specs.Network.{IsVertex, is_required};
 ghost use Rattle.cut_packing.specs.Packing.{Fits};
 ghost use Rattle.dual_ascent.specs.Extension.{IsStart, IsRootFor};
 
-use cut_packing::{Cut, Packing, SharedSet, fits, weight};
+use cut_packing::{Cut, Packing, SharedSet, base_weight, fits};
 use dual_ascent::{
     Extension, Remainder, extend, joined_fits, joined_inside_fits, joined_is_full, left_by,
 };
@@ -89,8 +89,7 @@ fn can_extend_in(
     packing: &Packing,
     root: u32,
 ) -> Result<bool, AllocError>
-    requires inside { branch.now.inside ≡ [] }
-    requires outside { branch.now.outside ≡ [] }
+    requires { branch.now ≡ all_trees }
     ensures start { IfOk result (λ yes. OnTrue yes (IsStart instance.now branch.now packing.now)) }
     ensures root { IfOk result (λ yes. OnTrue yes (IsRootFor instance.now branch.now packing.now root)) }
 {
@@ -248,7 +247,7 @@ fn extended(
         return Ok(None);
     }
     let ascent = raised(alloc, instance, packing, root, target)?.ascent;
-    let weighs = weight(instance, &Branch::all(alloc), ascent.packing());
+    let weighs = base_weight(instance, &Branch::all(alloc), ascent.packing());
     Ok(Some((!ascent.is_reached(), weighs)))
 }
 

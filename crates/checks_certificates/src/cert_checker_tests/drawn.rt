@@ -1,6 +1,6 @@
 use super::is_answered;
 use super::plain::{Certificate, Left, Move, VERTICES, judged};
-use st_model::{Link, Need};
+use st_model::{Link, Need, SplitAt};
 use std::alloc::{AllocError, Global};
 use std::test::Fail;
 use test_instances::Draws;
@@ -120,7 +120,7 @@ fn write_step(text: &mut String, step: Move) -> Result<(), AllocError> {
 
 fn write_claim(text: &mut String, certificate: &Certificate) -> Result<(), AllocError> {
     let (primal, dual) = (certificate.primal, certificate.dual);
-    writeln!(text, "STEINERLOG 1\nCLAIM TREE {primal} {dual}")?;
+    writeln!(text, "STEINERLOG 2\nCLAIM TREE {primal} {dual}")?;
     text.push_str("TREE 1 5\nA 1 2\nA 2 3\nA 3 4\nA 4 5\nA 5 6\n")
 }
 
@@ -132,10 +132,17 @@ fn write_steps(text: &mut String, steps: &[Move]) -> Result<(), AllocError> {
     Ok(())
 }
 
-fn write_proof(text: &mut String, split: Option<u32>) -> Result<(), AllocError> {
+fn write_split(text: &mut String, at: SplitAt) -> Result<(), AllocError> {
+    match at {
+        SplitAt::Vertex(vertex) => writeln!(text, "S {vertex}\nC 0 0"),
+        SplitAt::Link(low, high) => writeln!(text, "L {low} {high}\nC 0 0"),
+    }
+}
+
+fn write_proof(text: &mut String, split: Option<SplitAt>) -> Result<(), AllocError> {
     text.push_str("PROOF\n")?;
-    if let Some(vertex) = split {
-        writeln!(text, "S {vertex}\nC 0 0")?;
+    if let Some(at) = split {
+        write_split(text, at)?;
     }
     text.push_str("C 0 0\nEND\n")
 }
@@ -200,12 +207,23 @@ fn drawn_certificate(
     })
 }
 
+// Two vertices, the lower first; the higher one may be too high.
+fn drawn_pair(draws: &mut Draws) -> SplitAt {
+    let low = draws.below(6) as u32 + 1;
+    SplitAt::Link(low, low + 1 + draws.below(3) as u32)
+}
+
 // Changes a step, a number or the proof.
 fn change(draws: &mut Draws, certificate: &mut Certificate) {
-    match draws.below(8) {
+    match draws.below(10) {
         0 => certificate.dual = certificate.dual.saturating_add(1),
         1 => certificate.dual = certificate.dual.saturating_sub(1),
-        2 => certificate.split = Some(draws.below(7) as u32 + 1),
+        2 => certificate.split = Some(SplitAt::Vertex(draws.below(7) as u32 + 1)),
+        3 => certificate.split = Some(drawn_pair(draws)),
+        4 => {
+            certificate.split = Some(drawn_pair(draws));
+            certificate.dual = certificate.dual.saturating_add(1);
+        }
         _ => {
             let count = certificate.steps.len() as u64;
             if count > 0 {

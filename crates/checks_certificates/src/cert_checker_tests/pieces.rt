@@ -239,7 +239,7 @@ fn held_after(rt: &impl AllocGlobal, text: &str) -> Result<u64, Fail> {
 }
 
 /// The lines before a proof.
-const BEFORE: &str = "STEINERLOG 1\nCLAIM TREE 3 3\nTREE 2 0\nSTEPS 0\nPROOF\n";
+const BEFORE: &str = "STEINERLOG 2\nCLAIM TREE 3 3\nTREE 2 0\nSTEPS 0\nPROOF\n";
 
 /// The same after these lines of a proof.
 fn held_in(rt: &impl AllocGlobal, proof: &str) -> Result<u64, Fail> {
@@ -259,11 +259,18 @@ const HELD: &[(&str, u64)] = &[
     ("S 2\nS 1\nC 0 0\n", 2),
     ("S 2\nS 1\nC 0 0\nC 0 0\n", 1),
     ("S 2\nS 1\nC 0 0\nC 0 0\nS 1", 1),
+    // Splits at links.
+    ("L 1 2\n", 1),
+    ("L 1 2\nC 0 0\n", 1),
+    ("L 1 2\nC 0 0\nS 2\n", 2),
+    ("S 2\nL 1 2\nC 0 0\nC 0 0\n", 1),
+    ("L 1 2\nL 1 2\nC 0 0\nC 0 0\nC 0 0\n", 0),
     // Splits that may not be, and a close that weighs too little.
     ("S 9\nC 0 0\n", 1),
     ("S 9\nS 9\nS 9\n", 3),
     // Lines that may not stand there, and what comes after them.
     ("S 2\nS 0\nC 0 0\nC 0 0\n", 1),
+    ("S 2\nL 2 1\nC 0 0\nC 0 0\n", 1),
     ("C 0 0\nS 2\n", 0),
 ];
 

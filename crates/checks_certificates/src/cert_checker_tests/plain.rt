@@ -1,7 +1,7 @@
 //! Logs over six vertices as a plain program judges them, apart from the calls that are tested.
 use cert_checker::{CheckFault, Verdict};
 use log_format::{Kind, LogFault};
-use st_model::{Link, Need};
+use st_model::{Link, Need, SplitAt};
 use std::alloc::{AllocError, Global};
 
 /// The vertices are 1 to 6.
@@ -194,9 +194,24 @@ impl Left {
         }
     }
 
-    // Whether the branch of what is left can be split at a vertex.
-    fn is_split(&self, vertex: u32) -> bool {
-        self.need(vertex).is_some() && !self.is_required(vertex) && !self.is_gone(vertex)
+    // Whether the branch of what is left can be split here.
+    fn is_split(&self, at: SplitAt) -> bool {
+        match at {
+            SplitAt::Vertex(vertex) => {
+                self.need(vertex).is_some() && !self.is_required(vertex) && !self.is_gone(vertex)
+            }
+            SplitAt::Link(low, high) => {
+                self.cost(low, high).is_some() && !self.is_gone(low) && !self.is_gone(high)
+            }
+        }
+    }
+
+    // What each tree pays where a split says yes: what its link costs.
+    fn used(&self, at: SplitAt) -> u64 {
+        match at {
+            SplitAt::Vertex(_) => 0,
+            SplitAt::Link(low, high) => self.cost(low, high).unwrap_or(0),
+        }
     }
 
     /// The same once more.
@@ -216,7 +231,7 @@ pub struct Certificate {
     pub primal: u64,
     pub dual: u64,
     pub steps: Vec<Move>,
-    pub split: Option<u32>,
+    pub split: Option<SplitAt>,
 }
 
 fn fault(line: u64, kind: Kind) -> Result<Verdict, CheckFault> {
@@ -250,8 +265,11 @@ fn judged_close(left: &Left, certificate: &Certificate, line: u64) -> Result<Ver
 // What the checker has to answer to a proof that begins on this line.
 fn judged_proof(left: &Left, certificate: &Certificate, line: u64) -> Result<Verdict, CheckFault> {
     match certificate.split {
-        Some(vertex) if !left.is_split(vertex) => fault(line, Kind::BadSplit),
-        Some(_) => judged_close(left, certificate, line.saturating_add(1)),
+        Some(at) if !left.is_split(at) => fault(line, Kind::BadSplit),
+        Some(at) if left.offset.saturating_add(left.used(at)) < certificate.dual => {
+            fault(line.saturating_add(1), Kind::TooLight)
+        }
+        Some(_) => judged_close(left, certificate, line.saturating_add(2)),
         None => judged_close(left, certificate, line),
     }
 }

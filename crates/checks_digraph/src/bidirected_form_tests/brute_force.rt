@@ -47,6 +47,7 @@ fn remove_all(store: &mut Store, removed: &[bool])
 
 fn sides_of(alloc: Global, case: &Case) -> Result<Sides, AllocError> {
     let branch = Branch::of(
+        alloc,
         Listed::of(members(alloc, &case.inside)?),
         Listed::of(members(alloc, &case.outside)?),
     );

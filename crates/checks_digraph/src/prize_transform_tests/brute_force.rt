@@ -32,6 +32,7 @@ fn list_with(alloc: Global, draws: &mut Draws, end: u32, q: u32) -> Result<Vec<u
 // A branch where one drawn number is inside and one is outside.
 fn drawn_sides(alloc: Global, draws: &mut Draws) -> Result<Sides, AllocError> {
     let branch = Branch::of(
+        alloc,
         Listed::of(numbers(alloc, draws, 1)?),
         Listed::of(numbers(alloc, draws, 1)?),
     );

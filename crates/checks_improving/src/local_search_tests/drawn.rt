@@ -1,6 +1,6 @@
 ghost use Rattle.std.specs.Prelude.{◌≡◌, ◌≢◌, IfOk};
 ghost use Rattle.st_model.specs.Arborescence.{IsTree};
-ghost use Rattle.st_model.specs.Branch.{Belongs, IsBranch};
+ghost use Rattle.st_model.specs.Branch.{IsBranch, ReachesAsTold};
 ghost use Rattle.st_model.specs.Network.{IsVertex};
 
 use super::brute_force::least_over_sets;
@@ -26,7 +26,7 @@ fn sides(alloc: Global, instance: &Instance, inside: u32, outside: u32) -> Resul
 }
 
 // What trees of a drawn branch cost: the first one, it improved, what a walk from there comes to, and the
-// cheapest one; and whether what the walk comes to is a tree of the branch.
+// cheapest one; and whether what the walk comes to is a tree that reaches what the branch says.
 #[derive(Drop)]
 struct Costs {
     first: u64,
@@ -45,14 +45,14 @@ fn walked(
 ) -> Result<(u64, bool), AllocError>
     requires branch { IsBranch whole.now.instance branch.now }
     requires tree { IsTree whole.now.instance tree }
-    requires belongs { Belongs branch.now tree }
+    requires reaches { ReachesAsTold branch.now tree }
 {
     let tree = wander(alloc, whole, branch, tree, 7, 4)?;
     let holds = is_tree(alloc, &whole.instance, &tree)? && reaches(&tree, 2) && !reaches(&tree, 5);
     Ok((tree_cost(&whole.instance, &tree), holds))
 }
 
-// Improves a tree of the branch, and walks on from there.
+// Improves a tree that reaches what the branch says, and walks on from there.
 fn improved(
     alloc: Global,
     whole: &Whole,
@@ -62,7 +62,7 @@ fn improved(
 ) -> Result<Costs, AllocError>
     requires branch { IsBranch whole.now.instance branch.now }
     requires tree { IsTree whole.now.instance tree }
-    requires belongs { Belongs branch.now tree }
+    requires reaches { ReachesAsTold branch.now tree }
 {
     let first = tree_cost(&whole.instance, &tree);
     let tree = improve(alloc, whole, branch, tree)?;

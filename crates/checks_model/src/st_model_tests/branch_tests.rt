@@ -31,24 +31,44 @@ fn halves_keep_the_order_of_vertices(rt: HostRuntime) -> Result<(), Fail> {
     Ok(())
 }
 
-// Whether the halves of the branch above are these: at a vertex both have it, on its side, and at a link both are the
-// branch again.
+// Whether a branch has these links as a must and these barred, in this order.
+fn tells(branch: &Branch, must: &[(u32, u32)], barred: &[(u32, u32)]) -> bool {
+    branch.must.as_slice() == must && branch.barred.as_slice() == barred
+}
+
+// Whether the halves of the branch above at a vertex have it on their sides, and nothing else.
 fn are_split(alloc: Global, branch: &Branch) -> Result<bool, AllocError> {
     let yes = branch.yes_half(alloc, SplitAt::Vertex(3))?;
     let no = branch.no_half(alloc, SplitAt::Vertex(1))?;
-    let yes_again = branch.yes_half(alloc, SplitAt::Link(1, 3))?;
-    let no_again = branch.no_half(alloc, SplitAt::Link(1, 3))?;
+    Ok(has(&yes, &[2, 3, 4, 9], &[3]) && has(&no, &[2, 4, 9], &[1, 3]) && tells(&yes, &[], &[]))
+}
+
+// Whether at a link the one half has it as a must, with each end inside once, and the other has it barred.
+fn are_split_at_links(alloc: Global, branch: &Branch) -> Result<bool, AllocError> {
+    let yes = branch.yes_half(alloc, SplitAt::Link(1, 4))?;
+    let no = yes.no_half(alloc, SplitAt::Link(2, 9))?;
+    let both = no.yes_half(alloc, SplitAt::Link(4, 9))?;
     Ok(
-        has(&yes, &[2, 3, 4, 9], &[3])
-            && has(&no, &[2, 4, 9], &[1, 3])
-            && has(&yes_again, &[2, 4, 9], &[3])
-            && has(&no_again, &[2, 4, 9], &[3]),
+        has(&yes, &[1, 2, 4, 9], &[3])
+            && tells(&yes, &[(1, 4)], &[])
+            && has(&both, &[1, 2, 4, 9], &[3])
+            && tells(&both, &[(1, 4), (4, 9)], &[(2, 9)]),
     )
+}
+
+// Whether sides tell of these links, in either order of their ends.
+fn are_told(alloc: Global) -> Result<bool, AllocError> {
+    let branch = Branch::all(alloc).with_must(alloc, 1, 4)?;
+    let sides = Sides::of(alloc, branch.with_barred(alloc, 2, 5)?)?;
+    let told = sides.is_must(4, 1) && sides.is_barred(2, 5) && sides.is_barred(5, 2);
+    Ok(told && !sides.is_must(2, 5) && !sides.is_barred(1, 4) && !sides.is_barred(2, 4))
 }
 
 #[test]
 fn splits_by_kind(rt: HostRuntime) -> Result<(), Fail> {
     assert!(rt; are_split(rt.alloc(), &halved(rt.alloc())?)?);
+    assert!(rt; are_split_at_links(rt.alloc(), &halved(rt.alloc())?)?);
+    assert!(rt; are_told(rt.alloc())?);
     Ok(())
 }
 

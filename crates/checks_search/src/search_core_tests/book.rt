@@ -3,6 +3,7 @@ use super::draft::{Draft, Kind};
 use super::ground::{Ground, VERTICES, bit};
 use super::notes::Note;
 use search_core::{End, EventFault};
+use st_model::SplitAt;
 use std::alloc::{AllocError, Global};
 
 /// Where a node is: in some queue, with a worker, or done with.
@@ -298,7 +299,7 @@ impl Book {
         };
         let note = Note {
             id: held.id,
-            halves: Some((draft.v, draft.inside, draft.outside)),
+            halves: Some((SplitAt::Vertex(draft.v), draft.inside, draft.outside)),
         };
         self.notes.push((draft.w, note))?;
         self.put(held.id, Spot::Done);

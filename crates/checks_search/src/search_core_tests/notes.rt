@@ -3,12 +3,12 @@ use cut_packing::Packing;
 use search_core::Done;
 use st_model::SplitAt;
 
-/// The id of a node, and where it was split: the vertex, the half inside and the half outside. A
-/// node that was closed has no halves.
+/// The id of a node, where it was split, and the ids of the half that says yes and of the one that
+/// says no. A node that was closed has no halves.
 #[derive(Clone, Copy, PartialEq, Eq)]
 pub struct Note {
     pub id: u64,
-    pub halves: Option<(u32, u64, u64)>,
+    pub halves: Option<(SplitAt, u64, u64)>,
 }
 
 /// What a record says, but for its packing.
@@ -16,18 +16,13 @@ pub fn note_of(done: &Done) -> Note {
     match done {
         Done::Split {
             id,
-            at: SplitAt::Vertex(vertex),
+            at,
             inside,
             outside,
             ..
         } => Note {
             id: *id,
-            halves: Some((*vertex, *inside, *outside)),
-        },
-        // none is made so far
-        Done::Split { id, .. } => Note {
-            id: *id,
-            halves: None,
+            halves: Some((*at, *inside, *outside)),
         },
         Done::Close { id, .. } => Note {
             id: *id,

@@ -145,7 +145,7 @@ fn did(segment: Option<&Segment>, notes: &[Note]) -> bool {
 
 // Whether each of the three nodes was split or closed once, by the worker that had it.
 fn is_complete(all: &Gathered) -> bool {
-    let halves = Some((2, 1, 2));
+    let halves = Some((SplitAt::Vertex(2), 1, 2));
     let first = [
         Note { id: 0, halves },
         Note {

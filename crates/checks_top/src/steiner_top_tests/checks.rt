@@ -57,7 +57,7 @@ fn saves(alloc: Global, shelf: &mut MemoryShelf, log: &str) -> Result<bool, Allo
 }
 
 /// Whether a log is answered so with a file, and both are asked for, once.
-fn answers_log<R: Threads + Wait + Sync>(
+pub fn answers_log<R: Threads + Wait + Sync>(
     rt: &R,
     alloc: Global,
     lines: &str,

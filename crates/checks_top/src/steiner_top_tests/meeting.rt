@@ -5,7 +5,7 @@ use std::sync::atomic::{AtomicU64, Ordering};
 use std::test::Fail;
 use std::thread;
 use std::thread::Threads;
-use steiner_top::{Gate, solve_bytes};
+use steiner_top::{Gate, Wanted, solve_bytes};
 
 /// Holds the first seat that comes with a half until another seat comes with another half.
 #[derive(Drop)]
@@ -57,11 +57,19 @@ impl Gate for MeetingGate {
     }
 }
 
+/// By two workers, as it is.
+const BY_TWO: Wanted = Wanted {
+    workers: 2,
+    nodes: 1_000,
+    plain: true,
+    links: false,
+};
+
 /// Whether two workers share the halves of the wheel's first node, and find the least cost.
 fn meets<R: Threads + Wait + Sync>(rt: &R, alloc: Global) -> Result<bool, AllocError> {
     let text = text_of(alloc, WHEEL)?;
     let gate = MeetingGate::new();
-    let Ok(outcome) = solve_bytes(rt, alloc, &text, 2, 1_000, true, &gate) else {
+    let Ok(outcome) = solve_bytes(rt, alloc, &text, BY_TWO, &gate) else {
         return Ok(false);
     };
     Ok(gate.has_met() && solution_of(&outcome).map(|found| found.primal) == Some(10))

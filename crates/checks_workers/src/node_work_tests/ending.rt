@@ -6,7 +6,7 @@ use super::roots::{ring, root_of_all, tree_of_ring};
 use better_trees::Incumbent;
 use branching::Node;
 use graph_store::Whole;
-use node_work::{End, expand, no_cuts};
+use node_work::{End, Manner, expand, no_cuts};
 use st_model::{Branch, Tree};
 use std::alloc::{AllocError, Global};
 use std::test::Fail;
@@ -30,7 +30,11 @@ fn closes<R: Threads + Sync>(
         branch: Branch::all(alloc),
         packing: no_cuts(alloc),
     };
-    let step = expand(rt, alloc, whole, node, incumbent, None, threads)?;
+    let manner = Manner {
+        threads,
+        links: false,
+    };
+    let step = expand(rt, alloc, whole, node, incumbent, None, manner)?;
     match step.end {
         End::Close(_) => Ok(Some(step.better.map(|better| better.price))),
         End::Split(_, _, _) => Ok(None),

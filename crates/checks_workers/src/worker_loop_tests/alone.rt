@@ -65,7 +65,7 @@ fn run_alone<Q: Aim, R: Threads + Wait + Sync>(
     let Some(sight) = sights.pop() else {
         return Ok(None);
     };
-    let mut worker = Worker::of(0, 1, pass, account, sight);
+    let mut worker = Worker::of(0, 1, false, pass, account, sight);
     let hint = Hint::none();
     let crew = Crew {
         rt,

@@ -63,7 +63,7 @@ fn run_from<R: Threads + Wait + Sync, G: Gate>(
         return Ok(None);
     }
     let all = Branch::all(alloc);
-    let found = run_all(rt, alloc, whole, &all, &start, workers, budget, gate)?;
+    let found = run_all(rt, alloc, whole, &all, &start, workers, budget, false, gate)?;
     Ok(Some(outcome_of(&found)))
 }
 
@@ -91,7 +91,7 @@ pub fn run_without<R: Threads + Wait + Sync>(
         return Ok(None);
     };
     let branch = sides.branch();
-    let found = run_all(rt, alloc, whole, branch, &start, 2, budget, &OpenGate)?;
+    let found = run_all(rt, alloc, whole, branch, &start, 2, budget, false, &OpenGate)?;
     Ok(Some(outcome_of(&found)))
 }
 

@@ -14,7 +14,7 @@ loop-before-init c =
       laid = (omega arith, omega arith, refl);
       count = refl;
       arcs = λ v low. subst (λ (w : ℕ). AreArcsInto c.args.store.now.network.n w (row_of (rows_from 0 (0 ∷ []) []) w)) (zero_is v low) (no_arcs c.args.store.now.network.n 0);
-      costs = λ u v low. subst (λ (w : ℕ). left_from (row_of (rows_from 0 (0 ∷ []) []) w) u ≡ cost_by c.args.store.now c.args.kinds.now u w) (zero_is v low) (no_vertex_costs c.args.store.now c.args.kinds.now u 0 c.vertices-before-end.ensures.graph.instance (λ range. omega (arith, range.0)));
+      costs = λ u v low. subst (λ (w : ℕ). left_from (row_of (rows_from 0 (0 ∷ []) []) w) u ≡ cost_by c.args.store.now c.args.branch.now c.args.kinds.now u w) (zero_is v low) (no_vertex_costs c.args.store.now c.args.branch.now c.args.kinds.now u 0 c.vertices-before-end.ensures.graph.instance (λ range. omega (arith, range.0)));
     })
   where
     zero_is : (v : ℕ) → v ≤ 0 → 0 ≡ v
@@ -35,7 +35,7 @@ loop-before-preserved c =
       laid = laid_push 0 es (length arcs) (length (arcs ++ row)) laid (omega (arith, length-append arcs row));
       count = length_push es _ ∙ ap (λ (k : ℕ). k + 1) count;
       arcs = rows_next (λ v row. AreArcsInto g.network.n v row) es arcs row c.loop-before.before laid count c.loop-before.invariant.arcs c.in_ok-row.ensures.arcs;
-      costs = λ u. rows_next (λ v row. left_from row u ≡ cost_by g c.args.kinds.now u v) es arcs row c.loop-before.before laid count (c.loop-before.invariant.costs u) (c.in_ok-row.ensures.costs u);
+      costs = λ u. rows_next (λ v row. left_from row u ≡ cost_by g c.args.branch.now c.args.kinds.now u v) es arcs row c.loop-before.before laid count (c.loop-before.invariant.costs u) (c.in_ok-row.ensures.costs u);
     })
 
 pub returns-clause-length : goal.returns-clause-length
@@ -53,4 +53,4 @@ returns-clause-costs c u =
     let g = c.args.store.now in
     let es = c.loop-before.ends.items in
     let arcs = c.loop-before.arcs.items in
-    rw c.in_ok-rows.ensures (rows_all (λ v row. left_from row u ≡ cost_by g c.args.kinds.now u v) (rows_from 0 es arcs) g.network.n c.loop-before.before (length-rows_from 0 es arcs ∙ c.loop-before.invariant.count) (omega (arith, c.loop-before.auto.before-end, c.loop-before-test.false, c.vertices-before-end.ensures.count)) (c.loop-before.invariant.costs u) (λ v past. no_vertex_costs g c.args.kinds.now u v c.vertices-before-end.ensures.graph.instance (λ range. omega (arith, range.1, past))))
+    rw c.in_ok-rows.ensures (rows_all (λ v row. left_from row u ≡ cost_by g c.args.branch.now c.args.kinds.now u v) (rows_from 0 es arcs) g.network.n c.loop-before.before (length-rows_from 0 es arcs ∙ c.loop-before.invariant.count) (omega (arith, c.loop-before.auto.before-end, c.loop-before-test.false, c.vertices-before-end.ensures.count)) (c.loop-before.invariant.costs u) (λ v past. no_vertex_costs g c.args.branch.now c.args.kinds.now u v c.vertices-before-end.ensures.graph.instance (λ range. omega (arith, range.1, past))))

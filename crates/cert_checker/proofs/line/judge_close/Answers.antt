@@ -4,10 +4,14 @@ use Rattle.cut_packing.specs.Packing.{Fits, weight}
 use Rattle.cert_checker.specs.Path.{branch_of}
 use Rattle.cert_checker.proofs.Branches.{branch_of-branch}
 use Rattle.cert_checker.proofs.Judged.{too_light}
+use Rattle.cert_checker.proofs.Paths.{tell_ends}
 use Rattle.cert_checker.proofs.line.judge_close.Goals as goal
 
 pub weight-requires : goal.weight-requires
-weight-requires c = rw c.branch-path-2.ensures (branch_of-branch c.args.instance.now c.args.path c.requires)
+weight-requires c = rw c.branch-path-2.ensures (branch_of-branch c.args.instance.now c.args.path c.vertices.ensures.instance c.requires)
+
+pub close-requires : goal.close-requires
+close-requires c = tell_ends c.args.instance.now c.args.path c.requires
 
 pub returns-then-weight-from-clause-wrong : goal.returns-then-weight-from-clause-wrong
 returns-then-weight-from-clause-wrong c =

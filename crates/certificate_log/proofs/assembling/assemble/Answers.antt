@@ -2,16 +2,15 @@ use Rattle.std.proofs.Common.{false, true, ◌≡◌, arith}
 use Rattle.log_format.specs.Accepts.{left_over}
 use Rattle.log_format.proofs.AllTrees.{left_over-branch}
 use Rattle.search_core.specs.Complete.{waiting}
-use Rattle.certificate_log.proofs.Certifying.{IsReady, assembled, small_sum, tree_of}
-use Rattle.certificate_log.proofs.Lowest.{lowest-top, lowest_is, waiting_branches}
+use Rattle.certificate_log.proofs.Certifying.{IsReady, assembled, left_over-apart, small_sum, tree_of}
+use Rattle.certificate_log.proofs.Lowest.{lowest-top, lowest_is, splits_fit, waiting_branches}
 use Rattle.certificate_log.proofs.assembling.assemble.Goals as goal
 
 pub proof_lines-requires-clause-tree : goal.proof_lines-requires-clause-tree
 proof_lines-requires-clause-tree c =
     let s = c.args.reduced.now.state in
     let (start, budget, complete) = c.requires.complete in
-    let apart = (left_over-branch s c.offset-offset.ensures.state.gone).apart in
-    tree_of c.complete_is_proof.ensures c.complete_counts.ensures c.args.gathered.now s.instance (left_over s) start budget apart complete
+    tree_of c.complete_is_proof.ensures c.complete_counts.ensures c.args.gathered.now s.instance (left_over s) start budget (left_over-apart s) complete
 
 pub unreachable-requires : goal.unreachable-requires
 unreachable-requires c =
@@ -30,7 +29,7 @@ pub bound_of-requires : goal.bound_of-requires
 bound_of-requires c =
     let s = c.args.reduced.now.state in
     let (start, budget, complete) = c.requires.complete in
-    rw c.in_ok-rest.ensures.instance (waiting_branches c.args.gathered.now s.instance (left_over s) start budget complete (left_over-branch s c.offset-offset.ensures.state.gone))
+    rw c.in_ok-rest.ensures.instance (waiting_branches c.args.gathered.now s.instance (left_over s) start budget complete c.offset-offset.ensures.state.instance (left_over-branch s c.offset-offset.ensures.state.gone))
 
 pub overflow_add-dual : goal.overflow_add-dual
 overflow_add-dual c =
@@ -59,10 +58,12 @@ returns c =
       is_tree = c.in_ok-tree.ensures.tree;
       is_cost = c.in_ok-tree.ensures.cost;
       writable = c.requires.writable;
+      splits = splits_fit G s.instance (left_over s) start budget complete o.state.instance;
       lines_are = c.in_ok-lines.ensures p proves.read;
       proves = proves;
       is_lowest = lowest_is G s.instance (left_over s) start budget complete p proves.read;
       counts = c.complete_counts.ensures;
       few = c.complete_is_few.ensures;
+      few_with_links = c.complete_is_few_with_links.ensures;
     } in
     rw (c.of-2.ensures, o.offset, c.bound_of.ensures, c.in_ok-rest.ensures.instance, c.in-Some.ensures.lines) (assembled steps first s G c.args.tree.now c.in_ok-tree.tree c.in_ok-lines.lines.items p h)

@@ -32,14 +32,14 @@ returns-clause-closed c =
     let F = groups c.args.forest in
     let same = same_here here in
     rw (c.of-2.ensures, c.in_ok-cuts.ensures.items, c.in_ok-set.ensures, name_here here) (
-      none_spans I B c.args.root _ F c.requires.instance c.requires.certain c.requires.grown.1 c.args.vertex c.requires.vertex c.requires.apart c.in_ok-members.members.items same c.args.target,
-      wall_fits I B c.args.root _ F c.requires.instance c.requires.certain c.requires.grown.1 c.args.vertex c.requires.vertex c.requires.apart c.in_ok-members.members.items same c.args.target,
-      wall_weighs I B c.args.root _ F c.requires.instance c.requires.certain c.requires.grown.1 c.args.vertex c.requires.vertex c.requires.apart c.in_ok-members.members.items same c.args.target,
+      none_spans I B c.args.root _ F c.requires.instance c.requires.left c.requires.certain c.requires.grown.1 c.args.vertex c.requires.vertex c.requires.apart c.in_ok-members.members.items same c.args.target,
+      wall_fits I B c.args.root _ F c.requires.instance c.requires.left c.requires.certain c.requires.grown.1 c.args.vertex c.requires.vertex c.requires.apart c.in_ok-members.members.items same c.args.target,
+      wall_weighs I B c.args.root _ F c.requires.instance c.requires.left c.requires.certain c.requires.grown.1 c.args.vertex c.requires.vertex c.requires.apart c.in_ok-members.members.items same c.args.target,
     )
 
 pub returns-clause-sets : goal.returns-clause-sets
 returns-clause-sets c =
     let here = (goal.at.returns-clause-sets c).In_ok-members in
     let I = c.args.instance.now in
-    let set : IsVertexSet I.n c.in_ok-members.members.items = record { ascending = c.in_ok-members.ensures.ascending; in_range = wall_in_range I c.args.branch.now c.args.root _ (groups c.args.forest) c.requires.instance c.requires.certain c.requires.grown.1 c.args.vertex c.requires.vertex c.requires.apart c.in_ok-members.members.items (same_here here) c.args.target } in
+    let set : IsVertexSet I.n c.in_ok-members.members.items = record { ascending = c.in_ok-members.ensures.ascending; in_range = wall_in_range I c.args.branch.now c.args.root _ (groups c.args.forest) c.requires.instance c.requires.left c.requires.certain c.requires.grown.1 c.args.vertex c.requires.vertex c.requires.apart c.in_ok-members.members.items (same_here here) c.args.target } in
     rw (c.of-2.ensures, c.in_ok-cuts.ensures.items) (All-cons (λ (cut : Cut). IsVertexSet I.n cut.set) _ [] (rw c.in_ok-set.ensures set) (All-nil (λ (cut : Cut). IsVertexSet I.n cut.set)))

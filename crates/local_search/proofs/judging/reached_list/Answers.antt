@@ -1,6 +1,6 @@
 use Rattle.std.proofs.Common.{ℕ, List, [], ◌∷◌, ◌++◌, map, ap, ◌∙◌}
 use Rattle.st_model.specs.Lists.{has}
-use Rattle.local_search.proofs.Belonging.{has-heads}
+use Rattle.local_search.proofs.Reached.{has-heads}
 use Rattle.local_search.proofs.judging.reached_list.Goals as goal
 
 pub returns : goal.returns

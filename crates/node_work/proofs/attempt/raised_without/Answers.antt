@@ -1,7 +1,7 @@
 use Rattle.std.proofs.Common.{◌≡◌, ◌≤◌, ◌∙◌, All, subst, sym, arith}
 use Rattle.st_model.specs.Branch.{IsVertexSet}
 use Rattle.st_model.specs.Network.{Network}
-use Rattle.cut_packing.specs.Packing.{weight}
+use Rattle.cut_packing.specs.Packing.{base_weight}
 use Rattle.dual_ascent.specs.Extension.{packing_of}
 use Rattle.node_work.proofs.Refined.{raised_again_by}
 use Rattle.node_work.proofs.attempt.raised_without.Goals as goal
@@ -22,8 +22,8 @@ returns c =
     let e = c.in_ok-raised.ensures in
     let kept = c.in_ok-kept.ensures in
     let root = rw c.in_ok-left.ensures at kept.root in
-    let before : c.weight-before.result ≡ weight I B (packing_of first.ascent) = rw (c.branch-branch.ensures, c.packing-packing.ensures) at c.weight-before.ensures in
-    let after : c.weight.result ≡ weight I B (packing_of raised.ascent) = rw (c.branch-branch-2.ensures, c.packing.ensures) at c.weight.ensures in
-    let heavy : weight I B (packing_of first.ascent) ≤ weight I B (packing_of raised.ascent) = omega (arith, before, after, c.if-weight-before.false) in
+    let before : c.base_weight-before.result ≡ base_weight I B (packing_of first.ascent) = rw (c.branch-branch.ensures, c.packing-packing.ensures) at c.base_weight-before.ensures in
+    let after : c.base_weight.result ≡ base_weight I B (packing_of raised.ascent) = rw (c.branch-branch-2.ensures, c.packing.ensures) at c.base_weight.ensures in
+    let heavy : base_weight I B (packing_of first.ascent) ≤ base_weight I B (packing_of raised.ascent) = omega (arith, before, after, c.if-base_weight-before.false) in
     raised_again_by I t.place.whole.now.store B c.in_ok-kept.kept t.root t.least _ _ raised first t.place.whole.now.whole.network r
     (rw c.packing-packing.ensures at kept.lighter) (root ∙ r.rooted) c.gap-target.ensures e.extended e.root e.charged e.ends heavy

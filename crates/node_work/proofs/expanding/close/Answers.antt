@@ -1,4 +1,4 @@
-use Rattle.node_work.proofs.Closed.{some_present, spanned_step, spanning_belongs}
+use Rattle.node_work.proofs.Closed.{some_present, spanned_step, spanning_reaches}
 use Rattle.node_work.proofs.Splits.{decided_certain}
 use Rattle.node_work.proofs.Writing.{writable_wall}
 use Rattle.node_work.proofs.expanding.close.Goals as goal
@@ -12,18 +12,18 @@ close_all-requires-clause-some c =
     rw c.in_ok-branch.ensures (some_present c.args.instance.now c.args.node.branch c.args.node.packing c.args.least r.node.node.branch r.node.node.required r.light r.cheap)
 
 pub returns-in-Tree : goal.returns-in-Tree
-returns-in-Tree c =
+returns-in-Tree c links =
     let closed = rw (c.in-Tree.is, c.in_ok-branch.ensures) at c.in_ok-tree.ensures.closed in
     let sets = rw c.in-Tree.is at c.in_ok-tree.ensures.sets in
     let few = rw c.in-Tree.is at c.in_ok-tree.ensures.few in
     let p = c.priced.ensures in
-    let belongs = spanning_belongs c.args.instance.now c.args.node.branch c.in-Tree.tree c.requires.node.node.branch closed.0 in
-    spanned_step c.args.instance.now c.args.node c.in-Tree.tree c.in-Tree.level c.args.least c.priced.result
-    c.requires.instance closed.0.arborescence closed.1 closed.2 sets few (p.better c.args.node.branch belongs) p.price p.none
+    let reaches = spanning_reaches c.args.instance.now c.args.node.branch c.in-Tree.tree c.requires.node.node.branch closed.spanning in
+    spanned_step c.args.instance.now c.args.node c.in-Tree.tree c.in-Tree.level c.args.least links c.priced.result
+    c.requires.instance closed.spanning.arborescence closed.fits closed.weighs closed.base sets few (p.better c.args.node.branch reaches) p.price p.none
 
 -- a wall
 pub returns : goal.returns
-returns c =
+returns c links =
     let I = c.args.instance.now in
     let closes = rw (c.in-Wall.is, c.in_ok-branch.ensures) at c.in_ok-tree.ensures.closed in
     let sets = rw c.in-Wall.is at c.in_ok-tree.ensures.sets in
@@ -31,7 +31,7 @@ returns c =
     rw c.closed.ensures (record {
       tree = tt;
       ends = (
-        record { fits = closes.1; weighs = closes.2 },
-        writable_wall I c.args.node.branch c.in-Wall.level c.args.least c.requires.instance closes.1 sets few c.ranges.least.fits,
+        record { fits = closes.fits; weighs = closes.weighs },
+        writable_wall I c.args.node.branch c.in-Wall.level c.args.least c.requires.instance closes.fits sets few c.ranges.least.fits,
       );
     })

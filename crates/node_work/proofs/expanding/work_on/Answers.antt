@@ -1,5 +1,5 @@
 use Rattle.std.proofs.Common.{◌-◌, arith}
-use Rattle.cut_packing.specs.Packing.{weight}
+use Rattle.cut_packing.specs.Packing.{base_weight}
 use Rattle.dual_ascent.specs.declared.ascent.Ascent.TheVariants.{Full}
 use Rattle.dual_ascent.specs.Extension.{IsExtension}
 use Rattle.node_work.specs.Open.{as_node}
@@ -13,12 +13,12 @@ pub returns-in-Reached : goal.returns-in-Reached
 returns-in-Reached g c =
     let r = c.requires.node in
     let e = rw c.in-Reached.is at c.in_ok-extension.ensures.extended.extended in
-    reached_step c.args.whole.now.instance (as_node c.args.node) c.in-Reached.packing c.args.node.root c.args.incumbent.now.cost c.in_ok-extension.field-0.better r.instance r.light (omega (arith, c.if-prove.false))
+    reached_step c.args.whole.now.instance (as_node c.args.node) c.in-Reached.packing c.args.node.root c.args.incumbent.now.cost c.args.links c.in_ok-extension.field-0.better r.instance r.light (omega (arith, c.if-prove.false))
     c.in_ok-extension.ensures.better e
 
 -- the packing is extended until it is full
 full : (g : Over) (c : In-Full g) → IsExtension c.args.whole.now.instance c.args.node.branch c.args.node.packing c.args.node.root
-    (c.args.incumbent.now.cost - weight c.args.whole.now.instance c.args.node.branch c.args.node.packing) (Full c.in-Full.packing)
+    (c.args.incumbent.now.cost - base_weight c.args.whole.now.instance c.args.node.branch c.args.node.packing) (Full c.in-Full.packing)
 full g c = rw c.in-Full.is at c.in_ok-extension.ensures.extended.extended
 
 pub guess-requires-clause-start : goal.guess-requires-clause-start
@@ -46,11 +46,11 @@ concluded-requires-clause-full g c =
 pub concluded-requires-clause-finding : goal.concluded-requires-clause-finding
 concluded-requires-clause-finding g c =
     let more = rw c.least_after.ensures at c.in_ok-more-in-Full.ensures in
-    rw (c.node_of-node.ensures, c.together.ensures)
+    rw (c.node_of-node.ensures, c.together-finding.ensures)
     (found_together c.args.whole.now.instance c.args.node.branch c.args.incumbent.now.cost c.in_ok-extension.field-0.better c.in_ok-more-in-Full.more c.in_ok-extension.ensures.better more)
 
 pub returns-in_ok-more-in-Full : goal.returns-in_ok-more-in-Full
 returns-in_ok-more-in-Full g c =
     let e = full g ((goal.at.returns-in_ok-more-in-Full g c).In-Full) in
     let ended = rw c.node_of-node.ensures at c.concluded.ensures in
-    ends_so c.args.whole.now.instance (as_node c.args.node) c.in-Full.packing c.args.incumbent.now.cost c.concluded.result e.0.no_lighter ended
+    ends_so c.args.whole.now.instance (as_node c.args.node) c.in-Full.packing c.args.incumbent.now.cost c.args.links c.concluded.result e.0.no_lighter ended

@@ -25,8 +25,8 @@ returns-in_default-2-clause-near c free = absurd (some_near c.args.whole.now.ins
 pub cheaper-requires-clause-near : goal.cheaper-requires-clause-near
 cheaper-requires-clause-near c = subst (λ (N : Network). IsTree N c.in-Some-2.near) c.args.whole.now.whole.network (rw c.in-Some-2.is at c.in_ok-near.ensures.tree)
 
-pub cheaper-requires-clause-near_belongs : goal.cheaper-requires-clause-near_belongs
-cheaper-requires-clause-near_belongs c =
+pub cheaper-requires-clause-near_reaches : goal.cheaper-requires-clause-near_reaches
+cheaper-requires-clause-near_reaches c =
     let tree = subst (λ (N : Network). IsTree N c.in-Some-2.near) c.args.whole.now.whole.network (rw c.in-Some-2.is at c.in_ok-near.ensures.tree) in
     reaches_nobody_alone c.args.whole.now.instance c.args.branch.now c.in-Some-2.near c.in-Some.field-0 c.requires.gone tree c.in-Some.ensures.some
 

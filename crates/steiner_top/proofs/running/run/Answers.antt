@@ -47,3 +47,6 @@ returns-in-Ok-clause-read_cause g c = record {
   later = c.answer.ensures.read_cause.later;
   rose = λ read. absurd (never_stopped (command_of (map string_bytes c.args.words.now)) (g.F.Shelf.text c.args.shelf.now) c.in-Ok.answer.status c.send.result.status c.in-Ok.answer.outcome c.in-Ok.answer.text.items c.in-Ok.ensures.answered (λ fine. (c.send.ensures.sent fine).0) (inl read));
 }
+
+pub returns-in-Ok-clause-write_cause : goal.returns-in-Ok-clause-write_cause
+returns-in-Ok-clause-write_cause g c = λ failed. inr (c.send.ensures.cause.rose (failed, never_unwritten (command_of (map string_bytes c.args.words.now)) (g.F.Shelf.text c.args.shelf.now) c.in-Ok.answer.status c.in-Ok.answer.outcome c.in-Ok.answer.text.items c.in-Ok.ensures.answered))

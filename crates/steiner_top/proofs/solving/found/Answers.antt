@@ -19,12 +19,12 @@ returns c =
     let steps = c.args.left.steps.items in
     let s = c.args.left.reduced.state in
     let log = c.in_ok-certificate.certificate in
-    let led : IsLed c.args.nodes c.args.plain I steps s c.args.best log = record {
+    let led : IsLed c.args.wanted.nodes c.args.wanted.plain c.args.wanted.links I steps s c.args.best log = record {
       instance = c.vertices.ensures.instance;
       applies = c.requires.left.applies;
       taken = c.requires.left.steps;
       best = c.requires.best;
       assembled = subst (λ (J : Network). IsAssembled steps J s c.args.best.search.gathered log) c.requires.left.first c.in_ok-certificate.ensures;
     } in
-    IfOk-weaker c.shown.result (IsShownBy c.args.best.search log c.args.reading.now.scale) (IsOutcome c.args.nodes c.args.plain I c.args.reading.now.scale)
-    (λ o. shown_outcome c.args.nodes c.args.plain I steps s c.args.best log led c.args.reading.now.scale o c.accepted_holds.ensures) c.shown.ensures
+    IfOk-weaker c.shown.result (IsShownBy c.args.best.search log c.args.reading.now.scale) (IsOutcome c.args.wanted.nodes c.args.wanted.plain c.args.wanted.links I c.args.reading.now.scale)
+    (λ o. shown_outcome c.args.wanted.nodes c.args.wanted.plain c.args.wanted.links I steps s c.args.best log led c.args.reading.now.scale o c.accepted_holds.ensures) c.shown.ensures

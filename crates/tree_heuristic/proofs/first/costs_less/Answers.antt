@@ -1,4 +1,4 @@
-use Rattle.std.proofs.Common.{arith, sym, ap, ◌∙◌, ◌+◌, ◌≡◌, get_or, subst}
+use Rattle.std.proofs.Common.{arith, ap, ◌∙◌, ◌≡◌, get_or}
 use Rattle.std.specs.Prelude.{unwrap_or}
 use Rattle.st_model.specs.Arborescence.{arc_cost}
 use Rattle.st_model.proofs.Costs.{missed_start}

@@ -1,9 +1,6 @@
-use Rattle.std.proofs.Common.{◌∙◌, [], ap, refl, subst}
+use Rattle.std.proofs.Common.{◌∙◌, [], ap, refl}
 use Rattle.st_model.specs.declared.branch.Branch.{Branch}
 use Rattle.st_model.specs.declared.tree.Tree.{Tree}
-use Rattle.st_model.specs.Arborescence.{IsTree}
-use Rattle.st_model.specs.Network.{Network}
-use Rattle.graph_store.specs.Graph.{Graph}
 use Rattle.tree_heuristic.proofs.Found.{none_required, spread_tree, found_wall, start_in}
 use Rattle.tree_heuristic.proofs.walls.store_wall.Goals as goal
 

@@ -14,7 +14,7 @@ use Rattle.worker_loop.specs.declared.team.Slot.{Slot}
 use Rattle.worker_loop.specs.Progress.{IsUnused}
 use Rattle.worker_loop.specs.Slots.{AreSeated, account_of, pass_of, segment_of, sight_of}
 use Rattle.worker_loop.specs.Team.{IsSearched}
-use Rattle.worker_loop.proofs.Searching.{IsClosedTeam, IsTotal, all_unused, same_incumbents, same_ledgers, searched_so, still_a_pool}
+use Rattle.worker_loop.proofs.Searching.{IsClosedTeam, IsTotal, all_unused, same_incumbents, same_ledgers, searched_so, sites_all, still_a_pool}
 use Rattle.worker_loop.proofs.running.searched.Goals as goal
 
 pub run_team-requires-clause-unused : goal.run_team-requires-clause-unused
@@ -29,7 +29,7 @@ run_team-requires-clause-unused g c κs within =
     let accounts = subst (All (λ (u : Account). u ≡ new_account L allowed)) (sym c.in_ok-team.ensures.accounts) c.in_ok-ledger.ensures.seats in
     let sights = subst (λ (n : ℕ). All (λ (m : Sight). m ≡ new_sight M n) (map sight_of team)) c.requires.first
     (subst (All (λ (m : Sight). m ≡ new_sight M c.args.first)) (sym c.in_ok-team.ensures.sights) c.in_ok-incumbent.ensures.seats) in
-    subst (All (λ (s : Slot Q). IsUnused start s.worker)) (sym same) (all_unused L M allowed start c.args.workers 0 team c.requires.few.0 c.in_ok-team.ensures.seats accounts sights)
+    subst (All (λ (s : Slot Q). IsUnused start s.worker)) (sym same) (all_unused L M allowed start c.args.workers c.args.links 0 team c.requires.few.0 c.in_ok-team.ensures.seats accounts sights)
 
 pub close-requires : goal.close-requires
 close-requires g c =
@@ -71,8 +71,8 @@ close-least-requires-clause-own g c =
     (subst (All (λ (m : Sight). m ≡ new_sight M c.args.first)) (sym was) c.in_ok-incumbent.ensures.seats) in
     subst (All (λ (m : Sight). m.incumbent ≡ M)) (sym back) (same_incumbents g.Q.Aim.instance g.Q.Aim.branch g.Q.Aim.start M before after long c.run_team.ensures new)
 
-pub returns : goal.returns
-returns g c =
+pub returns-clause-searched : goal.returns-clause-searched
+returns-clause-searched g c =
     let I = g.Q.Aim.instance in
     let R = g.Q.Aim.branch in
     let start = g.Q.Aim.start in
@@ -87,7 +87,7 @@ returns g c =
     let long : length after ≡ length before = search rules in
     let all : take c.in_ok-team.team.len (after ++ drop (length after) c.in_ok-team.team.items) ≡ after = written after (drop (length after) c.in_ok-team.team.items) c.in_ok-team.team.len
     (sym (long ∙ c.as_mut_slice.ensures.len)) in
-    let seated = subst (AreSeated c.args.workers 0) (sym same) c.in_ok-team.ensures.seats in
+    let seated = subst (AreSeated c.args.workers c.args.links 0) (sym same) c.in_ok-team.ensures.seats in
     let passes : map pass_of before ≡ c.in_ok-passes.passes.items = search rules in
     let count : length before ≡ c.args.workers = sym (length-map before pass_of) ∙ (ap (λ (ps : List Station). length ps) passes ∙ c.in_ok-passes.ensures.count) in
     let passes_back : back.passes.items ≡ map pass_of after = c.in_ok-returned.ensures.passes ∙ ap (λ (ss : List (Slot g.row.Q.Denot)). map pass_of ss) all in
@@ -119,8 +119,21 @@ returns g c =
           (subst (λ (n : ℕ). least ≡ least_of n (all_offers back.sights.items)) start_is c.close-least.ensures.least);
       seen = subst (All (λ (m : Sight). least ≤ m.lowest)) sights_back c.close-least.ensures.seen;
     } in
-    let so = searched_so I R start c.args.budget allowed c.args.workers before after back.segments.items queued least totals.opened totals.claimed c.requires.few.1 count long seated
+    let so = searched_so I R start c.args.budget allowed c.args.workers c.args.links before after back.segments.items queued least totals.opened totals.claimed c.requires.few.1 count long seated
     c.run_team.ensures found is_allowed
     (λ e. c.if-totals-eq-MOST_CLAIMS.false e) closed in
     subst (λ (Ns : List Node). IsSearched (record { segments = c.of.result; queued = Ns; least = least; claimed = totals.claimed }) I R start c.args.budget) (sym c.of-2.ensures)
     (subst (λ (ss : List Segment). IsSearched (record { segments = ss; queued = queued; least = least; claimed = totals.claimed }) I R start c.args.budget) (sym c.of.ensures) so)
+
+pub returns-clause-sites : goal.returns-clause-sites
+returns-clause-sites g c =
+    let before = c.as_mut_slice.result.now in
+    let after = c.run_team.new.team in
+    let back = c.in_ok-returned.returned in
+    let same : before ≡ c.in_ok-team.team.items = search rules in
+    let long : length after ≡ length before = search rules in
+    let all : take c.in_ok-team.team.len (after ++ drop (length after) c.in_ok-team.team.items) ≡ after = written after (drop (length after) c.in_ok-team.team.items) c.in_ok-team.team.len
+    (sym (long ∙ c.as_mut_slice.ensures.len)) in
+    let seated = subst (AreSeated c.args.workers c.args.links 0) (sym same) c.in_ok-team.ensures.seats in
+    let found : map Some back.segments.items ≡ map segment_of after = c.in_ok-returned.ensures.segments ∙ ap (λ (ss : List (Slot g.row.Q.Denot)). map segment_of ss) all in
+    rw c.of.ensures (sites_all g.Q.Aim.instance g.Q.Aim.branch g.Q.Aim.start c.args.workers c.args.links 0 before after back.segments.items seated long c.run_team.ensures found)

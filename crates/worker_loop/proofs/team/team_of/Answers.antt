@@ -19,12 +19,13 @@ loop-seat-preserved g c =
     let sight : w.best ≡ c.in-Some-next-2.sight = search rules in
     let seat : w.seat ≡ c.loop-seat.seat = search rules in
     let workers : w.workers ≡ c.args.workers = search rules in
+    let links : w.links ≡ c.args.links = search rules in
     let next : w.next ≡ 1 + c.loop-seat.seat = search rules in
     let here : 0 + length team ≡ c.loop-seat.seat = omega (arith, i.count) in
-    let one : IsSeated c.args.workers (0 + length team) s = subst (λ (k : ℕ). IsSeated c.args.workers k s) (sym here) (record { seat_is = seat; workers_are = workers; next = next }) in
+    let one : IsSeated c.args.workers c.args.links (0 + length team) s = subst (λ (k : ℕ). IsSeated c.args.workers c.args.links k s) (sym here) (record { seat_is = seat; workers_are = workers; links_are = links; next = next }) in
     record {
       count = ap (λ (ss : List (Slot g.row.Q.Denot)). length ss) more ∙ (length-append team (s ∷ []) ∙ ap (λ (k : ℕ). k + 1) i.count);
-      seats = subst (AreSeated c.args.workers 0) (sym more) (seated_push c.args.workers 0 team s i.seats one);
+      seats = subst (AreSeated c.args.workers c.args.links 0) (sym more) (seated_push c.args.workers c.args.links 0 team s i.seats one);
       pass_items = made_of_next pass_of team c.push.new.self.items s c.loop-seat.passes.rest.items c.next.new.self.rest.items c.args.passes.items c.in-Some.pass more passes pass i.pass_items;
       account_items = made_of_next account_of team c.push.new.self.items s c.loop-seat.accounts.rest.items c.next-in-loop-seat.new.self.rest.items c.args.accounts.items c.in-Some-next.account more
           accounts account i.account_items;

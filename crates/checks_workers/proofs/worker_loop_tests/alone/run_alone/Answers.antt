@@ -28,5 +28,5 @@ run-requires-clause-ready g c κs within =
     record {
       whole = c.requires.whole;
       aim = c.requires.aim;
-      unused = unused_one L M 100 g.Q.Aim.start 1 0 s (omega arith) (record { seat_is = search rules; workers_are = search rules; next = search rules }) account_is sight_is;
+      unused = unused_one L M 100 g.Q.Aim.start 1 0 s (omega arith) (record { seat_is = search rules; workers_are = search rules; links_are = search rules; next = search rules }) account_is sight_is;
     }

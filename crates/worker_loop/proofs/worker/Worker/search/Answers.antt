@@ -1,9 +1,12 @@
-use Rattle.std.proofs.Common.{rules, ◌≡◌, ◌≤◌, ◌∷◌, [], List, length, refl, sym, ap, subst, arith}
+use Rattle.std.proofs.Common.{rules, ◌≡◌, Bool, ◌≤◌, ◌∷◌, [], List, length, refl, sym, ap, subst, arith}
+use Rattle.std.specs.Prelude.{All}
 use Rattle.std.specs.Option.{option_to_list}
+use Rattle.std.proofs.lemmas.List.Elements.{All-nil}
 use Rattle.branching.specs.declared.node.Node.{Node}
 use Rattle.incumbent.specs.Seat.{Known as Sight}
 use Rattle.open_ledger.specs.Seat.{Known as Account}
 use Rattle.worker_loop.specs.Progress.{HasTurned, HasWorked, moment}
+use Rattle.worker_loop.specs.Run.{IsAllowed}
 use Rattle.worker_loop.proofs.Progressing.{begun, in_hand, ran_so, reseated, same_worker, seated_back}
 use Rattle.worker_loop.proofs.worker.Worker.search.Goals as goal
 
@@ -14,11 +17,12 @@ loop-init g c =
     let k = c.begin-work in (
       tt,
       tt,
-      record { seat = refl; workers = refl; pass = (refl, refl); ledger = refl; best = ap (λ (m : Sight). m.incumbent) c.see.ensures.seen },
+      record { seat = refl; workers = refl; links = refl; pass = (refl, refl); ledger = refl; best = ap (λ (m : Sight). m.incumbent) c.see.ensures.seen },
       ap (λ (u : Account). u.tally.refused) new.account,
       begun g.Q.Aim.instance g.Q.Aim.branch g.Q.Aim.start w.seat w.workers w.next c.see.result w.pass w.ledger w.best c.see.new.self k.result new.some new.next new.account new.sight
           c.see.ensures.at_most c.see.ensures.seen k.ensures.done k.ensures.best
           k.ensures.seen,
+      subst (All (IsAllowed w.links)) (sym k.ensures.done) (All-nil (IsAllowed w.links)),
     )
 
 pub turn-requires-clause-node : goal.turn-requires-clause-node
@@ -55,6 +59,7 @@ loop-preserved g c =
       same_worker w taken c.turn.new.self same c.turn.ensures.same,
       turned.1,
       seated_back I R start w taken w.pass m (option_to_list c.in-Next.half) same turned.0,
+      subst (λ (l : Bool). All (IsAllowed l) c.turn.new.work.done.items) same.links (c.in_ok-half-in-Ok.ensures.sites (subst (λ (l : Bool). All (IsAllowed l) c.loop.work.done.items) (sym same.links) i.5)),
     )
 
 pub returns-in-Left-clause-run : goal.returns-in-Left-clause-run
@@ -95,3 +100,14 @@ returns-in-Err-clause-run g c =
     let few : length left ≤ 1 = subst (λ (Ns : List Node). length Ns ≤ 1) (sym none) (omega arith) in
     ran_so I R start w.seat w.workers w.pass taken.pass taken.ledger taken.best taken.next c.loop.work left c.in-Err.end c.ended-in-Err.result c.ended-in-Err.ensures few c.in-Err.ensures.next.0
     done
+
+pub returns-in-Left-clause-sites : goal.returns-in-Left-clause-sites
+returns-in-Left-clause-sites g c =
+    let i = c.loop.invariant in
+    let w = c.args.self.now in
+    let same = same_worker w c.loop.self c.next_node.new.self i.2 c.next_node.ensures.same in
+    let sites = subst (λ (l : Bool). All (IsAllowed l) c.turn.new.work.done.items) same.links (c.in_ok-half-in-Ok.ensures.sites (subst (λ (l : Bool). All (IsAllowed l) c.loop.work.done.items) (sym same.links) i.5)) in
+    rw c.ended.ensures sites
+
+pub returns-in-Err-clause-sites : goal.returns-in-Err-clause-sites
+returns-in-Err-clause-sites g c = rw c.ended-in-Err.ensures c.loop.invariant.5
