@@ -96,8 +96,14 @@ fn triangle_with_barred(alloc: Global) -> Result<Arcs, AllocError>
     ensures { IfOk result (λ arcs. arcs.n ≡ 4) }
 {
     let store = store_of_triangle(alloc)?;
-    let sides = Sides::of(alloc, Branch::all(alloc).with_barred(alloc, 2, 4)?)?;
+    let sides = without_spoke(alloc)?;
     Arcs::of(alloc, &store, &sides, 1)
+}
+
+// The branch with that link barred.
+fn without_spoke(alloc: Global) -> Result<Sides, AllocError> {
+    let branch = Branch::all(alloc).with_barred(alloc, 2, 4)?;
+    Sides::of(alloc, branch)
 }
 
 // Whether no arc joins 2 and 4, and all others are there.

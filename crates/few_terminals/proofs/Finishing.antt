@@ -246,9 +246,9 @@ pub record IsFilledTo (I : Network) (ks : List ℕ) (es : List Meaning) (vs : Li
   pub parts : HaveParts I ks es
   pub place : length rows ≡ bits
 
-pub filled_none : (I : Network) (ks : List ℕ) (es : List Meaning) (vs : List ℕ) (rows : List Row) (row : Row) → es ≡ [] → rows ≡ row ∷ [] → row.costs.items ≡ [] → IsFilledTo I ks es vs rows 1
-filled_none I ks es vs rows row none are empty = record {
-  kept = rows_none I ks es vs rows row are empty (λ k known. mask_some ks k known);
+pub filled_none : (I : Network) (ks : List ℕ) (es : List Meaning) (vs : List ℕ) (table : List Row) (row : Row) → es ≡ [] → table ≡ row ∷ [] → row.costs.items ≡ [] → IsFilledTo I ks es vs table 1
+filled_none I ks es vs table row none are empty = record {
+  kept = rows_none I ks es vs table row are empty (λ k known. mask_some ks k known);
   parts = λ place within. absurd (let long = ap length none in omega (arith, long, within));
   place = ap length are;
 }
