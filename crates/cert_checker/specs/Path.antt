@@ -1,4 +1,4 @@
--- The way from the branch of all trees to one of the open branches. Helpers' clauses cite this, and no public one.
+-- The way from the branch of all trees to one of the open branches. The clauses of `Path` and of helpers cite this, and no other public one.
 use Rattle.std.specs.Prelude.{◌≡◌, ℕ, ◌-◌, nat_lt, Bool, not, if◌then◌else◌, List, [], ◌∷◌, length, take, Option, Some, None, map, reverse}
 use Rattle.std.specs.List.{prefix_len}
 use Rattle.std.specs.List.Sorted.{IsNonDecreasing}

@@ -2,7 +2,8 @@
 //!
 //! `check` reads an STP file and a log, and says what may be concluded. A `Checker` does so of a log
 //! that comes in pieces. A caller may rely on both directions, a verdict exactly where the log is
-//! accepted and else the first fault, and on the verdict, which is true of all trees.
+//! accepted and else the first fault, and on the verdict, which is true of all trees. A `Path` walks
+//! over the lines of a proof, for who reads one that was accepted.
 #![tactic(auto)]
 
 mod checker;
@@ -27,4 +28,5 @@ pub use checker::Checker;
 pub use checking::check;
 pub use fault::CheckFault;
 use fault::JudgeError;
+pub use path::Path;
 pub use verdict::{Checked, Verdict};

@@ -41,7 +41,7 @@ impl Path {
         }
     }
 
-    // The path to the branch of the trees that reach none of these.
+    /// The path to the branch of the trees that reach none of these.
     pub fn leaving_out(alloc: Global, vertices: &[u32]) -> Result<Self, AllocError>
         ensures { IfOk result (λ path. path ≡ leaving_out vertices.now) }
     {
@@ -52,7 +52,7 @@ impl Path {
         Ok(path)
     }
 
-    // The branch that the path leads to.
+    /// The branch that the path leads to.
     pub fn branch(&self) -> &Branch
         ensures { result.now ≡ branch_of self.now }
     {
@@ -71,7 +71,7 @@ impl Path {
         })
     }
 
-    // The path to the half of its branch that says yes to a split.
+    /// The path to the half of its branch that says yes to a split.
     pub fn split(self, at: SplitAt) -> Result<Self, AllocError>
         ensures { IfOk result (λ next. next ≡ yes_path self at) }
     {
@@ -108,7 +108,7 @@ impl Path {
         Some((turn, Path { turns, branch }))
     }
 
-    // The path to the next branch that waits, where the one at its end is done with.
+    /// The path to the next branch that waits, where the one at its end is done with. None: none waits.
     pub fn close(self) -> Result<Option<Self>, AllocError>
         requires { TellEnds self }
         ensures { IfOk result (λ next. next ≡ next_path self) }

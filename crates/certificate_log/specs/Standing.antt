@@ -1,4 +1,4 @@
--- What stands under the ids of what was gathered. Helpers' clauses cite this, and no public one.
+-- What stands under the ids of what was gathered. Of this the clauses of `proof_lines` cite `StandsOnce`, and no public one cites the rest.
 use Rattle.std.specs.Prelude.{◌≡◌, ℕ, ◌≤◌, List, [], ◌∷◌, ◌++◌, Some, IsSome, Contains, nat_eq}
 use Rattle.indexmap.specs.IndexMap.{get}
 use Rattle.branching.specs.declared.node.Node.{Node}

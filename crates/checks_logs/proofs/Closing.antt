@@ -13,11 +13,12 @@ use Rattle.cut_packing.specs.Packing.{ArcsFit, CutFits, Fits, PrizesFit, load}
 use Rattle.search_core.specs.declared.done.Done.{Done}
 use Rattle.search_core.specs.declared.done.Done.TheVariants.{Split, Close}
 use Rattle.search_core.specs.Complete.{IsComplete, IsMade, IsRightNode, IsRightRecord, IsRightSegment, inside_of, outside_of, root, times}
-use Rattle.checks_logs.specs.Halved.{all_done, halved, no_cut, round_2, two}
+use Rattle.search_core.specs.State.{no_cuts}
+use Rattle.checks_logs.specs.Halved.{all_done, halved, round_2, two}
 
 -- no cut fits any branch
-no_cut_fits : (I : Network) (B : Branch) → Fits I B no_cut
-no_cut_fits I B = record { root = refl; cuts = All-nil (CutFits I B); arcs = λ u v a b. any_cost (open_link I B u v); prizes = λ q a b. omega arith }
+no_cuts_fit : (I : Network) (B : Branch) → Fits I B no_cuts
+no_cuts_fit I B = record { root = refl; cuts = All-nil (CutFits I B); arcs = λ u v a b. any_cost (open_link I B u v); prizes = λ q a b. omega arith }
   where
     any_cost : (o : Option ℕ) → IfSome o (λ price. 0 ≤ price)
     any_cost None = tt
@@ -71,25 +72,25 @@ round_2_fits = record {
 -- ---- the whole
 
 made_2 : IsMade all_trees all_done 2 barred
-made_2 = outside_of {P = no_cut} (0, omega arith, refl) root
+made_2 = outside_of {P = no_cuts} (0, omega arith, refl) root
 
 abbrev IsRight : Done → Type 0
 IsRight = IsRightRecord two all_trees 6 all_done 5
 
-root_splits : IsRight (Split 0 (Link 1 2) 1 2 no_cut)
-root_splits = (all_trees, record { made = root; vertex = record { ordered = omega arith; linked = refl; low = refl; high = refl; no_must = refl; unbarred = refl }; packing = record { fits = no_cut_fits two all_trees; full = inr none_is_certain } })
+root_splits : IsRight (Split 0 (Link 1 2) 1 2 no_cuts)
+root_splits = (all_trees, record { made = root; vertex = record { ordered = omega arith; linked = refl; low = refl; high = refl; no_must = refl; unbarred = refl }; packing = record { fits = no_cuts_fit two all_trees; full = inr none_is_certain } })
 
-used_closes : IsRight (Close 1 no_cut)
-used_closes = (used, record { made = inside_of {P = no_cut} (0, omega arith, refl) root; packing = record { fits = no_cut_fits two used; weighs = omega arith } })
+used_closes : IsRight (Close 1 no_cuts)
+used_closes = (used, record { made = inside_of {P = no_cuts} (0, omega arith, refl) root; packing = record { fits = no_cuts_fit two used; weighs = omega arith } })
 
-barred_splits : IsRight (Split 2 (Vertex 1) 3 4 no_cut)
-barred_splits = (barred, record { made = made_2; vertex = record { vertex = (omega arith, omega arith); undecided = refl; free = refl }; packing = record { fits = no_cut_fits two barred; full = inr none_is_certain } })
+barred_splits : IsRight (Split 2 (Vertex 1) 3 4 no_cuts)
+barred_splits = (barred, record { made = made_2; vertex = record { vertex = (omega arith, omega arith); undecided = refl; free = refl }; packing = record { fits = no_cuts_fit two barred; full = inr none_is_certain } })
 
 with_1_closes : IsRight (Close 3 round_2)
-with_1_closes = (with_1, record { made = inside_of {P = no_cut} (2, omega arith, refl) made_2; packing = record { fits = round_2_fits; weighs = omega arith } })
+with_1_closes = (with_1, record { made = inside_of {P = no_cuts} (2, omega arith, refl) made_2; packing = record { fits = round_2_fits; weighs = omega arith } })
 
-without_1_closes : IsRight (Close 4 no_cut)
-without_1_closes = (without_1, record { made = outside_of {P = no_cut} (2, omega arith, refl) made_2; packing = record { fits = no_cut_fits two without_1; weighs = omega arith } })
+without_1_closes : IsRight (Close 4 no_cuts)
+without_1_closes = (without_1, record { made = outside_of {P = no_cuts} (2, omega arith, refl) made_2; packing = record { fits = no_cuts_fit two without_1; weighs = omega arith } })
 
 right_records : All IsRight all_done
 right_records = All-from_recursion IsRight all_done (root_splits, (used_closes, (barred_splits, (with_1_closes, (without_1_closes, tt)))))

@@ -1,2 +1,2 @@
-pub mod Complete
 pub mod Closing
+pub mod Proving

@@ -8,14 +8,12 @@ use Rattle.search_core.specs.declared.done.Done.{Done}
 use Rattle.search_core.specs.declared.done.Done.TheVariants.{Split, Close}
 use Rattle.search_core.specs.declared.done.End.TheVariants.{OpenZero}
 use Rattle.search_core.specs.declared.gathered.Gathered.{Gathered}
+use Rattle.search_core.specs.State.{no_cuts}
 use Rattle.test_instances.specs.Named.{network_of_pair}
 
 -- two vertices at 5 from each other, where it costs 9 to leave one out
 abbrev pub two : Network
 two = network_of_pair (Pays 9) (Pays 9)
-
-abbrev pub no_cut : Packing
-no_cut = record { root = None; cuts = [] }
 
 -- one cut round 2, which it names
 abbrev pub round_2 : Packing
@@ -23,7 +21,7 @@ round_2 = record { root = Some 1; cuts = record { set = 2 ∷ []; q = 2; y = 5 }
 
 -- with the link a node closes by what that costs; without it, one with 1 by the cut, and one without 1 by what 1 pays
 abbrev pub all_done : List Done
-all_done = Split 0 (Link 1 2) 1 2 no_cut ∷ Close 1 no_cut ∷ Split 2 (Vertex 1) 3 4 no_cut ∷ Close 3 round_2 ∷ Close 4 no_cut ∷ []
+all_done = Split 0 (Link 1 2) 1 2 no_cuts ∷ Close 1 no_cuts ∷ Split 2 (Vertex 1) 3 4 no_cuts ∷ Close 3 round_2 ∷ Close 4 no_cuts ∷ []
 
 -- one worker did it, and nothing waits
 abbrev pub halved : Gathered

@@ -1,61 +1,25 @@
-ghost use Rattle.std.specs.Prelude.{◌≡◌, ℕ, IfOk};
+ghost use Rattle.std.specs.Prelude.{◌≡◌, ℕ, [], IfOk};
 ghost use Rattle.st_model.specs.Arborescence.{IsTree, cost};
 ghost use Rattle.st_model.specs.Branch.{all_trees};
 ghost use Rattle.st_model.specs.Network.{IsInstance};
-ghost use Rattle.log_format.specs.Text.{IsLog, IsWritablePacking};
+ghost use Rattle.lift_back.specs.State.{whole};
+ghost use Rattle.log_format.specs.Text.{IsWritablePacking};
 ghost use Rattle.search_core.specs.Complete.{AllPackings, IsComplete};
-ghost use Rattle.search_core.specs.State.{root_of};
-ghost use Rattle.checks_logs.specs.Halved.{no_cut};
-ghost use Rattle.checks_logs.specs.Waiting.{waiting_root};
+ghost use Rattle.certificate_log.specs.Assembled.{IsAssembled};
 
-use branching::Node;
 use certificate_log::assemble;
-use cut_packing::Packing;
 use lift_back::Reduced;
 use log_format::{Claim, Log, Version};
-use search_core::Gathered;
+use search_core::{Gathered, no_cuts};
 use st_model::{Branch, Instance, Listed, Tree, is_tree, tree_cost};
 use std::alloc::{AllocError, Global};
 use std::test::Fail;
 use test_instances::triangle_with_centre;
 
-mod links;
-
-// A packing without cuts.
-fn no_cut(alloc: Global) -> Packing
-    ensures { result ≡ no_cut }
-{
-    Packing {
-        root: None,
-        cuts: Listed::of(Vec::new(alloc)),
-    }
-}
-
-// The node of all trees, with no cut.
-fn root(alloc: Global) -> Node
-    ensures { result ≡ root_of all_trees }
-{
-    Node {
-        id: 0,
-        branch: Branch::all(alloc),
-        packing: no_cut(alloc),
-    }
-}
-
-// What is gathered where nothing was worked on, and the least cost known is this.
-fn unsearched(alloc: Global, least: u64) -> Result<Gathered, AllocError>
-    ensures { IfOk result (λ gathered. gathered ≡ waiting_root least) }
-{
-    Ok(Gathered {
-        segments: Listed::of(Vec::new(alloc)),
-        queued: Listed::of(vec![in alloc; root(alloc)]?),
-        least,
-        claimed: 0,
-    })
-}
+pub mod links;
 
 // The log of a search of an instance where no step was taken, with a tree of the least cost.
-fn assembled(
+pub fn assembled(
     alloc: Global,
     instance: &Instance,
     tree: &Tree,
@@ -66,7 +30,7 @@ fn assembled(
     requires cost { gathered.now.least ≡ cost instance.now tree.now }
     requires complete { (start : ℕ) × (budget : ℕ) × IsComplete gathered.now instance.now all_trees start budget }
     requires writable { AllPackings IsWritablePacking gathered.now }
-    ensures { IfOk result (λ log. IsLog log) }
+    ensures { IfOk result (IsAssembled [] instance.now (whole instance.now) gathered.now) }
 {
     let reduced = Reduced::of(alloc, instance)?;
     let log = assemble(alloc, Vec::new(alloc), &reduced, tree, gathered)?;
@@ -103,7 +67,8 @@ fn certifies_the_centre(alloc: Global) -> Result<bool, AllocError> {
     if !is_tree(alloc, &instance, &tree)? {
         return Ok(false);
     }
-    let gathered = unsearched(alloc, tree_cost(&instance, &tree))?;
+    let least = tree_cost(&instance, &tree);
+    let gathered = Gathered::untouched(alloc, &Branch::all(alloc), no_cuts(alloc), least)?;
     let log = assembled(alloc, &instance, &tree, &gathered)?;
     Ok(claims_nothing(&log, 6))
 }

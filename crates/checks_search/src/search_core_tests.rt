@@ -10,6 +10,7 @@ mod book;
 mod draft;
 mod drawing;
 mod drawn;
+mod going_on;
 mod ground;
 mod links;
 mod notes;

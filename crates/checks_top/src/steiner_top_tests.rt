@@ -16,13 +16,14 @@ mod lines;
 mod links;
 mod meeting;
 mod reduced;
+mod resumes;
 mod solves;
 mod twice;
 mod verified;
 mod worked;
 
 const USAGE: &str =
-    "usage: steiner solve FILE [--workers W] [--nodes N] [--log NAME] [--plain] [--links] | check FILE LOG | gen SEED N M T [--prizes] | trial SEED N M T [--workers W] | few FILE | verify FILE SOLUTION\n";
+    "usage: steiner solve FILE [--workers W] [--nodes N] [--log NAME] [--plain] [--links] | check FILE LOG | gen SEED N M T [--prizes] | trial SEED N M T [--workers W] | few FILE | verify FILE SOLUTION | resume FILE LOG [--workers W] [--nodes N] [--log NAME]\n";
 
 /// A triangle of required vertices with sides of cost 4, and a centre at cost 2 from each. The
 /// lines of a test's text stand apart by ` / `, and H stands for the header.

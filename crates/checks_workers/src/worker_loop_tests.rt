@@ -2,6 +2,7 @@ ghost use Rattle.std.specs.Prelude.{◌<◌, ◌≤◌};
 
 use alone::brought_alone;
 use gates::{CountingGate, MeetingGate};
+use going_on::go_on_without;
 use graph_store::Whole;
 use search_core::End;
 use st_model::{Instance, Need};
@@ -16,6 +17,7 @@ use worker_loop::OpenGate;
 mod alone;
 mod brute_force;
 mod gates;
+mod going_on;
 mod starting;
 
 // A budget, and how a search of a whole instance ends within it: the least value, how many nodes it
@@ -69,6 +71,36 @@ fn around<R: Threads + Wait + Sync>(rt: &R, alloc: Global) -> Result<Option<Outc
 fn avoids_the_centre(rt: HostRuntime) -> Result<(), Fail> {
     let got = around(&rt, rt.alloc())?.ok_or("no tree")?;
     assert_eq!(rt; (got.least, got.waiting), (8, 0));
+    Ok(())
+}
+
+// How a search ends that goes on from the trees of the triangle that avoid its centre.
+fn goes_on_around<R: Threads + Wait + Sync>(
+    rt: &R,
+    alloc: Global,
+    start_cost: u64,
+    budget: u64,
+) -> Result<Option<(u64, usize)>, AllocError> {
+    let whole = Whole::of(alloc, triangle_with_centre(alloc, 4)?)?;
+    let found = go_on_without(rt, alloc, &whole, 4, start_cost, budget)?;
+    Ok(found.map(|end| (end.least, end.waiting)))
+}
+
+// A dearer start is bettered, a cheaper one proved within the branch, and without a budget all waits.
+#[test]
+fn goes_on_from_a_node(rt: HostRuntime) -> Result<(), Fail> {
+    for (start_cost, budget, least, waiting) in [
+        (100, 9, 8, 0),
+        (8, 9, 8, 0),
+        (7, 9, 7, 0),
+        (100, 0, 100, 1),
+    ] {
+        assert_eq!(rt;
+            goes_on_around(&rt, rt.alloc(), start_cost, budget)?,
+            Some((least, waiting)),
+            "from {start_cost} within {budget}"
+        );
+    }
     Ok(())
 }
 

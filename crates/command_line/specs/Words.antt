@@ -50,12 +50,16 @@ few_app = with_rule (new_app (codes "few")) (place (codes "FILE"))
 abbrev pub verify_app : App
 verify_app = with_rule (with_rule (new_app (codes "verify")) (place (codes "FILE"))) (place (codes "SOLUTION"))
 
--- the six commands, of which one stands
+-- `resume FILE LOG [--workers W] [--nodes N] [--log NAME]`
+abbrev pub resume_app : App
+resume_app = with_rule (with_rule (with_rule (with_rule (with_rule (new_app (codes "resume")) (place (codes "FILE"))) (place (codes "LOG"))) (option (codes "workers"))) (option (codes "nodes"))) (option (codes "log"))
+
+-- the seven commands, of which one stands
 abbrev pub no_command : App
 no_command = on_top (λ s. record s { no_binary_name = true }) (new_app (codes "steiner"))
 
 abbrev pub program : App
-program = with_subcommand (with_subcommand (with_subcommand (with_subcommand (with_subcommand (with_subcommand no_command solve_app.top) check_app.top) gen_app.top) trial_app.top) few_app.top) verify_app.top
+program = with_subcommand (with_subcommand (with_subcommand (with_subcommand (with_subcommand (with_subcommand (with_subcommand no_command solve_app.top) check_app.top) gen_app.top) trial_app.top) few_app.top) verify_app.top) resume_app.top
 
 -- ---- what the words mean
 
@@ -100,6 +104,14 @@ pub record VerifyWords : Type 0 where
   pub file : Text
   pub solution : Text
 
+-- a file, and a log of it that is to be gone on from, by so many workers and at most so many nodes; and where the new log is kept
+pub record ResumeWords : Type 0 where
+  pub file : Text
+  pub log_name : Text
+  pub workers : ℕ
+  pub nodes : ℕ
+  pub save_name : Option Text
+
 pub data Command : Type 0 where
   solve : SolveWords → Command
   check : CheckWords → Command
@@ -107,6 +119,7 @@ pub data Command : Type 0 where
   trial : TrialWords → Command
   few : FewWords → Command
   verify : VerifyWords → Command
+  resume : ResumeWords → Command
 
 -- a hyphen stands in front
 abbrev pub is_hyphened : Text → Bool
@@ -189,6 +202,16 @@ verify_of rows = do
   solution ← name_of (first_of (codes "SOLUTION") rows)
   Some (record { file = file; solution = solution })
 
+-- what the words after `resume` mean: LOG is the place, and log the option
+unfoldable pub resume_of : List Row → Option ResumeWords
+resume_of rows = do
+  file ← name_of (first_of (codes "FILE") rows)
+  log ← name_of (first_of (codes "LOG") rows)
+  workers ← number_of 1 1 64 (first_of (codes "workers") rows)
+  nodes ← number_of 1000000 0 1000000 (first_of (codes "nodes") rows)
+  save ← optional_name_of (first_of (codes "log") rows)
+  Some (record { file = file; log_name = log; workers = workers; nodes = nodes; save_name = save })
+
 -- what a subcommand with these arguments means
 abbrev pub meant : Text × List Row → Option Command
 meant (name, rows) =
@@ -197,7 +220,8 @@ meant (name, rows) =
     if bytes_eq name (codes "gen") then (gen_of rows >>= λ words. Some (gen words)) else (
     if bytes_eq name (codes "trial") then (trial_of rows >>= λ words. Some (trial words)) else (
     if bytes_eq name (codes "few") then (few_of rows >>= λ words. Some (few words)) else (
-    if bytes_eq name (codes "verify") then (verify_of rows >>= λ words. Some (verify words)) else None)))))
+    if bytes_eq name (codes "verify") then (verify_of rows >>= λ words. Some (verify words)) else (
+    if bytes_eq name (codes "resume") then (resume_of rows >>= λ words. Some (resume words)) else None))))))
 
 -- what the words mean: clap takes them for the program, and the names and numbers are in form
 unfoldable pub command_of : List Text → Option Command

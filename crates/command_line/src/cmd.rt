@@ -9,6 +9,7 @@ pub enum Cmd<'a> {
     Trial(TrialWords),
     Few(FewWords<'a>),
     Verify(VerifyWords<'a>),
+    Resume(ResumeWords<'a>),
 }
 
 /// `solve FILE [--workers W] [--nodes N] [--log NAME] [--plain] [--links]`.
@@ -90,4 +91,19 @@ pub struct VerifyWords<'a> {
     pub file: &'a str,
     /// The name of the solution.
     pub solution: &'a str,
+}
+
+/// `resume FILE LOG [--workers W] [--nodes N] [--log NAME]`.
+#[derive(Clone, Copy, Debug, PartialEq, Eq)]
+pub struct ResumeWords<'a> {
+    /// The name of the STP file.
+    pub file: &'a str,
+    /// The name of the log that is gone on from.
+    pub log_name: &'a str,
+    /// How many workers search, 1 to 64; 1 where the words don't say.
+    pub workers: u32,
+    /// How many nodes may be expanded, at most 1,000,000; all of these where the words don't say.
+    pub nodes: u64,
+    /// The name under which the new log is saved, if it is.
+    pub save_name: Option<&'a str>,
 }

@@ -12,6 +12,7 @@ mod parse;
 mod program;
 
 pub use cmd::{
-    CheckWords, Cmd, DrawWords, FewWords, GenWords, SolveWords, TrialWords, VerifyWords,
+    CheckWords, Cmd, DrawWords, FewWords, GenWords, ResumeWords, SolveWords, TrialWords,
+    VerifyWords,
 };
 pub use parse::{WordFault, read_words};

@@ -1,11 +1,13 @@
 ghost use Rattle.std.specs.Prelude.{◌≡◌, ◌-◌, ◌^◌, ◌<◌, ◌≤◌, IfSome, option_map, option_copied};
 ghost use Rattle.clap.specs.Matches.{found_of};
 ghost use Rattle.clap.specs.Walk.{first_of, rows_of};
-ghost use Rattle.command_line.specs.Seen.{solve_words, check_words, draw_words, gen_words, trial_words, few_words, verify_words};
-ghost use Rattle.command_line.specs.Words.{solve_of, check_of, draw_of, gen_of, trial_of, few_of, verify_of};
+ghost use Rattle.command_line.specs.Seen.{solve_words, check_words, draw_words, gen_words, trial_words, few_words, verify_words, resume_words};
+ghost use Rattle.command_line.specs.Words.{solve_of, check_of, draw_of, gen_of, trial_of, few_of, verify_of, resume_of};
 ghost use Rattle.command_line.specs.Words.{name_of, optional_name_of, number_of, needed_number_of, is_set, is_hyphened};
 
-use crate::{CheckWords, DrawWords, FewWords, GenWords, SolveWords, TrialWords, VerifyWords};
+use crate::{
+    CheckWords, DrawWords, FewWords, GenWords, ResumeWords, SolveWords, TrialWords, VerifyWords,
+};
 use clap::ArgMatches;
 use plain_text::number;
 
@@ -175,4 +177,23 @@ pub fn verify_words<'a>(matches: &ArgMatches<'a>) -> Option<VerifyWords<'a>>
     let file = name(word(matches, "FILE"))?;
     let solution = name(word(matches, "SOLUTION"))?;
     Some(VerifyWords { file, solution })
+}
+
+// What the words after `resume` mean.
+#[tactic(auto, unfolding(crate::specs::Words::resume_of))]
+pub fn resume_words<'a>(matches: &ArgMatches<'a>) -> Option<ResumeWords<'a>>
+    ensures { option_map resume_words result ≡ resume_of (rows_of (found_of matches.now)) }
+{
+    let file = name(word(matches, "FILE"))?;
+    let log_name = name(word(matches, "LOG"))?;
+    let workers = number_or(word(matches, "workers"), 1, 1, MAX_WORKERS)?;
+    let nodes = number_or(word(matches, "nodes"), MAX_NODES, 0, MAX_NODES)?;
+    let save_name = optional_name(word(matches, "log"))?;
+    Some(ResumeWords {
+        file,
+        log_name,
+        workers: workers as u32,
+        nodes,
+        save_name,
+    })
 }

@@ -7,7 +7,9 @@ ghost use Rattle.command_line.specs.Seen.{command};
 ghost use Rattle.command_line.specs.Words.{program, command_of, meant};
 
 use crate::Cmd;
-use crate::meaning::{check_words, few_words, gen_words, solve_words, trial_words, verify_words};
+use crate::meaning::{
+    check_words, few_words, gen_words, resume_words, solve_words, trial_words, verify_words,
+};
 use crate::program::program;
 use clap::error::ErrorKind;
 use clap::{ArgMatches, Error};
@@ -79,6 +81,7 @@ fn meant<'a>(matches: &ArgMatches<'a>) -> Option<Cmd<'a>>
         "trial" => Some(Cmd::Trial(trial_words(inner)?)),
         "few" => Some(Cmd::Few(few_words(inner)?)),
         "verify" => Some(Cmd::Verify(verify_words(inner)?)),
+        "resume" => Some(Cmd::Resume(resume_words(inner)?)),
         _ => None,
     }
 }

@@ -1,7 +1,7 @@
 ghost use Rattle.std.specs.Prelude.{◌≡◌, false, IfOk};
 ghost use Rattle.clap.specs.Words.{app_of, rule_of, with_rule, with_subcommand};
 ghost use Rattle.clap.specs.declared.builder.command.Command.TheViews.{out-Command};
-ghost use Rattle.command_line.specs.Words.{program, solve_app, check_app, gen_app, trial_app, few_app, verify_app, draw_app, place, option, flag};
+ghost use Rattle.command_line.specs.Words.{program, solve_app, check_app, gen_app, trial_app, few_app, verify_app, resume_app, draw_app, place, option, flag};
 
 use clap::{Arg, ArgAction, Command};
 use std::alloc::{AllocError, Global};
@@ -119,6 +119,20 @@ fn verify<'a>(alloc: Global) -> Result<Command<'a>, AllocError>
     Ok(command)
 }
 
+// `resume FILE LOG [--workers W] [--nodes N] [--log NAME]`
+fn resume<'a>(alloc: Global) -> Result<Command<'a>, AllocError>
+    ensures app { IfOk result (λ c. app_of c ≡ resume_app) }
+    ensures local { IfOk result (λ c. (out-Command c).has_globals ≡ false) }
+{
+    let command = Command::new(alloc, "resume");
+    let command = with(command, place(alloc, "FILE"))?;
+    let command = with(command, place(alloc, "LOG"))?;
+    let command = with(command, option(alloc, "workers"))?;
+    let command = with(command, option(alloc, "nodes"))?;
+    let command = with(command, option(alloc, "log"))?;
+    Ok(command)
+}
+
 // The command with one subcommand more.
 fn with_command<'a>(command: Command<'a>, inner: Command<'a>) -> Result<Command<'a>, AllocError>
     requires { (out-Command inner).has_globals ≡ false }
@@ -139,5 +153,6 @@ pub fn program<'a>(alloc: Global) -> Result<Command<'a>, AllocError>
     let command = with_command(command, trial(alloc)?)?;
     let command = with_command(command, few(alloc)?)?;
     let command = with_command(command, verify(alloc)?)?;
+    let command = with_command(command, resume(alloc)?)?;
     Ok(command)
 }

@@ -495,11 +495,11 @@ counted_keep S w id early h = by_case (is_fresh S w id) refl early.there
         counted_left S w id k.made early.worker k.found (ap is_done k.place) free (λ v at. same_hand v w k.made.place at k.place) h
 
 -- the beginning
-pub counted_beginning : (I : Network) (R : Branch) (workers budget start : ℕ) → IsCounted (beginning I R workers budget start)
-counted_beginning I R workers budget start = record {
+pub counted_beginning : (I : Network) (R : Branch) (P : Packing) (workers budget start : ℕ) → IsCounted (beginning I R P workers budget start)
+counted_beginning I R P workers budget start = record {
   hands = λ w id e. absurd (nothing id (sym (alike (λ (o : Option Worker). option_and_then (λ x. x.hand) o) None workers w refl refl) ∙ e));
   ups = λ w e. absurd (false≢true (sym (alike (λ (o : Option Worker). option_map_or (λ x. x.up) o false) false workers w refl refl) ∙ e));
-  places = All-from_recursion (λ m. claim_fits m.place m.claimed ≡ true) (beginning I R workers budget start).nodes (refl, tt);
+  places = All-from_recursion (λ m. claim_fits m.place m.claimed ≡ true) (beginning I R P workers budget start).nodes (refl, tt);
   claims = refl;
   opened = rw (all_zero (λ (x : Worker). one_if x.up) workers refl, all_zero (λ (x : Worker). x.closes) workers refl) refl;
   bounded = rw (all_zero (λ (x : Worker). x.closes) workers refl) (omega arith);

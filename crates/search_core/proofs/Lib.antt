@@ -8,6 +8,8 @@ pub mod NodeLists
 pub mod Happened
 pub mod Serving
 pub mod Rooted
+pub mod Untouched
+pub mod LeastFound
 pub mod WorkerLists
 pub mod Running
 pub mod Look

@@ -335,9 +335,9 @@ recorded_after S (SeeHalt w) sound counted h allowed = by_test S.halted
 recorded_after S (Halt w) sound counted h allowed = h
 
 -- the beginning
-pub recorded_beginning : (I : Network) (R : Branch) (workers budget start : ℕ) → IsRecorded (beginning I R workers budget start)
-recorded_beginning I R workers budget start =
-    subst (λ (ds : List Done). AreRecorded I R (length (beginning I R workers budget start).workers) (beginning I R workers budget start).nodes ds) (nothing_done workers) first
+pub recorded_beginning : (I : Network) (R : Branch) (P : Packing) (workers budget start : ℕ) → IsRecorded (beginning I R P workers budget start)
+recorded_beginning I R P workers budget start =
+    subst (λ (ds : List Done). AreRecorded I R (length (beginning I R P workers budget start).workers) (beginning I R P workers budget start).nodes ds) (nothing_done workers) first
   where
     nothing_done : (n : ℕ) → [] ≡ all_done (replicate n (new_worker start))
     nothing_done zero = refl
@@ -347,12 +347,12 @@ recorded_beginning I R workers budget start =
     at_most true = omega arith
     at_most false = omega arith
 
-    first : AreRecorded I R (length (beginning I R workers budget start).workers) (beginning I R workers budget start).nodes []
+    first : AreRecorded I R (length (beginning I R P workers budget start).workers) (beginning I R P workers budget start).nodes []
     first = record {
-      made = All-from_recursion (λ m. IsRecordedNode I R [] m.node) (beginning I R workers budget start).nodes (record { made = root; keeps = inl refl }, tt);
+      made = All-from_recursion (λ m. IsRecordedNode I R [] m.node) (beginning I R P workers budget start).nodes (record { made = root; keeps = inl refl }, tt);
       apart = λ id. at_most (0 == id);
       ids = λ id. refl;
       ended = λ id. refl;
       ended_once = refl;
-      places = All-from_recursion (λ (m : Made). IsOfWorker (length (beginning I R workers budget start).workers) m.place) (beginning I R workers budget start).nodes (tt, tt);
+      places = All-from_recursion (λ (m : Made). IsOfWorker (length (beginning I R P workers budget start).workers) m.place) (beginning I R P workers budget start).nodes (tt, tt);
     }

@@ -25,7 +25,6 @@ use Rattle.search_core.proofs.Accounting.{nothing-waits, settled_complete}
 use Rattle.search_core.proofs.Reading.{bounds_lem}
 use Rattle.search_core.proofs.Keeping.{kept_after, kept_beginning}
 use Rattle.search_core.proofs.Early.{split_early, up_early}
-use Rattle.search_core.proofs.Rooted.{root_node}
 
 run_kept : (S : State) (es : List Event) (T : State) → IsKept S → Run S es T → IsKept T
 run_kept S [] T kept run = subst (λ (U : State). IsKept U) (sym run) kept
@@ -36,8 +35,8 @@ run_kept S (e ∷ es) T kept (M, step, run) = run_kept M es T (step_kept step) r
     step_kept (inr (f, fault, is)) = subst (λ (U : State). IsKept U) (sym is) kept
 
 pub events_keep_lem : EventsKeep
-events_keep_lem I R workers budget start es S may run =
-    run_kept (beginning I R workers budget start) es S (kept_beginning I R workers budget start may.instance (root_node I R may.branch may.required)) run
+events_keep_lem I R P workers budget start es S may run =
+    run_kept (beginning I R P workers budget start) es S (kept_beginning I R P workers budget start may.instance may.node) run
 
 -- of one instance, and of the same branch
 record AreAlike (S T : State) : Type 0 where
@@ -74,11 +73,11 @@ run_alike S (e ∷ es) T (M, step, run) =
     step_alike (inr (f, fault, is)) = subst (λ (U : State). AreAlike S U) (sym is) (record { instance = refl; branch = refl })
 
 pub settled_bounds_lem : SettledBounds
-settled_bounds_lem I R workers budget start es S t may run done tree belongs =
-    let kept = events_keep_lem I R workers budget start es S may run in
-    let alike = run_alike (beginning I R workers budget start) es S run in
+settled_bounds_lem I R P workers budget start es S t may run done tree belongs =
+    let kept = events_keep_lem I R P workers budget start es S may run in
+    let alike = run_alike (beginning I R P workers budget start) es S run in
     let mine : IsTree S.instance t = subst (λ (J : Network). IsTree J t) (sym alike.instance) tree in
-    let apart : AreApart S.branch.must = subst (λ (B : Branch). AreApart B.must) (sym alike.branch) may.branch.must.apart in
+    let apart : AreApart S.branch.must = subst (λ (B : Branch). AreApart B.must) (sym alike.branch) may.node.branch.must.apart in
     let member : Belongs S.branch t = subst (λ (B : Branch). Belongs B t) (sym alike.branch) belongs in
     subst (λ (J : Network). S.least ≤ cost J t) alike.instance (bounds_lem (gathered S) S.instance S.branch S.start S.budget t apart (settled_complete S kept done.settled) (nothing-waits S done.none_waits) mine member)
 

@@ -345,8 +345,8 @@ sound_after S (SeeHalt w) kept allowed = by_test S.halted
 sound_after S (Halt w) kept allowed = record { instance = kept.instance; nodes = kept.nodes; workers = kept.workers; least = kept.least; claims = kept.claims }
 
 -- and the beginning does
-pub sound_beginning : (I : Network) (R : Branch) (workers budget start : ℕ) → IsInstance I → IsNode I (root_of R) → IsSound (beginning I R workers budget start)
-sound_beginning I R workers budget start instance root = record { instance = instance; workers = All-replicate (λ x. IsSoundWork I start start (root_of R ∷ []) x.seen x.done) workers (new_worker start) (record { low = omega arith; high = omega arith; records = All-nil (IsSoundRecord I start (root_of R ∷ []) start) }); least = sym (all_start workers); claims = omega arith; nodes = All-from_recursion (λ m. IsNode I m.node) (record { node = root_of R; place = Queue 0; claimed = false } ∷ []) (root, tt) }
+pub sound_beginning : (I : Network) (R : Branch) (P : Packing) (workers budget start : ℕ) → IsInstance I → IsNode I (root_of R P) → IsSound (beginning I R P workers budget start)
+sound_beginning I R P workers budget start instance root = record { instance = instance; workers = All-replicate (λ x. IsSoundWork I start start (root_of R P ∷ []) x.seen x.done) workers (new_worker start) (record { low = omega arith; high = omega arith; records = All-nil (IsSoundRecord I start (root_of R P ∷ []) start) }); least = sym (all_start workers); claims = omega arith; nodes = All-from_recursion (λ m. IsNode I m.node) (record { node = root_of R P; place = Queue 0; claimed = false } ∷ []) (root, tt) }
   where
     both_start : (a b : ℕ) → b ≡ a → min a b ≡ a
     both_start a b h = omega arith

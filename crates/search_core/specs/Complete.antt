@@ -18,6 +18,7 @@ use Rattle.search_core.specs.declared.done.Done.TheVariants.{Split, Close}
 use Rattle.search_core.specs.declared.gathered.Gathered.{Gathered}
 use Rattle.search_core.specs.declared.gathered.Segment.{Segment}
 use Rattle.search_core.specs.Needs.{AllowsSplit}
+use Rattle.search_core.specs.State.{root_of}
 
 -- what was done with nodes, by all workers
 abbrev pub records : Gathered → List Done
@@ -136,6 +137,10 @@ less_found I (Some t) x = min (cost I t) x
 abbrev pub least_found : Network → ℕ → List Segment → ℕ
 least_found I x [] = x
 least_found I x (s ∷ ss) = less_found I s.best (least_found I x ss)
+
+-- what is gathered of a search that no worker began: its first node waits
+abbrev pub untouched : Branch → Packing → ℕ → Gathered
+untouched R P start = record { segments = []; queued = root_of R P ∷ []; least = start; claimed = 0 }
 
 pub record IsFinished (G : Gathered) (I : Network) (R : Branch) (start budget : ℕ) : Type 0 where
   -- each tree that was found is one of the instance, and reaches what the branch says that the search began with

@@ -3,25 +3,26 @@ use Rattle.std.specs.Prelude.{◌≡◌, ℕ, ◌≤◌, false, List, All}
 use Rattle.st_model.specs.declared.branch.Branch.{Branch}
 use Rattle.st_model.specs.declared.tree.Tree.{Tree}
 use Rattle.st_model.specs.Arborescence.{IsTree, cost}
-use Rattle.st_model.specs.Branch.{Belongs, IsBranch, LeavesRequired}
+use Rattle.st_model.specs.Branch.{Belongs}
 use Rattle.st_model.specs.Network.{Network, IsInstance}
+use Rattle.cut_packing.specs.declared.packing.Packing.{Packing}
+use Rattle.branching.specs.Node.{IsNode}
 use Rattle.search_core.specs.declared.event.Event.{Event}
 use Rattle.search_core.specs.declared.event.EventFault.{EventFault}
-use Rattle.search_core.specs.State.{State, beginning}
+use Rattle.search_core.specs.State.{State, beginning, root_of}
 use Rattle.search_core.specs.Settled.{IsSettled, is_waiting}
 use Rattle.search_core.specs.Needs.{IsAllowed, IsFault}
 use Rattle.search_core.specs.Steps.{Run}
 use Rattle.search_core.specs.Kept.{IsKept}
 
--- a search may begin with a branch of an instance that leaves no required vertex outside
-pub record MayBegin (I : Network) (R : Branch) : Type 0 where
+-- a search may begin with a node of an instance: a branch that leaves no required vertex outside, and a packing that fits
+pub record MayBegin (I : Network) (R : Branch) (P : Packing) : Type 0 where
   pub instance : IsInstance I
-  pub branch : IsBranch I R
-  pub required : LeavesRequired I R
+  pub node : IsNode I (root_of R P)
 
 -- what any list of events leads to from a beginning keeps what every state keeps
 abbrev pub EventsKeep : Type 0
-EventsKeep = (I : Network) (R : Branch) (workers budget start : ℕ) (events : List Event) (S : State) → MayBegin I R → Run (beginning I R workers budget start) events S → IsKept S
+EventsKeep = (I : Network) (R : Branch) (P : Packing) (workers budget start : ℕ) (events : List Event) (S : State) → MayBegin I R P → Run (beginning I R P workers budget start) events S → IsKept S
 
 -- no event that may happen has a fault
 abbrev pub AllowedHasNoFault : Type 0
@@ -39,4 +40,4 @@ pub record IsExhausted (S : State) : Type 0 where
 -- where events lead from a beginning to a state that is done, each tree of the branch that the search began with costs at
 -- least the least value
 abbrev pub SettledBounds : Type 0
-SettledBounds = (I : Network) (R : Branch) (workers budget start : ℕ) (events : List Event) (S : State) (t : Tree) → MayBegin I R → Run (beginning I R workers budget start) events S → IsExhausted S → IsTree I t → Belongs R t → S.least ≤ cost I t
+SettledBounds = (I : Network) (R : Branch) (P : Packing) (workers budget start : ℕ) (events : List Event) (S : State) (t : Tree) → MayBegin I R P → Run (beginning I R P workers budget start) events S → IsExhausted S → IsTree I t → Belongs R t → S.least ≤ cost I t

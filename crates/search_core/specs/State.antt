@@ -3,6 +3,7 @@ use Rattle.std.specs.Prelude.{ℕ, zero, suc, ◌==◌, Bool, false, List, [], �
 use Rattle.std.specs.Option.{option_map_or}
 use Rattle.st_model.specs.declared.branch.Branch.{Branch}
 use Rattle.st_model.specs.Network.{Network}
+use Rattle.cut_packing.specs.declared.packing.Packing.{Packing}
 use Rattle.branching.specs.declared.node.Node.{Node}
 use Rattle.search_core.specs.declared.done.End.TheVariants.{OpenZero}
 use Rattle.search_core.specs.declared.made.Made.{Made}
@@ -72,19 +73,23 @@ with_worker S w f = record S { workers = changed_at S.workers w f }
 abbrev pub new_worker : ℕ → Worker
 new_worker start = record { hand = None; seen = start; offered = start; refused = false; up = false; closes = 0; done = []; end = OpenZero }
 
--- the node that a search starts from, of the whole branch
-abbrev pub root_of : Branch → Node
-root_of R = record { id = 0; branch = R; packing = record { root = None; cuts = [] } }
+-- a packing without cuts
+abbrev pub no_cuts : Packing
+no_cuts = record { root = None; cuts = [] }
 
--- the state before any event, of so many workers who search a branch
-abbrev pub beginning : Network → Branch → ℕ → ℕ → ℕ → State
-beginning I R workers budget start =
+-- the node that a search starts from, of the whole branch and with this packing
+abbrev pub root_of : Branch → Packing → Node
+root_of R P = record { id = 0; branch = R; packing = P }
+
+-- the state before any event, of so many workers who search a branch from a packing on
+abbrev pub beginning : Network → Branch → Packing → ℕ → ℕ → ℕ → State
+beginning I R P workers budget start =
     record {
       instance = I;
       branch = R;
       start = start;
       budget = budget;
-      nodes = record { node = root_of R; place = Queue 0; claimed = false } ∷ [];
+      nodes = record { node = root_of R P; place = Queue 0; claimed = false } ∷ [];
       workers = replicate workers (new_worker start);
       least = start;
       claims = 0;

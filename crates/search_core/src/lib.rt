@@ -24,6 +24,7 @@ mod made;
 mod needs;
 mod nodes;
 mod records;
+mod root;
 mod search;
 mod step;
 mod worker;
@@ -38,5 +39,6 @@ pub use law::{
 };
 pub use made::{Made, Place};
 pub use records::Records;
+pub use root::{no_cuts, root_of};
 pub use search::Search;
 pub use worker::Worker;

@@ -3,13 +3,14 @@ ghost use Rattle.std.specs.Option.{option_copied};
 ghost use Rattle.st_model.specs.Branch.{IsBranch, LeavesRequired};
 ghost use Rattle.branching.specs.Node.{IsNode};
 ghost use Rattle.search_core.specs.Kept.{IsKept};
-ghost use Rattle.search_core.specs.State.{beginning, hand, held, made_as, new_worker, root_of, seen};
+ghost use Rattle.search_core.specs.State.{beginning, hand, held, made_as, new_worker, no_cuts, root_of, seen};
 
 use crate::nodes::Nodes;
+use crate::root::{no_cuts, root_of};
 use crate::{End, Made, Place, Records, Worker};
 use branching::Node;
 use cut_packing::Packing;
-use st_model::{Branch, Instance, Listed};
+use st_model::{Branch, Instance};
 use std::alloc::{AllocError, Global};
 use std::marker::Model;
 
@@ -42,8 +43,8 @@ impl Model for Search {
 }
 
 impl Search {
-    /// A search of a branch before any event: its one node has the whole branch, and stands in the
-    /// queue of worker 0.
+    /// A search of a branch before any event: its one node has the whole branch and no cuts, and
+    /// stands in the queue of worker 0.
     pub fn begin(
         alloc: Global,
         instance: &Instance,
@@ -54,11 +55,33 @@ impl Search {
     ) -> Result<Search, AllocError>
         requires branch { IsBranch instance.now branch.now }
         requires required { LeavesRequired instance.now branch.now }
-        ensures { IfOk result (λ search. search ≡ beginning instance.now branch.now workers budget start_cost) }
+        ensures { IfOk result (λ search. search ≡ beginning instance.now branch.now no_cuts workers budget start_cost) }
+    {
+        let packing = no_cuts(alloc);
+        let search = Search::begin_at(
+            alloc, instance, branch, packing, workers, budget, start_cost,
+        )?;
+        Ok(search)
+    }
+
+    /// A search of a branch before any event that goes on from a packing: its one node has the whole
+    /// branch and that packing, and stands in the queue of worker 0.
+    pub fn begin_at(
+        alloc: Global,
+        instance: &Instance,
+        branch: &Branch,
+        packing: Packing,
+        workers: u32,
+        budget: u64,
+        start_cost: u64,
+    ) -> Result<Search, AllocError>
+        requires { IsNode instance.now (root_of branch.now packing) }
+        ensures { IfOk result
+            (λ search. search ≡ beginning instance.now branch.now packing workers budget start_cost) }
     {
         prove!(instance.vertices() >= 1);
         let mut nodes = Nodes::new(alloc);
-        nodes.add(root(alloc, branch)?)?;
+        nodes.add(queued(root_of(alloc, branch, packing)?))?;
         Ok(Search {
             instance: instance.copied(alloc)?,
             branch: branch.copied(alloc)?,
@@ -141,24 +164,15 @@ impl Search {
     }
 }
 
-// The node that a search starts from.
-fn root(alloc: Global, branch: &Branch) -> Result<Made, AllocError>
-    ensures { IfOk result
-        (λ made. made ≡ record { node = root_of branch.now; place = Place.Queue 0; claimed = false }) }
+// A node in the queue of worker 0.
+fn queued(node: Node) -> Made
+    ensures { result ≡ record { node = node; place = Place.Queue 0; claimed = false } }
 {
-    let packing = Packing {
-        root: None,
-        cuts: Listed::of(Vec::new(alloc)),
-    };
-    Ok(Made {
-        node: Node {
-            id: 0,
-            branch: branch.copied(alloc)?,
-            packing,
-        },
+    Made {
+        node,
         place: Place::Queue(0),
         claimed: false,
-    })
+    }
 }
 
 // Workers that have done nothing yet.

@@ -134,7 +134,7 @@ module _ (nodes : ℕ) (plain links : Bool) (I : Network) (steps : List Step) (s
       (subst (λ (d : ℕ). IsFound nodes plain links I a.tree a.primal d b.search.gathered.claimed (b.search ∷ []) log) same_dual (own holds)))
 
   -- so is what the log shows
-  pub shown_outcome : (unit : Scale) (o : Outcome) → AcceptedHolds → IsShownBy b.search log unit o → IsOutcome nodes plain links I unit o
+  pub shown_outcome : (unit : Scale) (o : Outcome) → AcceptedHolds → IsShownBy b.search.gathered.claimed (b.search ∷ []) log unit o → IsOutcome nodes plain links I unit o
   shown_outcome unit (Found tree primal dual expanded searches certificate scale) holds (claims, expanded_is, searches_is, certificate_is, scale_is) =
       (rw (expanded_is, searches_is, certificate_is) (claimed_found tree primal dual holds claims), scale_is)
   shown_outcome unit (NoTree certificate) holds none = absurd none

@@ -18,7 +18,7 @@ use Rattle.cert_checker.specs.declared.fault.CheckFault.TheVariants as fault
 use Rattle.cert_checker.specs.declared.verdict.Checked.{Checked}
 use Rattle.cert_checker.specs.declared.verdict.Verdict.{Verdict}
 use Rattle.cert_checker.specs.declared.verdict.Verdict.TheVariants as verdict
-use Rattle.command_line.specs.Words.{Command, SolveWords, CheckWords, GenWords, TrialWords, solve, check, gen, trial, few, verify}
+use Rattle.command_line.specs.Words.{Command, SolveWords, CheckWords, GenWords, TrialWords, solve, check, gen, trial, few, verify, resume}
 use Rattle.steiner_top.specs.declared.outcome.Outcome.{Outcome}
 use Rattle.steiner_top.specs.declared.outcome.Outcome.TheVariants.{Found, NoTree}
 use Rattle.steiner_top.specs.declared.status.Status.{Status}
@@ -32,6 +32,7 @@ use Rattle.steiner_top.specs.Headline.{Headline, NothingFails, IsSolved, SolvesF
 use Rattle.steiner_top.specs.Output.{status_of_verdict}
 use Rattle.steiner_top.proofs.Loaded.{known_loaded}
 use Rattle.steiner_top.proofs.Counting.{counts_file}
+use Rattle.steiner_top.proofs.Resuming.{LogsAreExact, resumes_log}
 use Rattle.steiner_top.proofs.Verifying.{verifies_solution}
 
 -- a check accepts the certificate of a solution
@@ -268,12 +269,14 @@ no_usage (trial w) texts outcome sent (inl h) = elim h.ends [
 ]
 no_usage (few w) texts outcome sent (inl h) = absurd h.2.line
 no_usage (verify w) texts outcome sent (inl h) = absurd h.4.line.line
+no_usage (resume w) texts outcome sent (inl h) = absurd h.4
 no_usage (gen w) texts outcome sent (inr h) = absurd h.0
 no_usage (trial w) texts outcome sent (inr h) = absurd h.0
 no_usage (solve w) texts outcome sent (inr h) = absurd h.0
 no_usage (check w) texts outcome sent (inr h) = absurd h.0
 no_usage (few w) texts outcome sent (inr h) = absurd h.0
 no_usage (verify w) texts outcome sent (inr h) = absurd h.0
+no_usage (resume w) texts outcome sent (inr h) = absurd h.0
 
 -- the usage line ends a run exactly where the words are no command
 pub usage_ends : (command : Option Command) (texts : Texts) (status : Status) (outcome : Option Outcome) (sent : List ℕ) → (status ≡ NoMemory → ⊥) → EndsWith command texts status outcome sent → (status ≡ Usage) ↔ (command ≡ None)
@@ -289,12 +292,13 @@ usage_ends (Some command) texts status outcome sent memory h =
 pub decides : (command : Option Command) (old new : Texts) (reads reads_now saves saves_now writes writes_now : ℕ) (status : Status) (outcome : Option Outcome) (taken now : Option (List ℕ))
     → ((bytes : List ℕ) → RefusedExactly bytes)
     → ((bytes : List ℕ) → SolutionsRefusedExactly bytes)
+    → LogsAreExact
     → (status ≢ WriteFault → (sent : List ℕ) × EndsWith command old status outcome sent × (now ≡ append_known taken sent))
     → IsSaved command new outcome
     → (status ≡ ReadFault → Rose reads reads_now)
     → (status ≡ WriteFault → Rose saves saves_now ⊎ Rose writes writes_now)
     → Headline command old new reads reads_now saves saves_now writes writes_now status outcome taken now
-decides command old new reads reads_now saves saves_now writes writes_now status outcome taken now law law_of_solutions sent saved read write = record {
+decides command old new reads reads_now saves saves_now writes writes_now status outcome taken now law law_of_solutions law_of_logs sent saved read write = record {
   usage = λ fine. let e = ended fine in usage_ends command old status outcome e.0 fine.memory e.1;
   solves = λ w bytes is known fine. let e = ended fine in solves_file w bytes old new status outcome taken now e.0 (law bytes) known (λ r. fine.loaded (read r)) fine.memory (subst (λ c. EndsWith c old status outcome e.0) is e.1) e.2 (subst (λ c. IsSaved c new outcome) is saved);
   checks = λ w stp log is known known' fine. let e = ended fine in checks_log w stp log old status outcome taken now e.0 known known' (λ r. fine.loaded (read r)) fine.memory (subst (λ c. EndsWith c old status outcome e.0) is e.1) e.2;
@@ -302,6 +306,7 @@ decides command old new reads reads_now saves saves_now writes writes_now status
   tries = λ w is fine. let e = ended fine in sends_tried w old status outcome taken now e.0 fine.memory (subst (λ c. EndsWith c old status outcome e.0) is e.1) e.2;
   verifies = λ w stp solution is known known' fine. let e = ended fine in verifies_solution w stp solution old status outcome taken now e.0 (law stp) (law_of_solutions solution) known known' (λ r. fine.loaded (read r)) fine.memory (subst (λ c. EndsWith c old status outcome e.0) is e.1) e.2;
   counts = λ w bytes is known fine. let e = ended fine in counts_file w bytes old status outcome taken now e.0 (law bytes) known (λ r. fine.loaded (read r)) fine.memory (subst (λ c. EndsWith c old status outcome e.0) is e.1) e.2;
+  resumes = λ w stp log is known known' fine. let e = ended fine in resumes_log w stp log old new status outcome taken now e.0 (law stp) law_of_logs known known' (λ r. fine.loaded (read r)) fine.memory (subst (λ c. EndsWith c old status outcome e.0) is e.1) e.2 (subst (λ c. IsSaved c new outcome) is saved);
 } where
   no_write : NothingFails reads reads_now saves saves_now writes writes_now status → status ≢ WriteFault
   no_write fine failed = elim (write failed) [

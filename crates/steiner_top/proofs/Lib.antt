@@ -15,3 +15,4 @@ mod Starting
 mod Trying
 mod KeepingTerminals
 mod WithinTwice
+pub mod Resuming

@@ -23,7 +23,7 @@ use Rattle.steiner_top.specs.declared.status.Status.{Status}
 use Rattle.steiner_top.specs.declared.status.Status.TheVariants.{Optimal, Usage, Budget, Infeasible, RefusedFile, RefusedLog, ReadFault, WriteFault, NoMemory as Exhausted, TooLong, NotFew, NotTree, RefusedSolution}
 use Rattle.steiner_top.specs.Outcome.{Solves}
 use Rattle.st_edge.specs.Sink.{TakesFront}
-use Rattle.command_line.specs.Words.{Command, solve, check, gen, trial, few, verify}
+use Rattle.command_line.specs.Words.{Command, solve, check, gen, trial, few, verify, resume}
 use Rattle.steiner_top.specs.Output.{line_of, status_of_verdict}
 use Rattle.steiner_top.specs.Causes.{Texts, IsAnswered, IsCutShort, IsSaved, IsStopped, IsUnanswered, StopsAtLoad}
 
@@ -125,6 +125,7 @@ no_write None texts outcome sent h = h
 no_write (Some (solve w)) texts outcome sent h = h.2
 no_write (Some (few w)) texts outcome sent h = h.2.line
 no_write (Some (verify w)) texts outcome sent h = h.4.line.line
+no_write (Some (resume w)) texts outcome sent h = h.4
 no_write (Some (gen w)) texts outcome sent h = let bad : WriteFault ≡ Optimal = h.ends in absurd cc
 no_write (Some (trial w)) texts outcome sent h = elim h.ends [
   | inl e ↦ let bad : WriteFault ≡ Optimal = e.0 in absurd cc
@@ -168,6 +169,7 @@ no_load command texts status outcome sent (inl read) h = unread command (subst (
     unread (Some (solve w)) h = h.2
     unread (Some (few w)) h = h.2.line
     unread (Some (verify w)) h = h.4.line.line
+    unread (Some (resume w)) h = h.4
     unread (Some (gen w)) h = let bad : ReadFault ≡ Optimal = h.ends in absurd cc
     unread (Some (trial w)) h = elim h.ends [
       | inl e ↦ let bad : ReadFault ≡ Optimal = e.0 in absurd cc
@@ -193,6 +195,7 @@ no_load command texts status outcome sent (inr long) h = short command (subst (�
     short (Some (solve w)) h = h.2
     short (Some (few w)) h = h.2.line
     short (Some (verify w)) h = h.4.line.line
+    short (Some (resume w)) h = h.4
     short (Some (gen w)) h = let bad : TooLong ≡ Optimal = h.ends in absurd cc
     short (Some (trial w)) h = elim h.ends [
       | inl e ↦ let bad : TooLong ≡ Optimal = e.0 in absurd cc

@@ -14,7 +14,7 @@ use Rattle.steiner_top.specs.Outcome.{Solves}
 
 -- an outcome, its status and its text
 pub outcome_answers : (w : SolveWords) (bytes : List ℕ) (outcome : Outcome) (status : Status) (sent : List ℕ) → Solves w.nodes w.plain w.links bytes (Ok outcome)
-    → status ≡ status_of_outcome outcome → IsOutcomeText w outcome sent → SolveAnswer w bytes status (Some outcome) sent
+    → status ≡ status_of_outcome outcome → IsOutcomeText w.file w.workers outcome sent → SolveAnswer w bytes status (Some outcome) sent
 outcome_answers w bytes (Found tree primal dual expanded searches log scale) status sent (I, unit, reads, found) ends text = rw ends (at (dual == primal) refl)
   where
     of_it : Reads bytes I scale

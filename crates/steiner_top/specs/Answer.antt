@@ -26,10 +26,10 @@ abbrev pub status_of_outcome : Outcome → Status
 status_of_outcome (Found tree primal dual expanded searches log scale) = if dual == primal then Optimal else Budget
 status_of_outcome (NoTree log) = Infeasible
 
--- the text of an outcome
-abbrev pub IsOutcomeText : SolveWords → Outcome → List ℕ → Type 0
-IsOutcomeText w (Found tree primal dual expanded searches log scale) sent = IsSolutionText w.file w.workers tree dual primal scale sent
-IsOutcomeText w (NoTree log) sent = sent ≡ infeasible_line
+-- the text of an outcome of a file of this name, found by so many workers
+abbrev pub IsOutcomeText : List ℕ → ℕ → Outcome → List ℕ → Type 0
+IsOutcomeText file workers (Found tree primal dual expanded searches log scale) sent = IsSolutionText file workers tree dual primal scale sent
+IsOutcomeText file workers (NoTree log) sent = sent ≡ infeasible_line
 
 -- the text of a tree of the file's instance, with its cost and a bound
 pub record IsSolution (w : SolveWords) (bytes : List ℕ) (tree : Tree) (primal dual expanded : ℕ) (searches : List Searched) (log : Log) (scale : Scale) (sent : List ℕ) : Type 0 where

@@ -9,7 +9,7 @@ use Rattle.st_edge.specs.Sink.{TakesFront}
 use Rattle.log_format.specs.Text.{log_text}
 use Rattle.command_line.specs.declared.parse.WordFault.{WordFault}
 use Rattle.command_line.specs.declared.parse.WordFault.TheVariants as word
-use Rattle.command_line.specs.Words.{Command, SolveWords, CheckWords, FewWords, VerifyWords, solve, check, gen, trial, few, verify}
+use Rattle.command_line.specs.Words.{Command, SolveWords, CheckWords, FewWords, ResumeWords, VerifyWords, solve, check, gen, trial, few, verify, resume}
 use Rattle.steiner_top.specs.declared.outcome.Outcome.{Outcome}
 use Rattle.steiner_top.specs.declared.status.Status.{Status}
 use Rattle.steiner_top.specs.declared.status.Status.TheVariants.{Usage, ReadFault, WriteFault, NoMemory, TooLong}
@@ -18,6 +18,7 @@ use Rattle.steiner_top.specs.Counted.{FewAnswer}
 use Rattle.steiner_top.specs.Drawn.{IsDrawn, IsTried}
 use Rattle.steiner_top.specs.Outcome.{certificate_of}
 use Rattle.steiner_top.specs.Output.{line_of}
+use Rattle.steiner_top.specs.Resumed.{ResumeAnswer}
 use Rattle.steiner_top.specs.Verified.{VerifyAnswer}
 
 -- the text under each name, as far as the shelf tells
@@ -89,6 +90,10 @@ IsFewAnswered w texts status outcome sent = (bytes : List ℕ) × IsLoaded (text
 abbrev pub IsVerifyAnswered : VerifyWords → Texts → Status → Option Outcome → List ℕ → Type 0
 IsVerifyAnswered w texts status outcome sent = (stp solution : List ℕ) × IsLoaded (texts w.file) stp × IsLoaded (texts w.solution) solution × VerifyAnswer stp solution status sent × (outcome ≡ None)
 
+-- the file and the log are loaded and answered
+abbrev pub IsResumeAnswered : ResumeWords → Texts → Status → Option Outcome → List ℕ → Type 0
+IsResumeAnswered w texts status outcome sent = (stp log : List ℕ) × IsLoaded (texts w.file) stp × IsLoaded (texts w.log_name) log × ResumeAnswer w stp log status outcome sent
+
 -- what the words ask for is answered
 abbrev pub IsAnswered : Option Command → Texts → Status → Option Outcome → List ℕ → Type 0
 IsAnswered None texts status outcome sent = ⊥
@@ -98,6 +103,7 @@ IsAnswered (Some (gen w)) texts status outcome sent = IsDrawn w status outcome s
 IsAnswered (Some (trial w)) texts status outcome sent = IsTried w status outcome sent
 IsAnswered (Some (few w)) texts status outcome sent = IsFewAnswered w texts status outcome sent
 IsAnswered (Some (verify w)) texts status outcome sent = IsVerifyAnswered w texts status outcome sent
+IsAnswered (Some (resume w)) texts status outcome sent = IsResumeAnswered w texts status outcome sent
 
 -- the names of the texts that the words ask for
 abbrev pub names_of : Command → List (List ℕ)
@@ -107,6 +113,7 @@ names_of (gen w) = []
 names_of (trial w) = []
 names_of (few w) = w.file ∷ []
 names_of (verify w) = w.file ∷ w.solution ∷ []
+names_of (resume w) = w.file ∷ w.log_name ∷ []
 
 -- the names of the texts that are loaded, in this order
 abbrev pub loads_of : Option Command → List (List ℕ)
@@ -131,10 +138,15 @@ log_name_of (Some (gen w)) = None
 log_name_of (Some (trial w)) = None
 log_name_of (Some (few w)) = None
 log_name_of (Some (verify w)) = None
+log_name_of (Some (resume w)) = w.save_name
 
--- the certificate's text stands under the log's name
+-- the certificate's text stands under this name, if there is one
+abbrev pub StandsUnder : Option (List ℕ) → Texts → Option Outcome → Type 0
+StandsUnder name texts outcome = IfSome outcome (λ o. IfSome name (λ n. IfSome (texts n) (λ text. text ≡ log_text (certificate_of o))))
+
+-- so it does under the log's name
 abbrev pub IsSaved : Option Command → Texts → Option Outcome → Type 0
-IsSaved command texts outcome = IfSome outcome (λ o. IfSome (log_name_of command) (λ name. IfSome (texts name) (λ text. text ≡ log_text (certificate_of o))))
+IsSaved command texts outcome = StandsUnder (log_name_of command) texts outcome
 
 -- each text but that of this name is as it was
 abbrev pub SameBut : Option (List ℕ) → Texts → Texts → Type 0

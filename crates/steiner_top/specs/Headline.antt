@@ -15,7 +15,7 @@ use Rattle.dimacs_writer.specs.Solution.{IsSolutionText}
 use Rattle.cert_checker.specs.declared.verdict.Checked.{Checked}
 use Rattle.cert_checker.specs.declared.verdict.Verdict.TheVariants as verdict
 use Rattle.cert_checker.specs.Checking.{IsAnswer}
-use Rattle.command_line.specs.Words.{Command, SolveWords, CheckWords, GenWords, TrialWords, FewWords, VerifyWords, solve, check, gen, trial, few, verify}
+use Rattle.command_line.specs.Words.{Command, SolveWords, CheckWords, GenWords, TrialWords, FewWords, VerifyWords, ResumeWords, solve, check, gen, trial, few, verify, resume}
 use Rattle.steiner_top.specs.declared.outcome.Outcome.{Outcome}
 use Rattle.steiner_top.specs.declared.outcome.Outcome.TheVariants.{Found}
 use Rattle.steiner_top.specs.declared.status.Status.{Status}
@@ -25,6 +25,7 @@ use Rattle.steiner_top.specs.Counted.{CountsFile}
 use Rattle.steiner_top.specs.Drawn.{IsDrawn, IsTried}
 use Rattle.steiner_top.specs.Outcome.{IsFound}
 use Rattle.steiner_top.specs.Output.{status_of_verdict, verdict_line}
+use Rattle.steiner_top.specs.Resumed.{ResumesLog}
 use Rattle.steiner_top.specs.Verified.{VerifiesSolution}
 
 -- no load, save or write failed, and memory sufficed
@@ -78,3 +79,4 @@ pub record Headline (command : Option Command) (old new : Texts) (reads reads_no
   pub tries : (w : TrialWords) → command ≡ Some (trial w) → NothingFails reads reads_now saves saves_now writes writes_now status → Sends (IsTried w) status outcome taken now
   pub counts : (w : FewWords) (bytes : List ℕ) → command ≡ Some (few w) → old w.file ≡ Some bytes → NothingFails reads reads_now saves saves_now writes writes_now status → CountsFile w bytes status taken now
   pub verifies : (w : VerifyWords) (stp solution : List ℕ) → command ≡ Some (verify w) → old w.file ≡ Some stp → old w.solution ≡ Some solution → NothingFails reads reads_now saves saves_now writes writes_now status → VerifiesSolution stp solution status taken now
+  pub resumes : (w : ResumeWords) (stp log : List ℕ) → command ≡ Some (resume w) → old w.file ≡ Some stp → old w.log_name ≡ Some log → NothingFails reads reads_now saves saves_now writes writes_now status → ResumesLog w stp log status outcome new taken now

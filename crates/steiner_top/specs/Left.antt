@@ -1,5 +1,5 @@
 -- What steps leave of an instance. Helpers' clauses cite this, and no public one.
-use Rattle.std.specs.Prelude.{◌≡◌, ℕ, ◌<◌, ◌^◌, Bool, [], ◌∷◌, length, None, IsTrue, IsFalse, ⊤}
+use Rattle.std.specs.Prelude.{◌≡◌, ℕ, ◌<◌, ◌^◌, Bool, List, [], length, None, IsTrue, IsFalse, ⊤}
 use Rattle.amounts.specs.declared.scale.Scale.{Scale}
 use Rattle.st_model.specs.declared.tree.Tree.{Tree}
 use Rattle.st_model.specs.Network.{Network, is_required, link}
@@ -48,21 +48,17 @@ pub record IsBestOf (s : State) (budget : ℕ) (links : Bool) (b : Best) : Type 
   pub searched : IsSearchOf s budget links b.search
   pub writable : AllPackings IsWritablePacking b.search.gathered
 
--- a tree is claimed
-abbrev pub IsFoundClaim : Claim → Type 0
-IsFoundClaim (Found primal dual tree steps proof) = ⊤
-IsFoundClaim (NoTree wall) = ⊥
-
 -- this tree and these numbers are claimed
 abbrev pub IsClaimOf : Claim → Tree → ℕ → ℕ → Type 0
 IsClaimOf (Found p d t steps proof) tree primal dual = (t ≡ tree) × (p ≡ primal) × (d ≡ dual)
 IsClaimOf (NoTree wall) tree primal dual = ⊥
 
--- an outcome is a log's tree and numbers, found by this search, and the numbers count units of this scale
-abbrev pub IsShownBy : Searched → Log → Scale → Outcome → Type 0
-IsShownBy search log unit (outcome.Found tree primal dual expanded searches certificate scale) =
-    IsClaimOf log.claim tree primal dual × (expanded ≡ search.gathered.claimed) × (searches ≡ search ∷ []) × (certificate ≡ log) × (scale ≡ unit)
-IsShownBy search log unit (outcome.NoTree certificate) = ⊥
+-- an outcome is a log's tree and numbers, found by these searches, which worked on so many nodes, and the numbers count units of
+-- this scale
+abbrev pub IsShownBy : ℕ → List Searched → Log → Scale → Outcome → Type 0
+IsShownBy worked done log unit (outcome.Found tree primal dual expanded searches certificate scale) =
+    IsClaimOf log.claim tree primal dual × (expanded ≡ worked) × (searches ≡ done) × (certificate ≡ log) × (scale ≡ unit)
+IsShownBy worked done log unit (outcome.NoTree certificate) = ⊥
 
 -- a detour's inner vertices can be counted
 abbrev pub CanBeCounted : Step → Type 0

@@ -8,3 +8,4 @@ pub mod Checked
 pub mod Headline
 pub mod Counted
 pub mod Verified
+pub mod Resumed

@@ -37,7 +37,7 @@ code_of RefusedSolution = 13
 
 -- what is sent where a status alone says it
 abbrev pub line_of : Status → List ℕ
-line_of Usage = codes "usage: steiner solve FILE [--workers W] [--nodes N] [--log NAME] [--plain] [--links] | check FILE LOG | gen SEED N M T [--prizes] | trial SEED N M T [--workers W] | few FILE | verify FILE SOLUTION\n"
+line_of Usage = codes "usage: steiner solve FILE [--workers W] [--nodes N] [--log NAME] [--plain] [--links] | check FILE LOG | gen SEED N M T [--prizes] | trial SEED N M T [--workers W] | few FILE | verify FILE SOLUTION | resume FILE LOG [--workers W] [--nodes N] [--log NAME]\n"
 line_of ReadFault = codes "read fault\n"
 line_of TooLong = codes "too long\n"
 line_of _ = []

@@ -12,6 +12,7 @@ use crate::answer::Answer;
 use crate::check_command::check_command;
 use crate::few_command::few_command;
 use crate::gen_command::gen_command;
+use crate::resume_command::resume_command;
 use crate::solve_command::solve_command;
 use crate::trial_command::trial_command;
 use crate::verify_command::verify_command;
@@ -60,6 +61,7 @@ pub fn answer<R: Threads + Wait + Sync, F: Shelf, G: Gate>(
         Ok(Cmd::Trial(words)) => Ok(trial_command(rt, alloc, &words, gate)?),
         Ok(Cmd::Few(words)) => few_command(alloc, &words, shelf),
         Ok(Cmd::Verify(words)) => verify_command(alloc, &words, shelf),
+        Ok(Cmd::Resume(words)) => resume_command(rt, alloc, &words, shelf, gate),
         Err(fault) => Err(Status::from(fault)),
     }
 }

@@ -9,6 +9,7 @@ mod answer;
 mod answering;
 mod best;
 mod check_command;
+mod continuing;
 mod few_command;
 mod gen_command;
 mod left;
@@ -17,7 +18,9 @@ mod loading;
 mod nearing;
 mod outcome;
 mod reducing;
+mod resume_command;
 mod running;
+mod saving;
 mod solve_command;
 mod solving;
 mod start;
@@ -27,12 +30,13 @@ mod verify_command;
 mod wanted;
 
 pub use command_line::{
-    CheckWords, Cmd, DrawWords, FewWords, GenWords, SolveWords, TrialWords, VerifyWords, WordFault,
-    read_words,
+    CheckWords, Cmd, DrawWords, FewWords, GenWords, ResumeWords, SolveWords, TrialWords,
+    VerifyWords, WordFault, read_words,
 };
+pub use continuing::resume_bytes;
 pub use outcome::{Outcome, SolveFault};
 pub use running::{Ended, run};
 pub use solving::solve_bytes;
 pub use status::Status;
 pub use wanted::Wanted;
-pub use worker_loop::{Gate, OpenGate};
+pub use worker_loop::{Gate, Limits, OpenGate};

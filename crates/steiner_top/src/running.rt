@@ -32,6 +32,7 @@ pub struct Ended {
 /// which splits nodes at vertices alone unless they say `--links`, saves the log if the words ask
 /// for it, and then sends the solution to the sink.
 /// `check FILE LOG` loads both, and sends what may be concluded of the file from the log.
+/// `resume FILE LOG` loads both, goes on from the log where it is light, within a budget of nodes, and saves and sends as `solve` does.
 /// `few FILE` sends a best tree of a file with at most twelve terminals in which no other vertex pays, without a search.
 /// `verify FILE SOLUTION` loads both, and sends what the tree costs that the solution claims, or what is wrong with it.
 /// `gen SEED N M T` draws an instance and sends its text. `trial SEED N M T` draws one and solves it within a budget of
@@ -80,6 +81,9 @@ pub fn run<R: Threads + Wait + Sync, F: Shelf, K: Sink, G: Gate>(
 {
     stp_reader::refused_exactly();
     solution_reader::solutions_refused_exactly();
+    log_format::one_spelling();
+    log_format::refused_exactly();
+    log_format::rejected_exactly();
     match answer(rt, alloc, words, shelf, gate) {
         Ok(answer) => send(out, answer.status, answer.outcome, &answer.text),
         Err(status) => send(out, status, None, status.line().as_bytes()),

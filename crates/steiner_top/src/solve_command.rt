@@ -1,70 +1,28 @@
-ghost use Rattle.std.specs.Prelude.{◌≡◌, ◌≢◌, ◌⊎◌, ℕ, List, [], ◌∷◌, Option, IfOk, IfErr, IfSome, OnOk, IsErrOf, None, Some};
+ghost use Rattle.std.specs.Prelude.{◌≡◌, ◌≢◌, ℕ, List, [], ◌∷◌, Option, IfOk, IfErr, IsErrOf, None, Some};
 ghost use Rattle.st_edge.specs.Faults.{HasCause};
 ghost use Rattle.st_edge.specs.Shelf.{AsksForFront, SameTexts};
-ghost use Rattle.log_format.specs.Text.{IsLog};
 ghost use Rattle.command_line.specs.Seen.{solve_words};
 ghost use Rattle.command_line.specs.Words.{solve};
-ghost use Rattle.steiner_top.specs.Answer.{IsOutcomeText, SolveAnswer, status_of_outcome};
+ghost use Rattle.steiner_top.specs.Answer.{SolveAnswer};
 ghost use Rattle.steiner_top.specs.Causes.{IsSolveAnswered, IsSaved, IsStopped, SameBut, StopsAtLoad, log_name_of};
-ghost use Rattle.steiner_top.specs.Outcome.{certificate_of};
 ghost use Rattle.steiner_top.specs.declared.outcome.Outcome.{Outcome as Given};
 ghost use Rattle.steiner_top.specs.declared.status.Status.{Status as Ending};
-ghost use Rattle.steiner_top.specs.declared.status.Status.TheVariants.{WriteFault, NoMemory};
+ghost use Rattle.steiner_top.specs.declared.status.Status.TheVariants.{WriteFault};
 
 use crate::Status;
 use crate::answer::Answer;
-use crate::lines::{infeasible, refused_stp};
+use crate::lines::refused_stp;
 use crate::loading::load;
-use crate::outcome::{Outcome, SolveFault};
+use crate::outcome::SolveFault;
+use crate::saving::{outcome_status, outcome_text, save};
 use crate::solving::solve_bytes;
 use crate::wanted::Wanted;
 use command_line::SolveWords;
-use dimacs_writer::solution_text;
-use log_format::write_log;
 use st_edge::Shelf;
 use std::alloc::{AllocError, Global};
 use std::sync::Wait;
 use std::thread::Threads;
 use worker_loop::Gate;
-
-// The text of what solving a file gave.
-fn outcome_text(
-    alloc: Global,
-    words: &SolveWords<'_>,
-    outcome: &Outcome,
-) -> Result<Vec<u8>, AllocError>
-    ensures { IfOk result (λ text. IsOutcomeText (solve_words words.now) outcome.now text.items) }
-{
-    match outcome {
-        Outcome::Found {
-            tree,
-            primal,
-            dual,
-            scale,
-            ..
-        } => solution_text(
-            alloc,
-            words.file,
-            words.workers,
-            tree,
-            *dual,
-            *primal,
-            *scale,
-        ),
-        Outcome::NoTree { .. } => Ok(infeasible(alloc)?.into_bytes()),
-    }
-}
-
-/// The status of what solving gave.
-pub fn outcome_status(outcome: &Outcome) -> Status
-    ensures { result ≡ status_of_outcome outcome.now }
-{
-    match outcome {
-        Outcome::Found { primal, dual, .. } if dual == primal => Status::Optimal,
-        Outcome::Found { .. } => Status::Budget,
-        Outcome::NoTree { .. } => Status::Infeasible,
-    }
-}
 
 // How the bytes of a file are answered.
 fn answer_bytes<R: Threads + Wait + Sync, G: Gate>(
@@ -85,7 +43,7 @@ fn answer_bytes<R: Threads + Wait + Sync, G: Gate>(
     };
     match solve_bytes(rt, alloc, bytes, wanted, gate) {
         Ok(outcome) => {
-            let text = outcome_text(alloc, words, &outcome)?;
+            let text = outcome_text(alloc, words.file, words.workers, &outcome)?;
             let status = outcome_status(&outcome);
             Ok(Answer {
                 status,
@@ -103,34 +61,6 @@ fn answer_bytes<R: Threads + Wait + Sync, G: Gate>(
         }
         Err(SolveFault::NoMemory) => Err(AllocError),
     }
-}
-
-// Saves the certificate's text, if there is one and the words ask for it.
-fn save<R: Threads + Sync, F: Shelf>(
-    rt: &R,
-    alloc: Global,
-    words: &SolveWords<'_>,
-    outcome: &Option<Outcome>,
-    shelf: &mut F,
-) -> Result<(), Status>
-    requires { IfSome outcome.now (λ o. IsLog (certificate_of o)) }
-    ensures saved { OnOk result (IsSaved (Some (solve (solve_words words.now))) (F.text shelf.new) outcome.now) }
-    ensures others { SameBut (log_name_of (Some (solve (solve_words words.now))))
-        (F.text shelf.old) (F.text shelf.new) }
-    ensures asked { F.asked shelf.new ≡ F.asked shelf.old }
-    ensures none { outcome.now ≡ None → SameTexts (F.text shelf.old) (F.text shelf.new) }
-    ensures fault { IfErr result (λ status. (status ≡ WriteFault) ⊎ (status ≡ NoMemory)) }
-    ensures no_memory { IsErrOf result Status.NoMemory → SameTexts (F.text shelf.old) (F.text shelf.new) }
-    ensures cause { HasCause (F.write_faults shelf.old) (F.write_faults shelf.new)
-        (IsErrOf result Status.WriteFault) }
-    ensures read_faults { F.read_faults shelf.new ≡ F.read_faults shelf.old }
-{
-    let (Some(name), Some(outcome)) = (words.log_name, outcome) else {
-        return Ok(());
-    };
-    let text = write_log(rt, alloc, outcome.certificate(), words.workers as usize)?;
-    shelf.save(name, &text)?;
-    Ok(())
 }
 
 /// Loads the file, solves it and saves the log, if the words ask for it: what there is to send
@@ -167,6 +97,7 @@ pub fn solve_command<R: Threads + Wait + Sync, F: Shelf, G: Gate>(
         Err(status) => return Err(status),
     };
     let answer = answer_bytes(rt, alloc, words, &bytes, gate)?;
-    save(rt, alloc, words, &answer.outcome, shelf)?;
+    let (name, workers) = (words.log_name, words.workers);
+    save(rt, alloc, name, workers, &answer.outcome, shelf)?;
     Ok(answer)
 }

@@ -8,8 +8,9 @@ ghost use Rattle.stp_reader.specs.Reads.{Refused};
 ghost use Rattle.lift_back.specs.State.{IsState};
 ghost use Rattle.log_format.specs.Accepts.{left_over};
 ghost use Rattle.log_format.specs.Text.{IsWritableSet};
+ghost use Rattle.resuming.specs.Resumed.{ClaimsTree};
 ghost use Rattle.steiner_top.specs.declared.outcome.SolveFault.TheVariants.{Stp, NoMemory};
-ghost use Rattle.steiner_top.specs.Left.{HasSomeTree, IsBestOf, IsClaimOf, IsFoundClaim, IsLeftOf, IsShownBy};
+ghost use Rattle.steiner_top.specs.Left.{HasSomeTree, IsBestOf, IsClaimOf, IsLeftOf, IsShownBy};
 ghost use Rattle.steiner_top.specs.Outcome.{IsOutcome, Solves};
 
 use crate::best::{Best, cheapest};
@@ -30,7 +31,7 @@ use std::alloc::{AllocError, Global};
 use std::sync::Wait;
 use std::thread::Threads;
 use stp_reader::{Reading, read_stp};
-use worker_loop::{Gate, run_all};
+use worker_loop::{Gate, Limits, run_all};
 
 /// Solves an STP file, all of the bytes, expanding so many nodes at most: a tree and a bound with
 /// a certificate, the bound being the tree's cost unless the budget was spent; or a certificate
@@ -143,17 +144,12 @@ fn search_from<R: Threads + Wait + Sync, G: Gate>(
     let start = near_start(alloc, whole, sides)?;
     let branch = sides.branch();
     let first = tree_cost(&whole.instance, &start);
-    let gathered = run_all(
-        rt,
-        alloc,
-        whole,
-        branch,
-        &start,
-        wanted.workers,
-        wanted.nodes,
-        wanted.links,
-        gate,
-    )?;
+    let limits = Limits {
+        workers: wanted.workers,
+        budget: wanted.nodes,
+        links: wanted.links,
+    };
+    let gathered = run_all(rt, alloc, whole, branch, &start, limits, gate)?;
     let tree = cheapest(
         alloc,
         &whole.instance,
@@ -192,27 +188,30 @@ fn found(
     count_steps(&steps);
     let Best { tree, search } = best;
     let certificate = assemble(alloc, steps, &reduced, &tree, &search.gathered)?;
-    shown(alloc, search, certificate, reading.scale)
+    let expanded = search.gathered.claimed;
+    let searches = vec![in alloc; search]?;
+    let outcome = shown(alloc, expanded, searches, certificate, reading.scale)?;
+    Ok(outcome)
 }
 
-// What a log shows, as what a search found.
-fn shown(
+/// What a log shows, as what searches found that worked on so many nodes.
+pub fn shown(
     alloc: Global,
-    search: Searched,
+    expanded: u64,
+    searches: Vec<Searched>,
     certificate: Log,
     scale: Scale,
 ) -> Result<Outcome, AllocError>
-    requires { IsFoundClaim certificate.claim }
-    ensures { IfOk result (IsShownBy search certificate scale) }
+    requires { ClaimsTree certificate.claim }
+    ensures { IfOk result (IsShownBy expanded searches.items certificate scale) }
 {
-    let expanded = search.gathered.claimed;
     let (tree, primal, dual) = claimed(alloc, &certificate)?;
     Ok(Outcome::Found {
         tree,
         primal,
         dual,
         expanded,
-        searches: Listed::of(vec![in alloc; search]?),
+        searches: Listed::of(searches),
         certificate,
         scale,
     })
@@ -220,7 +219,7 @@ fn shown(
 
 // The tree and the two numbers that a log claims.
 fn claimed(alloc: Global, log: &Log) -> Result<(Tree, u64, u64), AllocError>
-    requires { IsFoundClaim log.now.claim }
+    requires { ClaimsTree log.now.claim }
     ensures { IfOk result (λ found. IsClaimOf log.now.claim found.0 found.1 found.2) }
 {
     match &log.claim {

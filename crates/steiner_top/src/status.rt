@@ -66,7 +66,7 @@ impl Status {
     {
         match self {
             Status::Usage => {
-                "usage: steiner solve FILE [--workers W] [--nodes N] [--log NAME] [--plain] [--links] | check FILE LOG | gen SEED N M T [--prizes] | trial SEED N M T [--workers W] | few FILE | verify FILE SOLUTION\n"
+                "usage: steiner solve FILE [--workers W] [--nodes N] [--log NAME] [--plain] [--links] | check FILE LOG | gen SEED N M T [--prizes] | trial SEED N M T [--workers W] | few FILE | verify FILE SOLUTION | resume FILE LOG [--workers W] [--nodes N] [--log NAME]\n"
             }
             Status::ReadFault => "read fault\n",
             Status::TooLong => "too long\n",

@@ -6,7 +6,7 @@ ghost use Rattle.steiner_top.specs.Drawn.{HasTree, IsSummary, IsTried, tried_ins
 use crate::answer::Answer;
 use crate::lines::summary;
 use crate::outcome::Outcome;
-use crate::solve_command::outcome_status;
+use crate::saving::outcome_status;
 use crate::solving::solve_reading;
 use crate::wanted::Wanted;
 use amounts::Scale;

@@ -6,6 +6,7 @@ use Rattle.std.proofs.lemmas.List.Elements.{All-append, All-cons, All-head, All-
 use Rattle.std.proofs.lemmas.List.{length-map}
 use Rattle.st_model.specs.declared.branch.Branch.{Branch}
 use Rattle.st_model.specs.Network.{Network}
+use Rattle.cut_packing.specs.declared.packing.Packing.{Packing}
 use Rattle.branching.specs.declared.node.Node.{Node}
 use Rattle.incumbent.specs.Least.{least_of}
 use Rattle.incumbent.specs.Seat.{Known as Sight, all_offers, fresh as new_sight}
@@ -93,8 +94,8 @@ same_budget : (budget allowed claimed sum : ℕ) → allowed ≡ min budget 9223
 same_budget budget allowed claimed sum is fewer within = omega arith
 
 -- the pool, the ledger and the incumbent of a team that ran
-pub record IsClosedTeam {Q : Type 0} (I : Network) (R : Branch) (start allowed workers : ℕ) (bs as' : List (Slot Q)) (queued : List Node) (least opened claimed : ℕ) : Type 0 where
-  pub root : (h : Node → ℕ) → all_gave h (map pass_of bs) ≡ all_took h (map pass_of bs) + h (root_of R)
+pub record IsClosedTeam {Q : Type 0} (I : Network) (R : Branch) (P : Packing) (start allowed workers : ℕ) (bs as' : List (Slot Q)) (queued : List Node) (least opened claimed : ℕ) : Type 0 where
+  pub root : (h : Node → ℕ) → all_gave h (map pass_of bs) ≡ all_took h (map pass_of bs) + h (root_of R P)
   pub left : (h : Node → ℕ) → all_gave h (map pass_of as') ≡ all_took h (map pass_of as') + sum_by h queued
   pub sound : All (IsSound I R) queued
   pub few : length queued < 2 ^ 63
@@ -115,16 +116,16 @@ sites_all I R start workers links seat (b ∷ bs) (a ∷ as') (s ∷ ss) seated 
     All-append (IsAllowed links) s.done (flat_map (λ t. t.done) ss) (subst (λ (l : Bool). All (IsAllowed l) s.done) seated.0.links_are here)
     (sites_all I R start workers links (seat + 1) bs as' ss seated.1 (omega arith) (λ k d lt. ran (suc k) d (omega arith)) (ap rest_of found))
 
-pub searched_so : {Q : Type 0} (I : Network) (R : Branch) (start budget allowed workers : ℕ) (links : Bool) (bs as' : List (Slot Q)) (ss : List Segment) (queued : List Node) (least opened claimed : ℕ)
+pub searched_so : {Q : Type 0} (I : Network) (R : Branch) (P : Packing) (start budget allowed workers : ℕ) (links : Bool) (bs as' : List (Slot Q)) (ss : List Segment) (queued : List Node) (least opened claimed : ℕ)
     → workers ≤ 64 → length bs ≡ workers → length as' ≡ length bs → AreSeated workers links 0 bs → HaveRunIn I R start bs as' → map Some ss ≡ map segment_of as'
     → allowed ≡ min budget 9223372036854775807 → (claimed ≡ 9223372036854775807 → ⊥)
-    → IsClosedTeam I R start allowed workers bs as' queued least opened claimed
+    → IsClosedTeam I R P start allowed workers bs as' queued least opened claimed
     → IsSearched (record { segments = ss; queued = queued; least = least; claimed = claimed }) I R start budget
-searched_so I R start budget allowed workers links bs as' ss queued least opened claimed few count same seated ran found is_allowed fewer h =
+searched_so I R P start budget allowed workers links bs as' ss queued least opened claimed few count same seated ran found is_allowed fewer h =
     let t = are_members I R start workers links 0 bs as' ss seated same ran found in
     let team : List Member = members bs as' ss in
-    let pooled : IsPooled I R team queued = record {
-      root = λ w. subst (λ (ps : List Station). all_gave w ps ≡ all_took w ps + w (root_of R)) (sym t.before) (h.root w);
+    let pooled : IsPooled I R P team queued = record {
+      root = λ w. subst (λ (ps : List Station). all_gave w ps ≡ all_took w ps + w (root_of R P)) (sym t.before) (h.root w);
       left = λ w. subst (λ (ps : List Station). all_gave w ps ≡ all_took w ps + sum_by w queued) (sym t.after) (h.left w);
       sound = h.sound;
       few = h.few;
@@ -142,4 +143,4 @@ searched_so I R start budget allowed workers links bs as' ss queued least opened
       seen = subst (λ (ms : List Sight). All (λ (m : Sight). least ≤ m.lowest) ms) (sym t.sights_are) h.seen;
     } in
     subst (λ (xs : List Segment). IsSearched (record { segments = xs; queued = queued; least = least; claimed = claimed }) I R start budget) t.segments_are
-    (team_searches I R start budget workers team queued least opened claimed (t.count ∙ count) few t.run pooled counted lowest)
+    (team_searches I R P start budget workers team queued least opened claimed (t.count ∙ count) few t.run pooled counted lowest)

@@ -6,6 +6,7 @@ use Rattle.std.proofs.lemmas.List.Elements.{All-cons, All-nil}
 use Rattle.std.proofs.lemmas.List.Sums.{sum_by-append, sum_by-cons}
 use Rattle.st_model.specs.declared.branch.Branch.{Branch}
 use Rattle.st_model.specs.Network.{Network}
+use Rattle.cut_packing.specs.declared.packing.Packing.{Packing}
 use Rattle.branching.specs.declared.node.Node.{Node}
 use Rattle.open_ledger.specs.Seat.{Known, ups_of, downs_of, granted_of, refused_of, halts_of, sights_of}
 use Rattle.search_core.specs.declared.done.Done.{Done}
@@ -44,8 +45,8 @@ halves_number [] = refl
 halves_number (T ∷ Ts) = omega (arith, two_halves T.node.branch T.done, halves_number Ts, sum_by-append each (halves_of T) (flat_map halves_of Ts), sum_by-cons splits T.done (map done_of Ts))
 
 -- one node more than the splits was closed or waits
-nodes_left : (R : Branch) (tasks : List Task) (waiting : List Node) → IsAccounted R tasks waiting → 1 + sum_by splits (map done_of tasks) ≡ sum_by closes (map done_of tasks) + length waiting
-nodes_left R tasks waiting accounted = omega (arith, accounted each, tasks_number tasks, halves_number tasks, nodes_number waiting)
+nodes_left : (R : Branch) (P : Packing) (tasks : List Task) (waiting : List Node) → IsAccounted R P tasks waiting → 1 + sum_by splits (map done_of tasks) ≡ sum_by closes (map done_of tasks) + length waiting
+nodes_left R P tasks waiting accounted = omega (arith, accounted each, tasks_number tasks, halves_number tasks, nodes_number waiting)
 
 -- where there is none of what a thing needs, there is none of the thing
 not_without : (a b : ℕ) → (0 < a → 0 < b) → b ≡ 0 → a ≡ 0
@@ -108,16 +109,16 @@ module _ (I : Network) (R : Branch) (start workers : ℕ) where
   no_nodes [] h = refl
   no_nodes (N ∷ Ns) h = absurd (omega arith)
 
-  none_waits : (team : List Member) (queued : List Node) (budget opened claimed : ℕ) → HaveRun I R start workers 0 team → IsPooled I R team queued
+  none_waits : (P : Packing) (team : List Member) (queued : List Node) (budget opened claimed : ℕ) → HaveRun I R start workers 0 team → IsPooled I R P team queued
       → IsCounted budget team opened claimed → length team ≤ 64 → refused_of (accounts team) ≡ 0 → left_by team ++ queued ≡ []
-  none_waits team queued budget opened claimed ran pooled counted few none =
+  none_waits P team queued budget opened claimed ran pooled counted few none =
       let unseen : sights_of (accounts team) ≡ 0 = not_without _ _ counted.halts (none_halted 0 team ran none) in
       let open_none = counted.idle (all_idle 0 team ran none unseen) in
       let tasks = tasks_of I R start workers 0 team ran in
       let waiting = left_by team ++ queued in
       let left : 1 + sum_by splits (done_by team) ≡ sum_by closes (done_by team) + length waiting =
       subst (λ (ds : List Done). 1 + sum_by splits ds ≡ sum_by closes ds + length waiting) (sym (records_are I R start workers 0 team ran))
-      (nodes_left R tasks waiting (accounted I R start workers team queued ran pooled)) in
+      (nodes_left R P tasks waiting (accounted I R start workers P team queued ran pooled)) in
       let counts : 1 + ups_of (accounts team) ≡ downs_of (accounts team) + length waiting = omega (arith, left, ups_are 0 team ran, downs_are 0 team ran) in
       let small : length waiting < 2 ^ 64 = omega (arith, length-append (left_by team) queued, few_left 0 team ran, few, pooled.few) in
       no_nodes waiting (none_open _ _ opened _ open_none counted.opens counts small)
@@ -126,10 +127,10 @@ module _ (I : Network) (R : Branch) (start workers : ℕ) where
   all_claimed budget granted refused claimed a b c = omega arith
 
   -- nodes wait only where the whole budget was spent
-  pub spent_so : (team : List Member) (queued : List Node) (budget opened claimed : ℕ) → HaveRun I R start workers 0 team → IsPooled I R team queued
+  pub spent_so : (P : Packing) (team : List Member) (queued : List Node) (budget opened claimed : ℕ) → HaveRun I R start workers 0 team → IsPooled I R P team queued
       → IsCounted budget team opened claimed → length team ≤ 64 → (left_by team ++ queued ≡ []) ⊎ (claimed ≡ budget)
-  spent_so team queued budget opened claimed ran pooled counted few = by_case (refused_of (accounts team)) refl
+  spent_so P team queued budget opened claimed ran pooled counted few = by_case (refused_of (accounts team)) refl
     where
       by_case : (n : ℕ) → refused_of (accounts team) ≡ n → (left_by team ++ queued ≡ []) ⊎ (claimed ≡ budget)
-      by_case zero e = inl (none_waits team queued budget opened claimed ran pooled counted few e)
+      by_case zero e = inl (none_waits P team queued budget opened claimed ran pooled counted few e)
       by_case (suc n) e = inr (all_claimed budget (granted_of (accounts team)) (refused_of (accounts team)) claimed counted.claims counted.within (omega (arith, e)))

@@ -7,6 +7,7 @@ use Rattle.std.proofs.lemmas.List.Concat.{flat_map-append}
 use Rattle.std.proofs.lemmas.List.Sums.{sum_by-append, sum_by-cons}
 use Rattle.st_model.specs.declared.branch.Branch.{Branch}
 use Rattle.st_model.specs.Network.{Network}
+use Rattle.cut_packing.specs.declared.packing.Packing.{Packing}
 use Rattle.branching.specs.declared.node.Node.{Node}
 use Rattle.search_core.specs.declared.done.Done.{Done}
 use Rattle.search_core.specs.declared.done.Done.TheVariants.{Split, Close}
@@ -52,9 +53,9 @@ given_ids id (T ∷ Ts) =
     both l a b c d r e f g h = omega arith
 
 -- each id that was given stands once among the records and the nodes that wait
-pub stands_once : (R : Branch) (tasks : List Task) (waiting : List Node) (id : ℕ) → IsAccounted R tasks waiting → ((T : Task) → Among tasks T → done_id T.done ≡ T.node.id)
+pub stands_once : (R : Branch) (P : Packing) (tasks : List Task) (waiting : List Node) (id : ℕ) → IsAccounted R P tasks waiting → ((T : Task) → Among tasks T → done_id T.done ≡ T.node.id)
     → times id (map done_id (map done_of tasks) ++ map (λ N. N.id) waiting) ≡ times id (made_ids (map done_of tasks))
-stands_once R tasks waiting id accounted same =
+stands_once R P tasks waiting id accounted same =
     let stands = times-append id (map done_id (map done_of tasks)) (map (λ N. N.id) waiting) in
     sums _ _ _ _ _ _ _ (cond (0 == id) 1 0) stands (task_ids id tasks same) (waiting_ids id waiting) (given_ids id tasks) (accounted (has_id id))
   where

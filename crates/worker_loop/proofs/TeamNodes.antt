@@ -24,8 +24,8 @@ use Rattle.worker_loop.proofs.SameNodes.{node_is, node_itself, same_node}
 use Rattle.worker_loop.proofs.Weights.{among_map, among_one_of, contains, heavy_one, weight_le}
 
 -- the root and all halves are the nodes of the tasks and those that wait, however nodes are weighed
-abbrev pub IsAccounted : Branch → List Task → List Node → Type 0
-IsAccounted R tasks waiting = (h : Node → ℕ) → h (root_of R) + sum_by h (flat_map halves_of tasks) ≡ sum_by h (map node_of tasks) + sum_by h waiting
+abbrev pub IsAccounted : Branch → Packing → List Task → List Node → Type 0
+IsAccounted R P tasks waiting = (h : Node → ℕ) → h (root_of R P) + sum_by h (flat_map halves_of tasks) ≡ sum_by h (map node_of tasks) + sum_by h waiting
 
 -- each is a right task at some value that was seen
 abbrev pub AreTasks : Network → Branch → ℕ → List Task → Type 0
@@ -52,8 +52,8 @@ half_of T N there = by_done T.done refl there
     by_done (Split id at i o P) is (inr (inr h)) = absurd h
 
 -- where a node comes from: it is the root, or a half of a task's
-abbrev pub Comes : Branch → List Task → Node → Type 0
-Comes R tasks N = (N ≡ root_of R) ⊎ ((T : Task) × Among tasks T × IsHalfOf T N)
+abbrev pub Comes : Branch → Packing → List Task → Node → Type 0
+Comes R P tasks N = (N ≡ root_of R P) ⊎ ((T : Task) × Among tasks T × IsHalfOf T N)
 
 -- 1 where it is this node
 abbrev is_it : Node → Node → ℕ
@@ -67,24 +67,24 @@ it_is N M h = by_case (same_node N M) refl h
     by_case false e k = absurd (omega arith)
 
 -- what is the root or weighs something among the halves comes from there
-among_halves : (R : Branch) (tasks : List Task) (N : Node) → 1 ≤ is_it N (root_of R) + sum_by (is_it N) (flat_map halves_of tasks) → Comes R tasks N
-among_halves R tasks N h = by_case (is_it N (root_of R)) refl
+among_halves : (R : Branch) (P : Packing) (tasks : List Task) (N : Node) → 1 ≤ is_it N (root_of R P) + sum_by (is_it N) (flat_map halves_of tasks) → Comes R P tasks N
+among_halves R P tasks N h = by_case (is_it N (root_of R P)) refl
   where
-    by_case : (n : ℕ) → is_it N (root_of R) ≡ n → Comes R tasks N
-    by_case (suc n) e = inl (it_is N (root_of R) (omega (arith, e)))
+    by_case : (n : ℕ) → is_it N (root_of R P) ≡ n → Comes R P tasks N
+    by_case (suc n) e = inl (it_is N (root_of R P) (omega (arith, e)))
     by_case zero e =
         let heavy = heavy_one (is_it N) (flat_map halves_of tasks) (omega (arith, e, h)) in
         let of_task = among_one_of halves_of tasks heavy.0 heavy.1 in
         inr (of_task.0, of_task.1, half_of of_task.0 N (subst (Among (halves_of of_task.0)) (sym (it_is N heavy.0 heavy.2)) of_task.2))
 
 -- each node that was worked on, or that waits, comes from there
-pub comes : (R : Branch) (tasks : List Task) (waiting : List Node) (N : Node) → IsAccounted R tasks waiting → Among (map node_of tasks) N ⊎ Among waiting N → Comes R tasks N
-comes R tasks waiting N accounted there = among_halves R tasks N (some there)
+pub comes : (R : Branch) (P : Packing) (tasks : List Task) (waiting : List Node) (N : Node) → IsAccounted R P tasks waiting → Among (map node_of tasks) N ⊎ Among waiting N → Comes R P tasks N
+comes R P tasks waiting N accounted there = among_halves R P tasks N (some there)
   where
     here : 1 ≤ is_it N N
     here = rw (node_itself N) (omega arith)
 
-    some : Among (map node_of tasks) N ⊎ Among waiting N → 1 ≤ is_it N (root_of R) + sum_by (is_it N) (flat_map halves_of tasks)
+    some : Among (map node_of tasks) N ⊎ Among waiting N → 1 ≤ is_it N (root_of R P) + sum_by (is_it N) (flat_map halves_of tasks)
     some (inl h) = omega (arith, here, accounted (is_it N), weight_le (is_it N) (map node_of tasks) N h)
     some (inr h) = omega (arith, here, accounted (is_it N), weight_le (is_it N) waiting N h)
 
@@ -142,30 +142,30 @@ split_so : (I : Network) (start seen : ℕ) (N : Node) (d : Done) (id : ℕ) (at
 split_so I start seen N d id at i o P is h = subst (IsDoneWith I start seen N) is h
 
 -- by induction on how much the branch decides
-made_below : (I : Network) (R : Branch) (start : ℕ) (tasks : List Task) (waiting : List Node) → AreTasks I R start tasks → IsAccounted R tasks waiting
+made_below : (I : Network) (R : Branch) (P : Packing) (start : ℕ) (tasks : List Task) (waiting : List Node) → AreTasks I R start tasks → IsAccounted R P tasks waiting
     → (k : ℕ) (N : Node) → decided N.branch ≤ k → Among (map node_of tasks) N ⊎ Among waiting N → IsMade R (map done_of tasks) N.id N.branch
-made_below I R start tasks waiting right accounted zero N few there = elim (comes R tasks waiting N accounted there) [
+made_below I R P start tasks waiting right accounted zero N few there = elim (comes R P tasks waiting N accounted there) [
   | inl is ↦ subst (λ (M : Node). IsMade R (map done_of tasks) M.id M.branch) (sym is) root
   | inr half ↦ absurd (omega (arith, few, half_more half.0 N half.2))
 ]
-made_below I R start tasks waiting right accounted (suc k) N few there = elim (comes R tasks waiting N accounted there) [
+made_below I R P start tasks waiting right accounted (suc k) N few there = elim (comes R P tasks waiting N accounted there) [
   | inl is ↦ subst (λ (M : Node). IsMade R (map done_of tasks) M.id M.branch) (sym is) root
   | inr half ↦
       let T = half.0 in
       let task = right T half.1 in
-      let parent = made_below I R start tasks waiting right accounted k T.node (omega (arith, few, half_more T N half.2)) (inl (among_map node_of tasks T half.1)) in
+      let parent = made_below I R P start tasks waiting right accounted k T.node (omega (arith, few, half_more T N half.2)) (inl (among_map node_of tasks T half.1)) in
       half_made R tasks T N half.2 half.1 (subst (λ (id : ℕ). IsMade R (map done_of tasks) id T.node.branch) (same_id I R start task.0 T N half.2 task.1) parent)
 ]
 
 -- each node that was worked on, or that waits, was made
-pub was_made : (I : Network) (R : Branch) (start : ℕ) (tasks : List Task) (waiting : List Node) (N : Node) → AreTasks I R start tasks → IsAccounted R tasks waiting
+pub was_made : (I : Network) (R : Branch) (P : Packing) (start : ℕ) (tasks : List Task) (waiting : List Node) (N : Node) → AreTasks I R start tasks → IsAccounted R P tasks waiting
     → Among (map node_of tasks) N ⊎ Among waiting N → IsMade R (map done_of tasks) N.id N.branch
-was_made I R start tasks waiting N right accounted there = made_below I R start tasks waiting right accounted (decided N.branch) N (omega arith) there
+was_made I R P start tasks waiting N right accounted there = made_below I R P start tasks waiting right accounted (decided N.branch) N (omega arith) there
 
 -- and a node that waits weighs no less than the split that made it
-pub keeps_weight : (I : Network) (R : Branch) (start : ℕ) (tasks : List Task) (waiting : List Node) (N : Node) → AreTasks I R start tasks → IsAccounted R tasks waiting
+pub keeps_weight : (I : Network) (R : Branch) (P : Packing) (start : ℕ) (tasks : List Task) (waiting : List Node) (N : Node) → AreTasks I R start tasks → IsAccounted R P tasks waiting
     → Among waiting N → KeepsWeight I R (map done_of tasks) N
-keeps_weight I R start tasks waiting N right accounted there = elim (comes R tasks waiting N accounted (inr there)) [
+keeps_weight I R P start tasks waiting N right accounted there = elim (comes R P tasks waiting N accounted (inr there)) [
   | inl is ↦ inl (ap (λ (M : Node). M.id) is)
   | inr half ↦ by_half half.0 half.1 half.2
 ]
@@ -174,7 +174,7 @@ keeps_weight I R start tasks waiting N right accounted there = elim (comes R tas
     by_half T among h =
         let task = right T among in
         let made = subst (λ (id : ℕ). IsMade R (map done_of tasks) id T.node.branch) (same_id I R start task.0 T N h task.1)
-        (was_made I R start tasks waiting T.node right accounted (inl (among_map node_of tasks T among))) in
+        (was_made I R P start tasks waiting T.node right accounted (inl (among_map node_of tasks T among))) in
         let of_split = split_so I start task.0 T.node T.done h.id h.at h.i h.o h.P h.is_split task.1.done_right in
         let weighs = halves_weigh I (packed T.node.id T.node.branch h.P) h.at h.i h.o of_split.packed.node of_split.place in
         let done = recorded tasks T N h among in

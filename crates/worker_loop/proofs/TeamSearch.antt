@@ -4,6 +4,7 @@ use Rattle.std.specs.Prelude.{All}
 use Rattle.std.proofs.lemmas.List.Elements.{All-append, All-cons, All-head, All-nil, All-tail, All-weaker}
 use Rattle.st_model.specs.declared.branch.Branch.{Branch}
 use Rattle.st_model.specs.Network.{Network}
+use Rattle.cut_packing.specs.declared.packing.Packing.{Packing}
 use Rattle.log_format.specs.Text.{IsWritablePacking}
 use Rattle.branching.specs.declared.node.Node.{Node}
 use Rattle.incumbent.specs.Seat.{Known as Sight}
@@ -61,60 +62,60 @@ module _ (I : Network) (R : Branch) (start workers : ℕ) where
       (right_segments least done (seat + 1) Ms ran.1 (λ T there. made T (among_right ran.0.0 rest T there)) (All-tail (λ (s : Sight). least ≤ s.lowest) M.sight (sights Ms) low))
 
   -- each node that waits is sound
-  waiting_sound : (team : List Member) (queued : List Node) → HaveRun I R start workers 0 team → IsPooled I R team queued → All (IsSound I R) (left_by team ++ queued)
-  waiting_sound team queued ran pooled = All-append (IsSound I R) (left_by team) queued (left_sound I R start workers 0 team ran) pooled.sound
+  waiting_sound : (P : Packing) (team : List Member) (queued : List Node) → HaveRun I R start workers 0 team → IsPooled I R P team queued → All (IsSound I R) (left_by team ++ queued)
+  waiting_sound P team queued ran pooled = All-append (IsSound I R) (left_by team) queued (left_sound I R start workers 0 team ran) pooled.sound
 
-  complete_so : (budget : ℕ) (team : List Member) (queued : List Node) (least opened claimed : ℕ) → length team ≤ workers → HaveRun I R start workers 0 team
-      → IsPooled I R team queued → IsCounted budget team opened claimed → IsLowest start team least → IsComplete (gathered_of team queued least claimed) I R start budget
-  complete_so budget team queued least opened claimed few ran pooled counted lowest =
+  complete_so : (P : Packing) (budget : ℕ) (team : List Member) (queued : List Node) (least opened claimed : ℕ) → length team ≤ workers → HaveRun I R start workers 0 team
+      → IsPooled I R P team queued → IsCounted budget team opened claimed → IsLowest start team least → IsComplete (gathered_of team queued least claimed) I R start budget
+  complete_so P budget team queued least opened claimed few ran pooled counted lowest =
       let tasks = tasks_of I R start workers 0 team ran in
       let waiting = left_by team ++ queued in
       let right = tasks_right I R start workers 0 team ran in
-      let all = accounted I R start workers team queued ran pooled in
+      let all = accounted I R start workers P team queued ran pooled in
       let records = records_are I R start workers 0 team ran in
-      let sound = waiting_sound team queued ran pooled in
+      let sound = waiting_sound P team queued ran pooled in
       let made : (T : Task) → Among tasks T → IsMade R (done_by team) T.node.id T.node.branch = λ T there.
-      subst (λ (ds : List Done). IsMade R ds T.node.id T.node.branch) (sym records) (was_made I R start tasks waiting T.node right all (inl (among_map node_of tasks T there))) in
+      subst (λ (ds : List Done). IsMade R ds T.node.id T.node.branch) (sym records) (was_made I R P start tasks waiting T.node right all (inl (among_map node_of tasks T there))) in
       let nodes : All (IsRightNode I R (map done_of tasks)) waiting = all_among (IsRightNode I R (map done_of tasks)) waiting (λ N there. record {
-        made = was_made I R start tasks waiting N right all (inr there);
+        made = was_made I R P start tasks waiting N right all (inr there);
         fits = (each_among (IsSound I R) waiting sound N there).node.node.fits;
-        keeps = keeps_weight I R start tasks waiting N right all there;
+        keeps = keeps_weight I R P start tasks waiting N right all there;
       }) in
       record {
         apart = λ id. given_once I R start workers team id ran few;
         once = λ id.
             subst (λ (ds : List Done). times id (map done_id ds ++ map (λ N. N.id) waiting) ≡ times id (made_ids ds)) (sym records)
-            (stands_once R tasks waiting id all (λ T there. (right T there).1.same));
+            (stands_once R P tasks waiting id all (λ T there. (right T there).1.same));
         segments = right_segments least (done_by team) 0 team ran made lowest.seen;
         waiting = subst (λ (ds : List Done). All (IsRightNode I R ds) waiting) (sym records) nodes;
         claimed = sym (counted.claims ∙ granted_are I R start workers 0 team ran);
         allowed = omega (arith, counted.within);
       }
 
-  finished_so : (budget : ℕ) (team : List Member) (queued : List Node) (least opened claimed : ℕ) → length team ≤ 64 → HaveRun I R start workers 0 team
-      → IsPooled I R team queued → IsCounted budget team opened claimed → IsLowest start team least → IsFinished (gathered_of team queued least claimed) I R start budget
-  finished_so budget team queued least opened claimed few ran pooled counted lowest = record {
+  finished_so : (P : Packing) (budget : ℕ) (team : List Member) (queued : List Node) (least opened claimed : ℕ) → length team ≤ 64 → HaveRun I R start workers 0 team
+      → IsPooled I R P team queued → IsCounted budget team opened claimed → IsLowest start team least → IsFinished (gathered_of team queued least claimed) I R start budget
+  finished_so P budget team queued least opened claimed few ran pooled counted lowest = record {
     trees = trees_so I R start workers team ran;
     least = lowest.is_least ∙ least_so I R start workers 0 team ran;
-    spent = spent_so I R start workers team queued budget opened claimed ran pooled counted few;
+    spent = spent_so I R start workers P team queued budget opened claimed ran pooled counted few;
   }
 
-  writable_so : (team : List Member) (queued : List Node) (least claimed : ℕ) → HaveRun I R start workers 0 team → IsPooled I R team queued
+  writable_so : (P : Packing) (team : List Member) (queued : List Node) (least claimed : ℕ) → HaveRun I R start workers 0 team → IsPooled I R P team queued
       → AllPackings IsWritablePacking (gathered_of team queued least claimed)
-  writable_so team queued least claimed ran pooled =
+  writable_so P team queued least claimed ran pooled =
       let tasks = tasks_of I R start workers 0 team ran in
       let right = tasks_right I R start workers 0 team ran in
       let writes : Done → Type 0 = λ d. IsWritablePacking (done_packing d) in (
         subst (All writes) (sym (records_are I R start workers 0 team ran))
             (all_mapped writes done_of tasks (λ T there. let task = right T there in writable_record I start task.0 T.node T.done task.1.done_right)),
-        All-weaker (IsSound I R) (λ N. IsWritablePacking N.packing) (λ N h. h.node.writable) (left_by team ++ queued) (waiting_sound team queued ran pooled),
+        All-weaker (IsSound I R) (λ N. IsWritablePacking N.packing) (λ N h. h.node.writable) (left_by team ++ queued) (waiting_sound P team queued ran pooled),
       )
 
 -- the theorem
 pub team_searches : TeamSearches
-team_searches I R start budget workers team queued least opened claimed size few ran pooled counted lowest = record {
-  complete = complete_so I R start workers budget team queued least opened claimed (omega (arith, size)) ran pooled counted lowest;
-  finished = finished_so I R start workers budget team queued least opened claimed (omega (arith, size, few)) ran pooled counted lowest;
+team_searches I R P start budget workers team queued least opened claimed size few ran pooled counted lowest = record {
+  complete = complete_so I R start workers P budget team queued least opened claimed (omega (arith, size)) ran pooled counted lowest;
+  finished = finished_so I R start workers P budget team queued least opened claimed (omega (arith, size, few)) ran pooled counted lowest;
   cheaper = cheaper_so I R start workers team ran;
-  writable = writable_so I R start workers team queued least claimed ran pooled;
+  writable = writable_so I R start workers P team queued least claimed ran pooled;
 }

@@ -8,6 +8,7 @@ use Rattle.std.proofs.lemmas.List.Elements.{All-append, All-nil}
 use Rattle.std.proofs.lemmas.List.Sums.{sum_by-append, sum_by-cons}
 use Rattle.st_model.specs.declared.branch.Branch.{Branch}
 use Rattle.st_model.specs.Network.{Network}
+use Rattle.cut_packing.specs.declared.packing.Packing.{Packing}
 use Rattle.branching.specs.declared.node.Node.{Node}
 use Rattle.node_pool.specs.Pool.{all_gave, all_took, gave, took}
 use Rattle.search_core.specs.declared.done.Done.{Done}
@@ -71,8 +72,8 @@ module _ (I : Network) (R : Branch) (start workers : ℕ) where
       joined a b c d e f g a' b' c' d' e' f' g' a'' b'' c'' d'' e'' f'' p q r s t u v m n = omega arith
 
   -- and with the pool the root and all halves are accounted for
-  pub accounted : (team : List Member) (queued : List Node) (ran : HaveRun I R start workers 0 team) → IsPooled I R team queued → IsAccounted R (tasks_of 0 team ran) (left_by team ++ queued)
-  accounted team queued ran pooled h =
+  pub accounted : (P : Packing) (team : List Member) (queued : List Node) (ran : HaveRun I R start workers 0 team) → IsPooled I R P team queued → IsAccounted R P (tasks_of 0 team ran) (left_by team ++ queued)
+  accounted P team queued ran pooled h =
       sums _ _ _ _ _ _ _ _ _ _ (together h 0 team ran) (pooled.root h) (pooled.left h) (sum_by-append h (left_by team) queued)
     where
       sums : (gave_before gave_after took_before took_after nodes left halves root queued waiting : ℕ) → gave_after + took_before + nodes + left ≡ gave_before + took_after + halves

@@ -4,6 +4,7 @@ use Rattle.std.specs.List.{sum_by}
 use Rattle.st_model.specs.declared.branch.Branch.{Branch}
 use Rattle.st_model.specs.Arborescence.{cost}
 use Rattle.st_model.specs.Network.{Network}
+use Rattle.cut_packing.specs.declared.packing.Packing.{Packing}
 use Rattle.log_format.specs.Text.{IsWritablePacking}
 use Rattle.branching.specs.declared.node.Node.{Node}
 use Rattle.incumbent.specs.Least.{least_of}
@@ -39,9 +40,9 @@ sights team = map (λ M. M.sight) team
 abbrev pub segments_of : List Member → List Segment
 segments_of team = map (λ M. M.segment) team
 
--- the pool began with the root, and these nodes were left in it at its close
-pub record IsPooled (I : Network) (R : Branch) (team : List Member) (queued : List Node) : Type 0 where
-  pub root : (h : Node → ℕ) → all_gave h (map (λ M. M.before) team) ≡ all_took h (map (λ M. M.before) team) + h (root_of R)
+-- the pool began with the node of the whole branch and this packing, and these nodes were left in it at its close
+pub record IsPooled (I : Network) (R : Branch) (P : Packing) (team : List Member) (queued : List Node) : Type 0 where
+  pub root : (h : Node → ℕ) → all_gave h (map (λ M. M.before) team) ≡ all_took h (map (λ M. M.before) team) + h (root_of R P)
   pub left : (h : Node → ℕ) → all_gave h (map (λ M. M.after) team) ≡ all_took h (map (λ M. M.after) team) + sum_by h queued
   pub sound : All (IsSound I R) queued
   pub few : length queued < 2 ^ 63
@@ -72,7 +73,7 @@ pub record IsSearched (G : Gathered) (I : Network) (R : Branch) (start budget : 
 
 -- the theorem on a team: what it did, with what pool, ledger and incumbent came to, is a search
 abbrev pub TeamSearches : Type 0
-TeamSearches = (I : Network) (R : Branch) (start budget workers : ℕ) (team : List Member) (queued : List Node) (least opened claimed : ℕ)
+TeamSearches = (I : Network) (R : Branch) (P : Packing) (start budget workers : ℕ) (team : List Member) (queued : List Node) (least opened claimed : ℕ)
     → length team ≡ workers → workers ≤ 64 → HaveRun I R start workers 0 team
-    → IsPooled I R team queued → IsCounted budget team opened claimed → IsLowest start team least
+    → IsPooled I R P team queued → IsCounted budget team opened claimed → IsLowest start team least
     → IsSearched (gathered_of team queued least claimed) I R start budget

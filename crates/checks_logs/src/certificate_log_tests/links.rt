@@ -1,13 +1,17 @@
 //! The log of a search that is split at a link.
-ghost use Rattle.std.specs.Prelude.{◌≡◌, IfOk};
+ghost use Rattle.std.specs.Prelude.{◌≡◌, [], IfOk, IfSome};
+ghost use Rattle.lift_back.specs.State.{whole};
 ghost use Rattle.search_core.specs.declared.done.Done.{Done as DoneSpec};
-ghost use Rattle.checks_logs.specs.Halved.{all_done, halved, no_cut, round_2};
+ghost use Rattle.search_core.specs.State.{no_cuts};
+ghost use Rattle.certificate_log.specs.Assembled.{IsAssembled};
+ghost use Rattle.checks_logs.specs.Halved.{all_done, halved, round_2, two};
 
-use super::{assembled, no_cut};
+use super::assembled;
 use crate::log_format_tests::{is_read_and_written, is_written};
 use cut_packing::{Cut, Packing, SharedSet};
-use search_core::{Done, End, Gathered, Segment};
-use st_model::{Listed, Need, SplitAt, Tree, is_tree, tree_cost};
+use log_format::Log;
+use search_core::{Done, End, Gathered, Segment, no_cuts};
+use st_model::{Instance, Listed, Need, SplitAt, Tree, is_tree, tree_cost};
 use std::alloc::{AllocError, Global};
 use std::test::Fail;
 use std::thread::Threads;
@@ -36,14 +40,14 @@ fn round_2(alloc: Global) -> Result<Packing, AllocError>
 
 // The record of a split on no cut.
 fn split(alloc: Global, id: u64, at: SplitAt, inside: u64, outside: u64) -> Done
-    ensures { result ≡ DoneSpec.Split id at inside outside no_cut }
+    ensures { result ≡ DoneSpec.Split id at inside outside no_cuts }
 {
     Done::Split {
         id,
         at,
         inside,
         outside,
-        packing: no_cut(alloc),
+        packing: no_cuts(alloc),
     }
 }
 
@@ -55,7 +59,7 @@ fn all_done(alloc: Global) -> Result<Vec<Done>, AllocError>
     done.push(split(alloc, 0, SplitAt::Link(1, 2), 1, 2))?;
     done.push(Done::Close {
         id: 1,
-        packing: no_cut(alloc),
+        packing: no_cuts(alloc),
     })?;
     done.push(split(alloc, 2, SplitAt::Vertex(1), 3, 4))?;
     done.push(Done::Close {
@@ -64,7 +68,7 @@ fn all_done(alloc: Global) -> Result<Vec<Done>, AllocError>
     })?;
     done.push(Done::Close {
         id: 4,
-        packing: no_cut(alloc),
+        packing: no_cuts(alloc),
     })?;
     Ok(done)
 }
@@ -88,18 +92,37 @@ fn halved(alloc: Global) -> Result<Gathered, AllocError>
     })
 }
 
-// Whether the tree over the link has that log.
-fn certifies_the_link<R: Threads + Sync>(rt: &R, alloc: Global) -> Result<bool, AllocError> {
+// Two vertices that pay 9, at 5 from each other.
+pub fn two(alloc: Global) -> Result<Instance, AllocError>
+    ensures { IfOk result (λ instance. instance ≡ two) }
+{
     let instance = pair(alloc, Need::Pays(9), Need::Pays(9))?;
+    Ok(instance)
+}
+
+// The log of that search, with the tree over the link. None where that isn't a tree of cost 5.
+pub fn log_of_link(alloc: Global, instance: &Instance) -> Result<Option<Log>, AllocError>
+    requires { instance.now ≡ two }
+    ensures { IfOk result (λ found. IfSome found (IsAssembled [] two (whole two) halved)) }
+{
     let tree = Tree {
         start: 1,
         arcs: Listed::of(vec![in alloc; (1, 2)]?),
     };
-    if !is_tree(alloc, &instance, &tree)? || tree_cost(&instance, &tree) != 5 {
-        return Ok(false);
+    if !is_tree(alloc, instance, &tree)? || tree_cost(instance, &tree) != 5 {
+        return Ok(None);
     }
     let gathered = halved(alloc)?;
-    let log = assembled(alloc, &instance, &tree, &gathered)?;
+    let log = assembled(alloc, instance, &tree, &gathered)?;
+    Ok(Some(log))
+}
+
+// Whether the tree over the link has that log.
+fn certifies_the_link<R: Threads + Sync>(rt: &R, alloc: Global) -> Result<bool, AllocError> {
+    let instance = two(alloc)?;
+    let Some(log) = log_of_link(alloc, &instance)? else {
+        return Ok(false);
+    };
     is_written(rt, alloc, &log, LOG, 1)
 }
 

@@ -14,7 +14,7 @@ const LOG: &str =
     "STEINERLOG 1 / CLAIM TREE 6 6 / TREE 1 3 / A 1 4 / A 4 2 / A 4 3 / STEPS 0 / PROOF / C 1 3 / U 2 2 1 2 / U 3 2 1 3 / U 2 2 3 2 3 4 / END";
 
 /// Logs, and how they are answered with the triangle.
-const ANSWERS: &[(&str, Status, u8, &str)] = &[
+pub const ANSWERS: &[(&str, Status, u8, &str)] = &[
     (LOG, Status::Optimal, 0, "optimal 6\n"),
     (
         "STEINERLOG 1 / CLAIM TREE 6 5 / TREE 1 3 / A 1 4 / A 4 2 / A 4 3 / STEPS 0 / PROOF / C 1 3 / U 2 2 1 2 / U 3 2 1 3 / U 2 2 3 2 3 4 / END",
@@ -43,7 +43,7 @@ const ANSWERS: &[(&str, Status, u8, &str)] = &[
 ];
 
 /// Whether these are the names that were asked for.
-fn have_names(asked: Option<&[String]>, want: &[&str]) -> bool {
+pub fn have_names(asked: Option<&[String]>, want: &[&str]) -> bool {
     asked.is_some_and(|names| names
         .iter()
         .map(|name| name.as_str())

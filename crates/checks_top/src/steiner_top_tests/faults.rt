@@ -1,37 +1,40 @@
+use super::checks::have_names;
 use super::solves::STAR;
 use super::{TRIANGLE, ending_of, ends, shelf_of};
-use st_edge::{LoadFault, MemorySink, SaveFault, Shelf};
+use st_edge::{LoadFault, MemoryShelf, MemorySink, SaveFault, Shelf};
 use std::alloc::{AllocError, Global};
 use std::sync::Wait;
 use std::test::Fail;
 use std::thread::Threads;
 use steiner_top::Status;
 
-/// A name that the shelf doesn't hold, and calls of the shelf that fail.
-const READ_FAULTS: &[(&str, u64)] = &[
-    ("solve b.stp", 99),
-    ("solve a.stp --log b", 1),
-    ("check a.stp b", 1),
-    ("check a.stp a.stp", 2),
+/// A name that the shelf doesn't hold, and calls of the shelf that fail; and the names that are asked for.
+const READ_FAULTS: &[(&str, u64, &[&str])] = &[
+    ("solve b.stp", 99, &["b.stp"]),
+    ("solve a.stp --log b", 1, &["a.stp"]),
+    ("check a.stp b", 1, &["a.stp"]),
+    ("check a.stp a.stp", 2, &["a.stp", "a.stp"]),
 ];
 
-/// Whether a run with these words ends with a read fault where this call fails, and saves nothing.
+/// Whether a run with these words ends with a read fault where this call fails, asks for these names, and saves nothing.
 fn ends_unread<R: Threads + Wait + Sync>(
     rt: &R,
     alloc: Global,
     line: &str,
     failing: u64,
+    names: &[&str],
 ) -> Result<bool, AllocError> {
     let mut shelf = shelf_of(alloc, TRIANGLE, &[failing])?;
     let want = (Status::ReadFault, 7, "read fault\n");
-    Ok(ends(rt, alloc, line, &mut shelf, want)? && shelf.text_of("b").is_none())
+    let is_unread = ends(rt, alloc, line, &mut shelf, want)?;
+    Ok(is_unread && have_names(shelf.asked(), names) && shelf.text_of("b").is_none())
 }
 
 #[test]
 fn tells_read_faults(rt: HostRuntime) -> Result<(), Fail> {
-    for (line, failing) in READ_FAULTS {
+    for (line, failing, names) in READ_FAULTS {
         assert!(rt;
-            ends_unread(&rt, rt.alloc(), line, *failing)?,
+            ends_unread(&rt, rt.alloc(), line, *failing, names)?,
             "after {line}"
         );
     }
@@ -44,12 +47,13 @@ fn ends_at_write<R: Threads + Wait + Sync>(
     alloc: Global,
     write: u64,
 ) -> Result<bool, AllocError> {
-    let (code, has_outcome, is_saved, sent) = found_at(rt, alloc, &[], &[write], 1_000)?;
+    let found = found_at(rt, alloc, &[], &[write], 1_000)?;
     let before = STAR
         .as_bytes()
         .get(..write.saturating_sub(1) as usize)
         .unwrap_or(&[]);
-    Ok(code == 8 && !has_outcome && is_saved && sent.as_slice() == before)
+    let is_lost = found.code == 8 && !found.has_outcome;
+    Ok(is_lost && found.log == Log::Right && found.sent.as_slice() == before)
 }
 
 /// Whichever write fails, the log stands and the bytes before are taken.
@@ -61,21 +65,62 @@ fn ends_at_each_write_that_fails(rt: HostRuntime) -> Result<(), Fail> {
     Ok(())
 }
 
-/// The code of a run that solves the triangle with a log where such calls fail and so many bytes can be sent; whether
-/// it has an outcome, and the log is saved; and what is sent.
+/// What stands under the log's name: nothing, a log that shows the least cost of the triangle, or something else.
+#[derive(Clone, Copy, PartialEq, Eq)]
+enum Log {
+    None,
+    Right,
+    Wrong,
+}
+
+/// What stands there, as a check says.
+fn log_in<R: Threads + Wait + Sync>(
+    rt: &R,
+    alloc: Global,
+    shelf: &mut MemoryShelf,
+) -> Result<Log, AllocError> {
+    if shelf.text_of("b").is_none() {
+        return Ok(Log::None);
+    }
+    let want = (Status::Optimal, 0, "optimal 6\n");
+    if ends(rt, alloc, "check a.stp b", shelf, want)? {
+        Ok(Log::Right)
+    } else {
+        Ok(Log::Wrong)
+    }
+}
+
+/// How a run ends: its code, whether it has an outcome, whether the file alone was asked for, what is saved and what is
+/// sent.
+#[derive(Drop)]
+struct Found {
+    code: u8,
+    has_outcome: bool,
+    asks_once: bool,
+    log: Log,
+    sent: Vec<u8>,
+}
+
+/// How a run ends that solves the triangle with a log where such calls fail and so many bytes can be sent.
 fn found_at<R: Threads + Wait + Sync>(
     rt: &R,
     alloc: Global,
     calls: &[u64],
     writes: &[u64],
     room: u64,
-) -> Result<(u8, bool, bool, Vec<u8>), AllocError> {
+) -> Result<Found, AllocError> {
     let mut shelf = shelf_of(alloc, TRIANGLE, calls)?;
     let mut out = MemorySink::of(alloc, room, 1, Vec::from_slice(alloc, writes)?)?;
     let ending = ending_of(rt, alloc, "solve a.stp --log b", &mut shelf, &mut out)?;
     let sent = Vec::from_slice(alloc, out.bytes())?;
-    let is_saved = shelf.text_of("b").is_some();
-    Ok((ending.status.code(), ending.has_outcome, is_saved, sent))
+    let asks_once = have_names(shelf.asked(), &["a.stp"]);
+    Ok(Found {
+        code: ending.status.code(),
+        has_outcome: ending.has_outcome,
+        asks_once,
+        log: log_in(rt, alloc, &mut shelf)?,
+        sent,
+    })
 }
 
 /// What fails of the devices, by the numbers of their calls, where the triangle is solved with a log.
@@ -86,7 +131,7 @@ struct Row {
     room: u64,
     code: u8,
     sent: &'static str,
-    is_saved: bool,
+    log: Log,
 }
 
 const ROWS: &[Row] = &[
@@ -97,7 +142,7 @@ const ROWS: &[Row] = &[
         room: 100,
         code: 7,
         sent: "read fault\n",
-        is_saved: false,
+        log: Log::None,
     },
     Row {
         name: "the file can't be read, and nothing be written",
@@ -106,7 +151,7 @@ const ROWS: &[Row] = &[
         room: 100,
         code: 8,
         sent: "",
-        is_saved: false,
+        log: Log::None,
     },
     Row {
         name: "the log can't be saved",
@@ -115,7 +160,7 @@ const ROWS: &[Row] = &[
         room: 100,
         code: 8,
         sent: "",
-        is_saved: false,
+        log: Log::None,
     },
     Row {
         name: "ten bytes can be written",
@@ -124,14 +169,15 @@ const ROWS: &[Row] = &[
         room: 10,
         code: 8,
         sent: "33D32945 S",
-        is_saved: true,
+        log: Log::Right,
     },
 ];
 
 /// Whether a run ends as its row says.
 fn ends_as<R: Threads + Wait + Sync>(rt: &R, alloc: Global, row: &Row) -> Result<bool, AllocError> {
-    let (code, _, is_saved, sent) = found_at(rt, alloc, row.calls, row.writes, row.room)?;
-    Ok(code == row.code && sent.as_slice() == row.sent.as_bytes() && is_saved == row.is_saved)
+    let found = found_at(rt, alloc, row.calls, row.writes, row.room)?;
+    let ends = found.code == row.code && found.sent.as_slice() == row.sent.as_bytes();
+    Ok(ends && found.asks_once && found.log == row.log)
 }
 
 #[test]

@@ -30,6 +30,12 @@ const NO_COMMANDS: &[&str] = &[
     "verify a.stp",
     "verify a.stp b c",
     "verify a.stp b --plain",
+    "resume a.stp",
+    "resume a.stp b c",
+    "resume a.stp b --plain",
+    "resume a.stp b --links",
+    "resume a.stp b --workers 65",
+    "resume a.stp b --nodes 1000001",
     "help",
     "--version",
 ];

@@ -7,13 +7,13 @@ use graph_store::Whole;
 use incumbent::Incumbent;
 use node_pool::begin;
 use open_ledger::Ledger;
-use search_core::Segment;
+use search_core::{Segment, no_cuts, root_of};
 use st_model::{Branch, Listed, Need, Tree};
 use std::alloc::{AllocError, Global};
 use std::marker::Brand;
 use std::sync::Wait;
 use std::thread::Threads;
-use worker_loop::{Aim, Crew, Hint, OpenGate, SoundFor, Worker, root_of};
+use worker_loop::{Aim, Crew, Hint, OpenGate, SoundFor, Worker};
 
 // What the only worker of a team brings back of a whole instance in which somebody is required, from
 // a tree of this cost.
@@ -52,7 +52,7 @@ fn run_alone<Q: Aim, R: Threads + Wait + Sync>(
     requires branch { IsBranch Q.instance Q.branch }
     requires required { LeavesRequired Q.instance Q.branch }
 {
-    let root = root_of(alloc, branch)?;
+    let root = root_of(alloc, branch, no_cuts(alloc))?;
     let mut passes = begin::<SoundFor<Q>>(alloc, 1, root)?;
     let (_ledger, mut accounts) = Ledger::begin(alloc, 100, 1)?;
     let (_incumbent, mut sights) = Incumbent::begin(alloc, first, 1)?;

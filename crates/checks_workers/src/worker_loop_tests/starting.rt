@@ -1,8 +1,8 @@
-ghost use Rattle.std.specs.Prelude.{◌<◌, ◌≤◌, IfSome, IfNone, IsTrue};
+ghost use Rattle.std.specs.Prelude.{◌≡◌, ◌<◌, ◌≤◌, IfOk, IfSome, IfNone, IsTrue};
 ghost use Rattle.st_model.specs.Arborescence.{cost};
 ghost use Rattle.st_model.specs.Lists.{sum_to};
 ghost use Rattle.st_model.specs.Network.{IsVertex, is_required, pays};
-ghost use Rattle.st_model.specs.Branch.{NoneIsCertain, all_trees};
+ghost use Rattle.st_model.specs.Branch.{IsBranch, NoneIsCertain, all_trees, with_outside};
 
 use graph_store::Whole;
 use search_core::Gathered;
@@ -12,7 +12,7 @@ use std::sync::Wait;
 use std::thread::Threads;
 use test_instances::bit;
 use tree_heuristic::first_tree;
-use worker_loop::{Gate, OpenGate, run_all};
+use worker_loop::{Gate, Limits, OpenGate, run_all};
 
 // How a search ended.
 #[derive(Clone, Copy, Debug, PartialEq, Eq)]
@@ -63,8 +63,23 @@ fn run_from<R: Threads + Wait + Sync, G: Gate>(
         return Ok(None);
     }
     let all = Branch::all(alloc);
-    let found = run_all(rt, alloc, whole, &all, &start, workers, budget, false, gate)?;
+    let limits = Limits {
+        workers,
+        budget,
+        links: false,
+    };
+    let found = run_all(rt, alloc, whole, &all, &start, limits, gate)?;
     Ok(Some(outcome_of(&found)))
+}
+
+// The branch of the trees that avoid a vertex.
+pub fn avoiding(alloc: Global, instance: &Instance, vertex: u32) -> Result<Sides, AllocError>
+    requires { IsVertex instance.now.n vertex }
+    ensures { IfOk result (λ sides. IsBranch instance.now sides × (sides ≡ with_outside all_trees vertex)) }
+{
+    let branch = Branch::all(alloc).with_outside(alloc, vertex)?;
+    let sides = Sides::of(alloc, branch)?;
+    Ok(sides)
 }
 
 // What a search of the trees that avoid a vertex ends with, from a first tree. None where there is
@@ -85,18 +100,22 @@ pub fn run_without<R: Threads + Wait + Sync>(
     if whole.instance.need(vertex) == Need::Required {
         return Ok(None);
     }
-    let branch = Branch::all(alloc).with_outside(alloc, vertex)?;
-    let sides = Sides::of(alloc, branch)?;
+    let sides = avoiding(alloc, &whole.instance, vertex)?;
     let Some(start) = first_tree(alloc, &whole.store, &sides)? else {
         return Ok(None);
     };
     let branch = sides.branch();
-    let found = run_all(rt, alloc, whole, branch, &start, 2, budget, false, &OpenGate)?;
+    let limits = Limits {
+        workers: 2,
+        budget,
+        links: false,
+    };
+    let found = run_all(rt, alloc, whole, branch, &start, limits, &OpenGate)?;
     Ok(Some(outcome_of(&found)))
 }
 
 // How a search ended, by what was gathered.
-fn outcome_of(found: &Gathered) -> Outcome {
+pub fn outcome_of(found: &Gathered) -> Outcome {
     let mut waiting = found.queued.as_slice().len();
     for segment in found.segments.as_slice() {
         waiting = waiting.saturating_add(segment.left.as_slice().len());

@@ -7,12 +7,12 @@ use Rattle.steiner_top.proofs.running.run.Goals as goal
 
 pub returns-in-Ok-clause-headline : goal.returns-in-Ok-clause-headline
 returns-in-Ok-clause-headline g c = decides (command_of (map string_bytes c.args.words.now)) (g.F.Shelf.text c.args.shelf.now) (g.F.Shelf.text c.answer.new.shelf) _ _ _ _ _ _ c.send.result.status c.send.result.outcome (g.K.Sink.taken c.args.out.now) (g.K.Sink.taken c.send.new.out)
-    c.refused_exactly.ensures c.solutions_refused_exactly.ensures (search rules) (search rules) (λ read. absurd (never_stopped (command_of (map string_bytes c.args.words.now)) (g.F.Shelf.text c.args.shelf.now) c.in-Ok.answer.status c.send.result.status c.in-Ok.answer.outcome c.in-Ok.answer.text.items c.in-Ok.ensures.answered (λ fine. (c.send.ensures.sent fine).0) (inl read)))
+    c.refused_exactly.ensures c.solutions_refused_exactly.ensures (record { spelling = c.one_spelling.ensures; refused = c.refused_exactly-2.ensures; rejected = c.rejected_exactly.ensures }) (search rules) (search rules) (λ read. absurd (never_stopped (command_of (map string_bytes c.args.words.now)) (g.F.Shelf.text c.args.shelf.now) c.in-Ok.answer.status c.send.result.status c.in-Ok.answer.outcome c.in-Ok.answer.text.items c.in-Ok.ensures.answered (λ fine. (c.send.ensures.sent fine).0) (inl read)))
     (λ failed. inr (c.send.ensures.cause.rose (failed, never_unwritten (command_of (map string_bytes c.args.words.now)) (g.F.Shelf.text c.args.shelf.now) c.in-Ok.answer.status c.in-Ok.answer.outcome c.in-Ok.answer.text.items c.in-Ok.ensures.answered)))
 
 pub returns-in-Err-clause-headline : goal.returns-in-Err-clause-headline
 returns-in-Err-clause-headline g c = decides (command_of (map string_bytes c.args.words.now)) (g.F.Shelf.text c.args.shelf.now) (g.F.Shelf.text c.answer.new.shelf) _ _ _ _ _ _ c.send-in-Err.result.status c.send-in-Err.result.outcome (g.K.Sink.taken c.args.out.now) (g.K.Sink.taken c.send-in-Err.new.out)
-    c.refused_exactly.ensures c.solutions_refused_exactly.ensures (search rules) (search rules) (search rules) (search rules)
+    c.refused_exactly.ensures c.solutions_refused_exactly.ensures (record { spelling = c.one_spelling.ensures; refused = c.refused_exactly-2.ensures; rejected = c.rejected_exactly.ensures }) (search rules) (search rules) (search rules) (search rules)
 
 pub returns-in-Ok-clause-checks : goal.returns-in-Ok-clause-checks
 returns-in-Ok-clause-checks g c = decides_checks (command_of (map string_bytes c.args.words.now)) (g.F.Shelf.text c.args.shelf.now) _ _ _ _ _ _ c.send.result.status c.send.result.outcome (g.K.Sink.taken c.args.out.now) (g.K.Sink.taken c.send.new.out)

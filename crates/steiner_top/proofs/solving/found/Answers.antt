@@ -1,9 +1,8 @@
-use Rattle.std.proofs.Common.{subst}
-use Rattle.std.proofs.lemmas.Result.{IfOk-weaker}
+use Rattle.std.proofs.Common.{rules, ◌≡◌, List, [], ◌∷◌, subst}
 use Rattle.st_model.specs.Network.{Network}
+use Rattle.search_core.specs.declared.gathered.Searched.{Searched}
 use Rattle.certificate_log.specs.Assembled.{IsAssembled}
 use Rattle.steiner_top.specs.Left.{IsShownBy}
-use Rattle.steiner_top.specs.Outcome.{IsOutcome}
 use Rattle.steiner_top.proofs.Certifying.{IsLed, shown_outcome}
 use Rattle.steiner_top.proofs.WritableSteps.{steps_are_writable}
 use Rattle.steiner_top.proofs.solving.found.Goals as goal
@@ -26,5 +25,8 @@ returns c =
       best = c.requires.best;
       assembled = subst (λ (J : Network). IsAssembled steps J s c.args.best.search.gathered log) c.requires.left.first c.in_ok-certificate.ensures;
     } in
-    IfOk-weaker c.shown.result (IsShownBy c.args.best.search log c.args.reading.now.scale) (IsOutcome c.args.wanted.nodes c.args.wanted.plain c.args.wanted.links I c.args.reading.now.scale)
-    (λ o. shown_outcome c.args.wanted.nodes c.args.wanted.plain c.args.wanted.links I steps s c.args.best log led c.args.reading.now.scale o c.accepted_holds.ensures) c.shown.ensures
+    let one = c.args.best.search in
+    let same : c.in_ok-searches.searches.items ≡ one ∷ [] = search rules in
+    let o = c.in_ok-outcome.outcome in
+    let listed = subst (λ (ss : List Searched). IsShownBy one.gathered.claimed ss log c.args.reading.now.scale o) same c.in_ok-outcome.ensures in
+    shown_outcome c.args.wanted.nodes c.args.wanted.plain c.args.wanted.links I steps s c.args.best log led c.args.reading.now.scale o c.accepted_holds.ensures listed

@@ -1,4 +1,4 @@
-use Rattle.std.proofs.Common.{rules, ◌≡◌, ◌∷◌, ◌++◌, [], ℕ, List, None, arith, subst}
+use Rattle.std.proofs.Common.{rules, ◌≡◌, ◌∷◌, ◌++◌, [], ℕ, List, None, false, arith, subst}
 use Rattle.std.specs.Prelude.{All}
 use Rattle.std.proofs.lemmas.List.Elements.{All-head, All-tail}
 use Rattle.incumbent.specs.Seat.{Known as Sight, fresh as new_sight}
@@ -28,5 +28,5 @@ run-requires-clause-ready g c κs within =
     record {
       whole = c.requires.whole;
       aim = c.requires.aim;
-      unused = unused_one L M 100 g.Q.Aim.start 1 0 s (omega arith) (record { seat_is = search rules; workers_are = search rules; links_are = search rules; next = search rules }) account_is sight_is;
+      unused = unused_one {links = false} L M 100 g.Q.Aim.start 1 0 s (omega arith) (record { seat_is = search rules; workers_are = search rules; links_are = search rules; next = search rules }) account_is sight_is;
     }

@@ -1,0 +1,10 @@
+pub mod Grafting
+pub mod Leaving
+pub mod Walks
+pub mod Lights
+pub mod Nexts
+pub mod Weighing
+pub mod Due
+pub mod Stands
+pub mod Grown
+pub mod Certifying

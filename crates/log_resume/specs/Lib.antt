@@ -1,0 +1,5 @@
+pub mod Closes
+pub mod Open
+pub mod Grafted
+pub mod Laws
+pub mod Growing

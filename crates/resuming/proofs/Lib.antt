@@ -1,0 +1,11 @@
+pub mod Keeping
+pub mod Going
+pub mod Avoiding
+pub mod Falling
+pub mod Heavy
+pub mod Numbered
+pub mod Spending
+pub mod Grafting
+pub mod Leaving
+pub mod Firsts
+pub mod Concluding

@@ -1,0 +1,4 @@
+pub mod GoingOn
+pub mod Finding
+pub mod Resumed
+pub mod InRest
