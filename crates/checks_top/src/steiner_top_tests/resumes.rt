@@ -1,12 +1,19 @@
 use super::checks::ANSWERS;
-use super::{APART, TRIANGLE, WHEEL, ends, saves_as, shelf_of, sink_of, text_of};
-use log_format::write_log;
+use super::{
+    APART, Solution, TRIANGLE, WHEEL, ending_of, ends, saves_as, shelf_of, sink_of, text_of,
+};
 use st_edge::{MemoryShelf, Shelf};
 use std::alloc::{AllocError, Global};
 use std::sync::Wait;
 use std::test::Fail;
 use std::thread::Threads;
-use steiner_top::{Limits, OpenGate, Outcome, Status, Wanted, resume_bytes, run, solve_bytes};
+use steiner_top::{Limits, OpenGate, Outcome, Status, resume_bytes};
+
+/// A log of the triangle whose close proves nothing.
+const LIGHT: &str = "STEINERLOG 1 / CLAIM TREE 6 0 / TREE 1 3 / A 1 4 / A 4 2 / A 4 3 / STEPS 0 / PROOF / C 0 0 / END";
+
+/// One with a split at a link, and two such closes.
+const LIGHT_AT_A_LINK: &str = "STEINERLOG 2 / CLAIM TREE 6 0 / TREE 1 3 / A 1 4 / A 4 2 / A 4 3 / STEPS 0 / PROOF / L 1 2 / C 0 0 / C 0 0 / END";
 
 /// Logs of the triangle, the words after them, and what is said of the log that is saved: one that claims less than it
 /// proves; one that proves it; one that proves nothing, with a budget and without; and one whose two closes at a link
@@ -23,12 +30,12 @@ const RESUMED: &[(&str, &str, &str)] = &[
         "optimal 6\n",
     ),
     (
-        "STEINERLOG 1 / CLAIM TREE 6 0 / TREE 1 3 / A 1 4 / A 4 2 / A 4 3 / STEPS 0 / PROOF / C 0 0 / END",
+        LIGHT,
         " --workers 2",
         "optimal 6\n",
     ),
     (
-        "STEINERLOG 1 / CLAIM TREE 6 0 / TREE 1 3 / A 1 4 / A 4 2 / A 4 3 / STEPS 0 / PROOF / C 0 0 / END",
+        LIGHT,
         " --nodes 0",
         "bound 0 6\n",
     ),
@@ -38,12 +45,12 @@ const RESUMED: &[(&str, &str, &str)] = &[
         "optimal 6\n",
     ),
     (
-        "STEINERLOG 2 / CLAIM TREE 6 0 / TREE 1 3 / A 1 4 / A 4 2 / A 4 3 / STEPS 0 / PROOF / L 1 2 / C 0 0 / C 0 0 / END",
+        LIGHT_AT_A_LINK,
         " --nodes 1",
         "bound 0 6\n",
     ),
     (
-        "STEINERLOG 2 / CLAIM TREE 6 0 / TREE 1 3 / A 1 4 / A 4 2 / A 4 3 / STEPS 0 / PROOF / L 1 2 / C 0 0 / C 0 0 / END",
+        LIGHT_AT_A_LINK,
         "",
         "optimal 6\n",
     ),
@@ -73,24 +80,10 @@ fn goes_on<R: Threads + Wait + Sync>(
     }
     let (status, code) = status_of(verdict);
     let line = format!(in alloc; "resume a.stp b --log c{words}")?;
-    let ended = status_after(rt, alloc, &line, &mut shelf)?;
+    let mut out = sink_of(alloc)?;
+    let ended = ending_of(rt, alloc, &line, &mut shelf, &mut out)?.status;
     let want = (status, code, verdict);
     Ok(ended == status && ends(rt, alloc, "check a.stp c", &mut shelf, want)?)
-}
-
-/// The status of a run with these words.
-fn status_after<R: Threads + Wait + Sync>(
-    rt: &R,
-    alloc: Global,
-    line: &str,
-    shelf: &mut MemoryShelf,
-) -> Result<Status, AllocError> {
-    let mut words = Vec::new(alloc);
-    for word in line.split(' ') {
-        words.push(String::from_str(alloc, word)?)?;
-    }
-    let mut out = sink_of(alloc)?;
-    Ok(run(rt, alloc, &words, shelf, &mut out, &OpenGate).status)
 }
 
 #[test]
@@ -149,93 +142,74 @@ fn refuses_logs_as_a_check_does(rt: HostRuntime) -> Result<(), Fail> {
     Ok(())
 }
 
-/// What a run comes to: the two numbers, how many nodes it expanded, and its log.
-#[derive(Drop)]
-struct Stop {
-    primal: u64,
-    dual: u64,
-    expanded: u64,
-    log: Vec<u8>,
-}
-
-/// What an outcome with a tree comes to.
-fn stop_of<R: Threads + Sync>(
+/// The cost, the bound and how many nodes were expanded, of a run from a log of the triangle, within so many nodes.
+fn numbers_of<R: Threads + Wait + Sync>(
     rt: &R,
     alloc: Global,
-    outcome: Outcome,
-) -> Result<Option<Stop>, AllocError> {
-    let Outcome::Found {
-        primal,
-        dual,
-        expanded,
-        certificate,
-        ..
-    } = outcome
-    else {
-        return Ok(None);
-    };
-    Ok(Some(Stop {
-        primal,
-        dual,
-        expanded,
-        log: write_log(rt, alloc, &certificate, 1)?,
-    }))
-}
-
-/// What a search of the wheel without a budget comes to.
-fn unsearched<R: Threads + Wait + Sync>(rt: &R, alloc: Global) -> Result<Option<Stop>, AllocError> {
-    let wanted = Wanted {
-        workers: 1,
-        nodes: 0,
-        plain: true,
-        links: false,
-    };
-    match solve_bytes(rt, alloc, &text_of(alloc, WHEEL)?, wanted, &OpenGate) {
-        Ok(outcome) => stop_of(rt, alloc, outcome),
-        Err(_) => Ok(None),
-    }
-}
-
-/// What a run of one node comes to that goes on from there.
-fn after<R: Threads + Wait + Sync>(
-    rt: &R,
-    alloc: Global,
-    stop: &Stop,
-    workers: u32,
-) -> Result<Option<Stop>, AllocError> {
+    log: &str,
+    budget: u64,
+) -> Result<Option<(u64, u64, u64)>, AllocError> {
     let limits = Limits {
-        workers,
-        budget: 1,
+        workers: 1,
+        budget,
         links: false,
     };
-    let stp = text_of(alloc, WHEEL)?;
-    match resume_bytes(rt, alloc, &stp, &stop.log, limits, &OpenGate) {
-        Ok(outcome) => stop_of(rt, alloc, outcome),
-        Err(_) => Ok(None),
+    let (stp, log) = (text_of(alloc, TRIANGLE)?, text_of(alloc, log)?);
+    match resume_bytes(rt, alloc, &stp, &log, limits, &OpenGate) {
+        Ok(Outcome::Found {
+            primal,
+            dual,
+            expanded,
+            ..
+        }) => Ok(Some((primal, dual, expanded))),
+        _ => Ok(None),
     }
 }
 
-/// How many runs of one node each it takes by so many workers until the wheel's least cost is proved; None where one
-/// expands another number, the bound falls, or the cost rises.
+#[test]
+fn goes_on_from_bytes(rt: HostRuntime) -> Result<(), Fail> {
+    for (budget, numbers) in [(0, (6, 0, 0)), (1, (6, 0, 1))] {
+        let found = numbers_of(&rt, rt.alloc(), LIGHT_AT_A_LINK, budget)?.ok_or("no tree")?;
+        assert!(rt; found == numbers, "within {budget} nodes");
+    }
+    Ok(())
+}
+
+/// What a run with these words over this shelf comes to, if it has a tree.
+fn solution_after<R: Threads + Wait + Sync>(
+    rt: &R,
+    alloc: Global,
+    line: &str,
+    shelf: &mut MemoryShelf,
+) -> Result<Option<Solution>, AllocError> {
+    let mut out = sink_of(alloc)?;
+    Ok(ending_of(rt, alloc, line, shelf, &mut out)?.solution)
+}
+
+/// How many runs of one node each it takes by so many workers until the wheel's least cost is proved, each from the log
+/// of the one before; None where the bound falls, or the cost rises.
 fn runs_until_proved<R: Threads + Wait + Sync>(
     rt: &R,
     alloc: Global,
     workers: u32,
 ) -> Result<Option<u64>, AllocError> {
-    let Some(mut stop) = unsearched(rt, alloc)? else {
+    let mut shelf = shelf_of(alloc, WHEEL, &[])?;
+    let first = "solve a.stp --plain --nodes 0 --log b";
+    let next = format!(in alloc; "resume a.stp b --workers {workers} --nodes 1 --log b")?;
+    let Some(mut stop) = solution_after(rt, alloc, first, &mut shelf)? else {
         return Ok(None);
     };
     for runs in 0..20 {
         if stop.dual == stop.primal {
             return Ok(Some(runs));
         }
-        let Some(next) = after(rt, alloc, &stop, workers)? else {
+        let Some(later) = solution_after(rt, alloc, &next, &mut shelf)? else {
             return Ok(None);
         };
-        if next.expanded != 1 || next.dual < stop.dual || next.primal > stop.primal {
+        if later.dual < stop.dual || later.primal > stop.primal {
             return Ok(None);
         }
-        stop = next;
+        stop = later;
     }
     Ok(None)
 }
