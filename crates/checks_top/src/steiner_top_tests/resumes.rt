@@ -10,10 +10,12 @@ use std::thread::Threads;
 use steiner_top::{Limits, OpenGate, Outcome, Status, resume_bytes};
 
 /// A log of the triangle whose close proves nothing.
-const LIGHT: &str = "STEINERLOG 1 / CLAIM TREE 6 0 / TREE 1 3 / A 1 4 / A 4 2 / A 4 3 / STEPS 0 / PROOF / C 0 0 / END";
+const LIGHT: &str =
+    "STEINERLOG 1 / CLAIM TREE 6 0 / TREE 1 3 / A 1 4 / A 4 2 / A 4 3 / STEPS 0 / PROOF / C 0 0 / END";
 
 /// One with a split at a link, and two such closes.
-const LIGHT_AT_A_LINK: &str = "STEINERLOG 2 / CLAIM TREE 6 0 / TREE 1 3 / A 1 4 / A 4 2 / A 4 3 / STEPS 0 / PROOF / L 1 2 / C 0 0 / C 0 0 / END";
+const LIGHT_AT_A_LINK: &str =
+    "STEINERLOG 2 / CLAIM TREE 6 0 / TREE 1 3 / A 1 4 / A 4 2 / A 4 3 / STEPS 0 / PROOF / L 1 2 / C 0 0 / C 0 0 / END";
 
 /// Logs of the triangle, the words after them, and what is said of the log that is saved: one that claims less than it
 /// proves; one that proves it; one that proves nothing, with a budget and without; and one whose two closes at a link
@@ -29,31 +31,15 @@ const RESUMED: &[(&str, &str, &str)] = &[
         " --nodes 0",
         "optimal 6\n",
     ),
-    (
-        LIGHT,
-        " --workers 2",
-        "optimal 6\n",
-    ),
-    (
-        LIGHT,
-        " --nodes 0",
-        "bound 0 6\n",
-    ),
+    (LIGHT, " --workers 2", "optimal 6\n"),
+    (LIGHT, " --nodes 0", "bound 0 6\n"),
     (
         "STEINERLOG 1 / CLAIM TREE 8 0 / TREE 1 2 / A 1 2 / A 2 3 / STEPS 0 / PROOF / C 0 0 / END",
         "",
         "optimal 6\n",
     ),
-    (
-        LIGHT_AT_A_LINK,
-        " --nodes 1",
-        "bound 0 6\n",
-    ),
-    (
-        LIGHT_AT_A_LINK,
-        "",
-        "optimal 6\n",
-    ),
+    (LIGHT_AT_A_LINK, " --nodes 1", "bound 0 6\n"),
+    (LIGHT_AT_A_LINK, "", "optimal 6\n"),
 ];
 
 /// The status that a verdict ends a run with.
@@ -156,12 +142,14 @@ fn numbers_of<R: Threads + Wait + Sync>(
     };
     let (stp, log) = (text_of(alloc, TRIANGLE)?, text_of(alloc, log)?);
     match resume_bytes(rt, alloc, &stp, &log, limits, &OpenGate) {
-        Ok(Outcome::Found {
-            primal,
-            dual,
-            expanded,
-            ..
-        }) => Ok(Some((primal, dual, expanded))),
+        Ok(
+            Outcome::Found {
+                primal,
+                dual,
+                expanded,
+                ..
+            },
+        ) => Ok(Some((primal, dual, expanded))),
         _ => Ok(None),
     }
 }
