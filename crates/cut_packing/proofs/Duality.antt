@@ -2,7 +2,7 @@
 use Rattle.std.proofs.Common.{◌≡◌, ℕ, ◌+◌, ◌-◌, ◌≤◌, max, Bool, true, false, cond, not, List, [], ◌∷◌, Option, Some, None, inl, inr, refl, sym, ap, ◌∙◌, arith}
 use Rattle.std.specs.Prelude.{◌==◌, IsTrue, IsFalse, IsSome, IfSome, if◌then◌else◌, MatchOption, unwrap_or}
 use Rattle.std.specs.List.{AllByRecursion}
-use Rattle.std.proofs.lemmas.Bool.{or_left, or_right, eqb-true, eq-eqb, cases_Bool, both_ways, false_from_ne_true, false≢true}
+use Rattle.std.proofs.lemmas.Bool.{or_left, or_right, and_parts, eqb-true, eq-eqb, cases_Bool, both_ways, false_from_ne_true, false≢true}
 use Rattle.std.proofs.lemmas.Bool.Decides.{nat_tests}
 use Rattle.std.proofs.lemmas.List.Elements.{recursion_from_All, All-weaker}
 use Rattle.st_model.specs.declared.branch.Branch.{Branch}
@@ -16,7 +16,7 @@ use Rattle.st_model.specs.Branch.{Belongs, is_present, certain_in, with_inside, 
 use Rattle.st_model.specs.Made.{is_between, has_pair, AreApart}
 use Rattle.cut_packing.specs.declared.cut.Cut.{Cut}
 use Rattle.cut_packing.specs.declared.packing.Packing.{Packing}
-use Rattle.cut_packing.specs.Packing.{load, named, IsRootIn, CutFitsIn, FitsIn, outside_pays_in, spare_in}
+use Rattle.cut_packing.specs.Packing.{load, named, nameable_by, IsRootIn, CutFitsIn, FitsIn, outside_pays_in, spare_in}
 use Rattle.cut_packing.specs.ProofTree.{close, split}
 use Rattle.cut_packing.specs.Laws.{WeakDuality, ProofTreesBound}
 use Rattle.st_model.proofs.Branches.{certain_reached}
@@ -55,7 +55,7 @@ unreached_named n reach (c ∷ cuts) h =
     both false x y = omega arith
 
 -- of the arcs of a tree that grows, each has something that holds of arcs between reached vertices
-each_arc : (G : Ground) (K : ℕ → ℕ → Type 0) (R : List ℕ) (arcs : List (ℕ × ℕ)) → GrowsIn G R arcs → ((u v : ℕ) → IsSome (G.price u v) → IsTrue (has (reached_from R arcs) u) → IsTrue (has (reached_from R arcs) v) → IsTrue (has_pair arcs u v) → K u v) → AllByRecursion (λ a. K a.0 a.1) arcs
+pub each_arc : (G : Ground) (K : ℕ → ℕ → Type 0) (R : List ℕ) (arcs : List (ℕ × ℕ)) → GrowsIn G R arcs → ((u v : ℕ) → IsSome (G.price u v) → IsTrue (has (reached_from R arcs) u) → IsTrue (has (reached_from R arcs) v) → IsTrue (has_pair arcs u v) → K u v) → AllByRecursion (λ a. K a.0 a.1) arcs
 each_arc G K R [] g h = tt
 each_arc G K R ((u, v) ∷ arcs) g h = (
   h u v g.0 (has-reached_from (v ∷ R) arcs u (or_right (v == u) _ g.1)) (has-reached_from (v ∷ R) arcs v (or_left (v == v) _ (eq-eqb v v refl))) (or_left _ _ (own (u, v))),
@@ -83,7 +83,7 @@ turned_bears G f r R arcs undirected g h =
     (omega (arith, forth), omega (arith, back)))) in
     omega (arith, pays)
 
-reached_present : (B : Branch) (t : Tree) (v : ℕ) → Belongs B t → IsTrue (has (reached t) v) → IsTrue (is_present B v)
+pub reached_present : (B : Branch) (t : Tree) (v : ℕ) → Belongs B t → IsTrue (has (reached t) v) → IsTrue (is_present B v)
 reached_present B t v belongs r =
     elim (cases_Bool (has B.outside v)) [
       | inl out ↦ absurd (both_ways (has (reached t) v) (belongs.reaches.outside v out) r)
@@ -104,14 +104,14 @@ spare_same G cuts undirected m a h = elim (between-ends m a.0 a.1 h) [
     max-comm x y = grind (arith, nat_tests)
 
 -- what a link of the tree bears in one direction
-bears_one : (G : Ground) (B : Branch) (P : Packing) (u v : ℕ) → FitsIn G B P → IsTrue (is_present B u) → IsTrue (is_present B v) → IsSome (G.price u v) → IsFalse (has_pair B.barred u v) → load P.cuts (u, v) ≤ arc_cost_in G (u, v)
+pub bears_one : (G : Ground) (B : Branch) (P : Packing) (u v : ℕ) → FitsIn G B P → IsTrue (is_present B u) → IsTrue (is_present B v) → IsSome (G.price u v) → IsFalse (has_pair B.barred u v) → load P.cuts (u, v) ≤ arc_cost_in G (u, v)
 bears_one G B P u v fits tail head some free = priced (G.price u v) (load P.cuts (u, v)) some (unbarred (has_pair B.barred u v) free (fits.arcs u v tail head))
   where
     unbarred : (b : Bool) → IsFalse b → IfSome (cond b None (G.price u v)) (λ price. load P.cuts (u, v) ≤ price) → IfSome (G.price u v) (λ price. load P.cuts (u, v) ≤ price)
     unbarred true f h = absurd (false≢true (sym f))
     unbarred false f h = h
 
-not_barred : (B : Branch) (t : Tree) (u v : ℕ) → Belongs B t → IsTrue (has_pair t.arcs u v) → IsFalse (has_pair B.barred u v)
+pub not_barred : (B : Branch) (t : Tree) (u v : ℕ) → Belongs B t → IsTrue (has_pair t.arcs u v) → IsFalse (has_pair B.barred u v)
 not_barred B t u v belongs there = false_from_ne_true (has_pair B.barred u v) (λ barred. both_ways (has_pair t.arcs u v) (belongs.uses.barred u v barred) there)
 
 bears : (G : Ground) (B : Branch) (P : Packing) (t : Tree) → IsUndirected G → FitsIn G B P → IsTreeIn G t → Belongs B t → AllByRecursion (λ a. Bears G (load P.cuts) (counted G P.cuts B.must) a.0 a.1) t.arcs
@@ -156,6 +156,11 @@ links_pay G B P t undirected apart fits tree belongs = by_root P.root fits.root
 pub named_vertex : (G : Ground) (B : Branch) (c : Cut) → CutFitsIn G B c → IsVertex G.n c.q
 named_vertex G B c fits = at_member (IsVertex G.n) c.set c.q (recursion_from_All _ c.set fits.in_range) fits.member
 
+-- who may be named isn't outside
+named_present : (root : Option ℕ) (G : Ground) (B : Branch) (q : ℕ) → IsTrue (nameable_by root G B q) → IsTrue (is_present B q)
+named_present None G B q h = h
+named_present (Some r) G B q h = (and_parts (is_present B q) (certain_in G B q) h).0
+
 outside_unnamed : (B : Branch) (v : ℕ) (cuts : List Cut) → IsTrue (has B.outside v) → AllByRecursion (λ c. IsTrue (is_present B c.q)) cuts → named cuts v ≡ 0
 outside_unnamed B v [] out h = refl
 outside_unnamed B v (c ∷ cuts) out h = step (c.q == v) refl (outside_unnamed B v cuts out h.1)
@@ -171,14 +176,14 @@ prize_pays G B P t v fits tree belongs in_range = step (has (reached t) v) (has 
     step true true r o = absurd (both_ways (has (reached t) v) (belongs.reaches.outside v o) r)
     step true false r o = omega arith
     step false true r o =
-        let none = outside_unnamed B v P.cuts o (recursion_from_All _ P.cuts (All-weaker (CutFitsIn G B) _ (λ c fit. fit.present) P.cuts fits.cuts)) in
+        let none = outside_unnamed B v P.cuts o (recursion_from_All _ P.cuts (All-weaker (CutFitsIn G B) _ (λ c fit. named_present G.root G B c.q fit.present) P.cuts fits.cuts)) in
         omega (arith, none)
     step false false r o =
         let free : IsFalse (certain_in G B v) = false_from_ne_true (certain_in G B v) (λ certain. both_ways (has (reached t) v) r (certain_reached G B t v tree belongs.reaches in_range certain)) in
         omega (arith, fits.prizes v in_range free)
 
 -- where links pay for the cuts that are reached and for something more, the whole tree pays for all cuts, the outside and that
-whole_pays : (G : Ground) (B : Branch) (P : Packing) (t : Tree) (more : ℕ) → FitsIn G B P → IsTreeIn G t → Belongs B t → total (λ c. if has (reached t) c.q then c.y else 0) P.cuts + more ≤ total (arc_cost_in G) t.arcs → (sum_to (outside_pays_in G B) G.n + total (λ c. c.y) P.cuts) + more ≤ cost_in G t
+pub whole_pays : (G : Ground) (B : Branch) (P : Packing) (t : Tree) (more : ℕ) → FitsIn G B P → IsTreeIn G t → Belongs B t → total (λ c. if has (reached t) c.q then c.y else 0) P.cuts + more ≤ total (arc_cost_in G) t.arcs → (sum_to (outside_pays_in G B) G.n + total (λ c. c.y) P.cuts) + more ≤ cost_in G t
 whole_pays G B P t more fits tree belongs links =
     let reach : ℕ → Bool = has (reached t) in
     let unreached = unreached_named G.n reach P.cuts (recursion_from_All _ P.cuts (All-weaker (CutFitsIn G B) (λ c. IsVertex G.n c.q) (named_vertex G B) P.cuts fits.cuts)) in

@@ -6,46 +6,45 @@ use Rattle.std.proofs.lemmas.Bool.{cases_eq, cases_lt, eqb-true, eq-eqb, ne_eqb,
 use Rattle.std.proofs.lemmas.List.{get_or_past, get_or_default, length-set}
 use Rattle.std.proofs.lemmas.List.Elements.{All-head, All-tail}
 use Rattle.st_model.specs.declared.branch.Branch.{Branch}
-use Rattle.st_model.specs.Network.{Network}
-use Rattle.st_model.specs.Ground.{ground}
-use Rattle.st_model.specs.Branch.{is_present, open_link}
+use Rattle.st_model.specs.Ground.{Ground}
+use Rattle.st_model.specs.Branch.{is_present, open_price}
 use Rattle.cut_packing.specs.declared.arcs.LoadedArc.{LoadedArc}
 use Rattle.cut_packing.specs.declared.cut.Cut.{Cut}
-use Rattle.cut_packing.specs.Packing.{load, named, ArcsFit}
-use Rattle.cut_packing.specs.Loads.{arcs_into, IsLoaded, AreLoaded}
+use Rattle.cut_packing.specs.Packing.{load, named, ArcsFitIn}
+use Rattle.cut_packing.specs.Loads.{arcs_into, IsLoadedIn, AreLoadedIn}
 use Rattle.st_model.proofs.Costs.{total_more}
 use Rattle.st_model.proofs.Pairs.{open_parts}
 
 -- an arc from u has its load below its cost where each has
-bears_from : (I : Network) (B : Branch) (cuts : List Cut) (u v : ℕ) (price : ℕ) (arcs : List LoadedArc) → All (IsLoaded I B cuts v) arcs → All (λ arc. arc.load ≤ arc.cost) arcs → IsTrue (list_any (λ arc. arc.tail == u) arcs) → open_link I B u v ≡ Some price → load cuts (u, v) ≤ price
-bears_from I B cuts u v price [] loaded bears there cost = absurd (false≢true there)
-bears_from I B cuts u v price (arc ∷ arcs) loaded bears there cost = step (arc.tail == u) refl there (bears_from I B cuts u v price arcs (All-tail (IsLoaded I B cuts v) arc arcs loaded) (All-tail (λ a. a.load ≤ a.cost) arc arcs bears))
+bears_from : (G : Ground) (B : Branch) (cuts : List Cut) (u v : ℕ) (price : ℕ) (arcs : List LoadedArc) → All (IsLoadedIn G B cuts v) arcs → All (λ arc. arc.load ≤ arc.cost) arcs → IsTrue (list_any (λ arc. arc.tail == u) arcs) → open_price G B u v ≡ Some price → load cuts (u, v) ≤ price
+bears_from G B cuts u v price [] loaded bears there cost = absurd (false≢true there)
+bears_from G B cuts u v price (arc ∷ arcs) loaded bears there cost = step (arc.tail == u) refl there (bears_from G B cuts u v price arcs (All-tail (IsLoadedIn G B cuts v) arc arcs loaded) (All-tail (λ a. a.load ≤ a.cost) arc arcs bears))
   where
     here : arc.tail ≡ u → load cuts (u, v) ≤ price
     here same =
-        let one = All-head (IsLoaded I B cuts v) arc arcs loaded in
-        let price_is : Some price ≡ Some arc.cost = sym cost ∙ ap (λ w. open_link I B w v) (sym same) ∙ one.cost in
+        let one = All-head (IsLoadedIn G B cuts v) arc arcs loaded in
+        let price_is : Some price ≡ Some arc.cost = sym cost ∙ ap (λ w. open_price G B w v) (sym same) ∙ one.cost in
         let paid : price ≡ arc.cost = cc in
         omega (arith, paid, one.load, ap (λ w. load cuts (w, v)) same, All-head (λ a. a.load ≤ a.cost) arc arcs bears)
 
-    step : (b : Bool) → (arc.tail == u) ≡ b → IsTrue (b || list_any (λ a. a.tail == u) arcs) → (IsTrue (list_any (λ a. a.tail == u) arcs) → open_link I B u v ≡ Some price → load cuts (u, v) ≤ price) → load cuts (u, v) ≤ price
+    step : (b : Bool) → (arc.tail == u) ≡ b → IsTrue (b || list_any (λ a. a.tail == u) arcs) → (IsTrue (list_any (λ a. a.tail == u) arcs) → open_price G B u v ≡ Some price → load cuts (u, v) ≤ price) → load cuts (u, v) ≤ price
     step true same h later = here (eqb-true arc.tail u same)
     step false other h later = later h cost
 
 -- the arcs fit where each bears at most its cost
-pub arcs_fit_iff : (I : Network) (B : Branch) (cuts : List Cut) (arcs : List (List LoadedArc)) → AreLoaded I B I.links cuts arcs → All (All (λ arc. arc.load ≤ arc.cost)) arcs ↔ ArcsFit I B cuts
-arcs_fit_iff I B cuts arcs h = (λ bears u v tail head. by_price u v tail head bears (open_link I B u v) refl, λ fits k d below j e within. each k d below j e within fits)
+pub arcs_fit_iff : (G : Ground) (B : Branch) (cuts : List Cut) (arcs : List (List LoadedArc)) → AreLoadedIn G B G.price cuts arcs → All (All (λ arc. arc.load ≤ arc.cost)) arcs ↔ ArcsFitIn G B cuts
+arcs_fit_iff G B cuts arcs h = (λ bears u v tail head. by_price u v tail head bears (open_price G B u v) refl, λ fits k d below j e within. each k d below j e within fits)
   where
     below_at : (v k : ℕ) → k < length (arcs_into arcs v) → v < length arcs
     below_at v k within = elim (cases_lt v (length arcs)) [ inl below ↦ below | inr past ↦ absurd (omega (arith, ap length (get_or_past arcs v [] past))) ]
 
-    by_price : (u v : ℕ) → IsTrue (is_present B u) → IsTrue (is_present B v) → All (All (λ arc. arc.load ≤ arc.cost)) arcs → (price : Option ℕ) → open_link I B u v ≡ price → IfSome price (λ p. load cuts (u, v) ≤ p)
+    by_price : (u v : ℕ) → IsTrue (is_present B u) → IsTrue (is_present B v) → All (All (λ arc. arc.load ≤ arc.cost)) arcs → (price : Option ℕ) → open_price G B u v ≡ price → IfSome price (λ p. load cuts (u, v) ≤ p)
     by_price u v tail head bears None e = tt
-    by_price u v tail head bears (Some p) e = bears_from I B cuts u v p (arcs_into arcs v) (h.sound v) (λ k d within. bears v [] (below_at v k within) k d within) (let parts = open_parts (ground I) B u v (rw e refl) in h.complete u v tail head parts.0 parts.1) e
+    by_price u v tail head bears (Some p) e = bears_from G B cuts u v p (arcs_into arcs v) (h.sound v) (λ k d within. bears v [] (below_at v k within) k d within) (let parts = open_parts G B u v (rw e refl) in h.complete u v tail head parts.0 parts.1) e
 
-    each : (k : ℕ) (d : List LoadedArc) → k < length arcs → (j : ℕ) (e : LoadedArc) → j < length (get_or arcs k d) → ArcsFit I B cuts → (get_or (get_or arcs k d) j e).load ≤ (get_or (get_or arcs k d) j e).cost
+    each : (k : ℕ) (d : List LoadedArc) → k < length arcs → (j : ℕ) (e : LoadedArc) → j < length (get_or arcs k d) → ArcsFitIn G B cuts → (get_or (get_or arcs k d) j e).load ≤ (get_or (get_or arcs k d) j e).cost
     each k d below j e within fits =
-        let loaded = (subst (All (IsLoaded I B cuts k)) (get_or_default arcs k [] d below) (h.sound k)) j e within in
+        let loaded = (subst (All (IsLoadedIn G B cuts k)) (get_or_default arcs k [] d below) (h.sound k)) j e within in
         let fit = rw loaded.cost at (fits _ k loaded.tail loaded.head) in
         omega (arith, loaded.load, fit)
 

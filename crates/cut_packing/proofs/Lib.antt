@@ -5,6 +5,7 @@ pub mod Turned
 pub mod Uses
 pub mod Charged
 pub mod Duality
+pub mod Rooted
 pub mod Judged
 pub mod HeldSets
 pub mod SaturatedArcs

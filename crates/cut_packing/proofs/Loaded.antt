@@ -1,5 +1,5 @@
 -- Arcs between present vertices: a link more, and a cut more.
-use Rattle.std.proofs.Common.{◌≡◌, ◌≢◌, ℕ, zero, suc, ◌+◌, ◌*◌, ◌^◌, ◌<◌, ◌≤◌, Bool, true, false, not, ◌&&◌, List, [], ◌∷◌, ◌++◌, length, map, get_or, set, take, Some, None, ◌⊎◌, inl, inr, refl, sym, ◌∙◌, get_or-set_same, get_or-set_other, arith}
+use Rattle.std.proofs.Common.{◌≡◌, ◌≢◌, ℕ, zero, suc, ◌+◌, ◌*◌, ◌^◌, ◌<◌, ◌≤◌, Bool, true, false, not, ◌&&◌, List, [], ◌∷◌, ◌++◌, length, map, get_or, set, take, Option, Some, None, ◌⊎◌, inl, inr, refl, sym, ◌∙◌, get_or-set_same, get_or-set_other, arith}
 use Rattle.std.specs.Prelude.{◌==◌, if◌then◌else◌, IsTrue, IsFalse, IsSome, All, AllPairs}
 use Rattle.std.specs.List.{list_any, AllByRecursion}
 use Rattle.std.proofs.Math.Bool.{or-true, or-false}
@@ -12,13 +12,13 @@ use Rattle.st_model.specs.declared.branch.Branch.{Branch}
 use Rattle.st_model.specs.declared.link.Link.{Link}
 use Rattle.st_model.specs.Lists.{has}
 use Rattle.st_model.specs.Network.{Network, IsVertex, IsLinkBetween, IsInstance, joins, link}
-use Rattle.st_model.specs.Ground.{ground}
+use Rattle.st_model.specs.Ground.{Ground, ground}
 use Rattle.st_model.specs.Made.{has_pair}
 use Rattle.st_model.specs.Branch.{is_present, open_link}
 use Rattle.cut_packing.specs.declared.arcs.LoadedArc.{LoadedArc}
 use Rattle.cut_packing.specs.declared.cut.Cut.{Cut}
 use Rattle.cut_packing.specs.Packing.{load}
-use Rattle.cut_packing.specs.Loads.{arcs_into, has_arc, with_arc, laid, IsLoaded, AreLoaded}
+use Rattle.cut_packing.specs.Loads.{arcs_into, has_arc, with_arc, laid, IsLoadedIn, AreLoadedIn, IsLoaded, AreLoaded}
 use Rattle.st_model.proofs.Sums.{total-append}
 use Rattle.st_model.specs.VertexSet.{AllApart}
 use Rattle.st_model.proofs.Distinct.{link-comm}
@@ -60,17 +60,17 @@ into-set arcs i v new P below same other =
     ]
 
 -- an arc more that is loaded
-sound-with_arc : (I : Network) (B : Branch) (cuts : List Cut) (arcs : List (List LoadedArc)) (head : ℕ) (arc : LoadedArc) → head < length arcs → IsLoaded I B cuts head arc → ((v : ℕ) → All (IsLoaded I B cuts v) (arcs_into arcs v)) → (v : ℕ) → All (IsLoaded I B cuts v) (arcs_into (with_arc arcs head arc) v)
-sound-with_arc I B cuts arcs head arc below loaded sound v =
-    into-set arcs head v _ (All (IsLoaded I B cuts v)) below (λ same. rw same (All-push (IsLoaded I B cuts head) (arcs_into arcs head) arc (sound head) loaded)) (λ other. sound v)
+pub sound-with_arc : (G : Ground) (B : Branch) (cuts : List Cut) (arcs : List (List LoadedArc)) (head : ℕ) (arc : LoadedArc) → head < length arcs → IsLoadedIn G B cuts head arc → ((v : ℕ) → All (IsLoadedIn G B cuts v) (arcs_into arcs v)) → (v : ℕ) → All (IsLoadedIn G B cuts v) (arcs_into (with_arc arcs head arc) v)
+sound-with_arc G B cuts arcs head arc below loaded sound v =
+    into-set arcs head v _ (All (IsLoadedIn G B cuts v)) below (λ same. rw same (All-push (IsLoadedIn G B cuts head) (arcs_into arcs head) arc (sound head) loaded)) (λ other. sound v)
 
 -- the arcs that were there stay
-has_arc-kept : (arcs : List (List LoadedArc)) (head : ℕ) (arc : LoadedArc) (u v : ℕ) → head < length arcs → IsTrue (has_arc arcs u v) → IsTrue (has_arc (with_arc arcs head arc) u v)
+pub has_arc-kept : (arcs : List (List LoadedArc)) (head : ℕ) (arc : LoadedArc) (u v : ℕ) → head < length arcs → IsTrue (has_arc arcs u v) → IsTrue (has_arc (with_arc arcs head arc) u v)
 has_arc-kept arcs head arc u v below h =
     into-set arcs head v _ (λ list. IsTrue (list_any (λ a. a.tail == u) list)) below (λ same. rw (list_any-append (λ a. a.tail == u) (arcs_into arcs head) (arc ∷ [])) (or_left _ _ (rw same at h))) (λ other. h)
 
 -- and the new one is there
-has_arc-new : (arcs : List (List LoadedArc)) (head : ℕ) (arc : LoadedArc) → head < length arcs → IsTrue (has_arc (with_arc arcs head arc) arc.tail head)
+pub has_arc-new : (arcs : List (List LoadedArc)) (head : ℕ) (arc : LoadedArc) → head < length arcs → IsTrue (has_arc (with_arc arcs head arc) arc.tail head)
 has_arc-new arcs head arc below =
     rw (get_or-set_same, list_any-append (λ a. a.tail == arc.tail) (arcs_into arcs head) (arc ∷ [])) (or_right _ _ (or_left _ _ (eq-eqb arc.tail arc.tail refl)))
 
@@ -126,7 +126,7 @@ free_arc tail cost = record { tail = tail; cost = cost; load = 0 }
 pub AreLoaded-link : (I : Network) (B : Branch) (ls : List Link) (arcs : List (List LoadedArc)) (l : Link) → IsTrue (is_open B l) → IsLinkBetween I.n l → link I.links l.a l.b ≡ Some l.cost → AreLoaded I B ls [] arcs → AreLoaded I B (ls ++ l ∷ []) [] (with_arc (with_arc arcs l.b (free_arc l.a l.cost)) l.a (free_arc l.b l.cost))
 AreLoaded-link I B ls arcs l opened ends cost h = record {
   count = length-set first l.a _ ∙ first_count;
-  sound = sound-with_arc I B [] first l.a (free_arc l.b l.cost) low back (sound-with_arc I B [] arcs l.b (free_arc l.a l.cost) high forth h.sound);
+  sound = sound-with_arc (ground I) B [] first l.a (free_arc l.b l.cost) low back (sound-with_arc (ground I) B [] arcs l.b (free_arc l.a l.cost) high forth h.sound);
   complete = λ u v tail head free some. by_link u v tail head free (link-push ls l u v some);
 }
   where
@@ -171,17 +171,17 @@ load-push : (cuts : List Cut) (c : Cut) (arc : ℕ × ℕ) → load (cuts ++ c �
 load-push cuts c arc = rw (total-append (λ d. if has d.set arc.1 && not (has d.set arc.0) then d.y else 0) cuts (c ∷ [])) (omega arith)
 
 -- a cut is laid on the arcs that enter it
-pub AreLoaded-lay : (I : Network) (B : Branch) (ls : List Link) (cuts : List Cut) (c : Cut) (members : List ℕ) (arcs arcs' : List (List LoadedArc)) → ((v : ℕ) → v < I.n + 1 → has members v ≡ has c.set v) → length arcs' ≡ length arcs → ((v : ℕ) → arcs_into arcs' v ≡ (if has members v then map (laid members c.y) (arcs_into arcs v) else arcs_into arcs v)) → AreLoaded I B ls cuts arcs → AreLoaded I B ls (cuts ++ c ∷ []) arcs'
-AreLoaded-lay I B ls cuts c members arcs arcs' same count is h = record {
+pub AreLoaded-lay : (G : Ground) (B : Branch) (price : ℕ → ℕ → Option ℕ) (cuts : List Cut) (c : Cut) (members : List ℕ) (arcs arcs' : List (List LoadedArc)) → ((v : ℕ) → v < G.n + 1 → has members v ≡ has c.set v) → length arcs' ≡ length arcs → ((v : ℕ) → arcs_into arcs' v ≡ (if has members v then map (laid members c.y) (arcs_into arcs v) else arcs_into arcs v)) → AreLoadedIn G B price cuts arcs → AreLoadedIn G B price (cuts ++ c ∷ []) arcs'
+AreLoaded-lay G B price cuts c members arcs arcs' same count is h = record {
   count = count ∙ h.count;
-  sound = λ v. elim (cases_lt v (I.n + 1)) [ inl below ↦ in_range v below (has members v) refl (is v) | inr past ↦ out_of_range v (has members v) past (is v) ];
+  sound = λ v. elim (cases_lt v (G.n + 1)) [ inl below ↦ in_range v below (has members v) refl (is v) | inr past ↦ out_of_range v (has members v) past (is v) ];
   complete = λ u v tail head free some. has_arc-laid u v (has members v) (is v) (h.complete u v tail head free some);
 }
   where
     Loaded : ℕ → LoadedArc → Type 0
-    Loaded = IsLoaded I B (cuts ++ c ∷ [])
+    Loaded = IsLoadedIn G B (cuts ++ c ∷ [])
 
-    kept : (v : ℕ) → v < I.n + 1 → IsFalse (has members v) → (a : LoadedArc) → IsLoaded I B cuts v a → Loaded v a
+    kept : (v : ℕ) → v < G.n + 1 → IsFalse (has members v) → (a : LoadedArc) → IsLoadedIn G B cuts v a → Loaded v a
     kept v below out a loaded = record {
       in_range = loaded.in_range;
       tail = loaded.tail;
@@ -190,7 +190,7 @@ AreLoaded-lay I B ls cuts c members arcs arcs' same count is h = record {
       load = rw (load-push cuts c (a.tail, v), sym (same v below) ∙ out) (omega (arith, loaded.load));
     }
 
-    laid_one : (v : ℕ) → v < I.n + 1 → IsTrue (has members v) → (a : LoadedArc) → IsLoaded I B cuts v a → Loaded v (laid members c.y a)
+    laid_one : (v : ℕ) → v < G.n + 1 → IsTrue (has members v) → (a : LoadedArc) → IsLoadedIn G B cuts v a → Loaded v (laid members c.y a)
     laid_one v below member a loaded = record {
       in_range = loaded.in_range;
       tail = loaded.tail;
@@ -203,11 +203,11 @@ AreLoaded-lay I B ls cuts c members arcs arcs' same count is h = record {
         added true e = omega arith
         added false e = omega arith
 
-    in_range : (v : ℕ) → v < I.n + 1 → (b : Bool) → has members v ≡ b → arcs_into arcs' v ≡ (if b then map (laid members c.y) (arcs_into arcs v) else arcs_into arcs v) → All (Loaded v) (arcs_into arcs' v)
-    in_range v below true member e = rw e (All-map (Loaded v) (laid members c.y) (arcs_into arcs v) (All-weaker (IsLoaded I B cuts v) (λ a. Loaded v (laid members c.y a)) (laid_one v below member) (arcs_into arcs v) (h.sound v)))
-    in_range v below false out e = rw e (All-weaker (IsLoaded I B cuts v) (Loaded v) (kept v below out) (arcs_into arcs v) (h.sound v))
+    in_range : (v : ℕ) → v < G.n + 1 → (b : Bool) → has members v ≡ b → arcs_into arcs' v ≡ (if b then map (laid members c.y) (arcs_into arcs v) else arcs_into arcs v) → All (Loaded v) (arcs_into arcs' v)
+    in_range v below true member e = rw e (All-map (Loaded v) (laid members c.y) (arcs_into arcs v) (All-weaker (IsLoadedIn G B cuts v) (λ a. Loaded v (laid members c.y a)) (laid_one v below member) (arcs_into arcs v) (h.sound v)))
+    in_range v below false out e = rw e (All-weaker (IsLoadedIn G B cuts v) (Loaded v) (kept v below out) (arcs_into arcs v) (h.sound v))
 
-    out_of_range : (v : ℕ) (b : Bool) → I.n + 1 ≤ v → arcs_into arcs' v ≡ (if b then map (laid members c.y) (arcs_into arcs v) else arcs_into arcs v) → All (Loaded v) (arcs_into arcs' v)
+    out_of_range : (v : ℕ) (b : Bool) → G.n + 1 ≤ v → arcs_into arcs' v ≡ (if b then map (laid members c.y) (arcs_into arcs v) else arcs_into arcs v) → All (Loaded v) (arcs_into arcs' v)
     out_of_range v b past e =
         let none : arcs_into arcs v ≡ [] = get_or_past arcs v [] (omega (arith, h.count)) in
         rw (e, none) (nothing b)

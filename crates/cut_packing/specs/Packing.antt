@@ -1,5 +1,5 @@
 -- Cuts with values for a branch: what they lay on each arc and each vertex, and what they weigh.
-use Rattle.std.specs.Prelude.{◌≡◌, ℕ, ◌+◌, ◌-◌, ◌≤◌, ◌==◌, max, not, ◌&&◌, IsTrue, IsFalse, if◌then◌else◌, List, [], All, IfSome, MatchOption}
+use Rattle.std.specs.Prelude.{◌≡◌, ℕ, ◌+◌, ◌-◌, ◌≤◌, ◌==◌, Bool, max, not, ◌&&◌, IsTrue, IsFalse, if◌then◌else◌, List, [], All, IfSome, MatchOption, Option, Some, None}
 use Rattle.st_model.specs.declared.branch.Branch.{Branch}
 use Rattle.st_model.specs.Lists.{has, total, sum_to}
 use Rattle.st_model.specs.Network.{Network, IsVertex}
@@ -28,11 +28,19 @@ pub record IsRootIn (G : Ground) (B : Branch) (cuts : List Cut) (r : ℕ) : Type
 abbrev pub RootFitsIn : Ground → Branch → Packing → Type 0
 RootFitsIn G B P = MatchOption P.root (P.cuts ≡ []) (IsRootIn G B P.cuts)
 
--- the cut's vertices are in range, and it names one of them that isn't outside
+-- whether a cut may name q: it isn't outside, and where there is an only root, every tree of the branch reaches it
+abbrev pub nameable_by : Option ℕ → Ground → Branch → ℕ → Bool
+nameable_by None G B q = is_present B q
+nameable_by (Some r) G B q = is_present B q && certain_in G B q
+
+abbrev pub nameable_in : Ground → Branch → ℕ → Bool
+nameable_in G B q = nameable_by G.root G B q
+
+-- the cut's vertices are in range, and it names one of them that it may name
 pub record CutFitsIn (G : Ground) (B : Branch) (c : Cut) : Type 0 where
   pub in_range : All (IsVertex G.n) c.set
   pub member : IsTrue (has c.set c.q)
-  pub present : IsTrue (is_present B c.q)
+  pub present : IsTrue (nameable_in G B c.q)
 
 -- no arc between present vertices bears more than it costs, unless its link is barred
 abbrev pub ArcsFitIn : Ground → Branch → List Cut → Type 0

@@ -1,5 +1,5 @@
 -- Trees of splits that end in packings, and the bound that they prove.
-use Rattle.std.specs.Prelude.{ℕ, ◌≤◌, ◌<◌, IsTrue, IsFalse, IsSome}
+use Rattle.std.specs.Prelude.{ℕ, ◌≤◌, ◌<◌, IsTrue, IsFalse, IsSome, Option, Some, None}
 use Rattle.st_model.specs.declared.branch.Branch.{Branch}
 use Rattle.st_model.specs.declared.split_at.SplitAt.{SplitAt}
 use Rattle.st_model.specs.declared.split_at.SplitAt.TheVariants.{Vertex, Link}
@@ -26,10 +26,15 @@ pub record IsSplitIn (G : Ground) (B : Branch) (v : ℕ) : Type 0 where
   pub undecided : IsTrue (is_undecided B v)
   pub free : IsFalse (G.required v)
 
+-- the cost of a link at which a branch can be split: none where there is an only root
+abbrev pub split_price_by : Option ℕ → Option ℕ → Option ℕ
+split_price_by None price = price
+split_price_by (Some r) price = None
+
 -- the branch can be split at the link between a and b, the lower first
 pub record IsLinkSplitIn (G : Ground) (B : Branch) (a b : ℕ) : Type 0 where
   pub ordered : a < b
-  pub linked : IsSome (G.price a b)
+  pub linked : IsSome (split_price_by G.root (G.price a b))
   pub low : IsTrue (is_present B a)
   pub high : IsTrue (is_present B b)
   pub no_must : IsFalse (has_pair B.must a b)

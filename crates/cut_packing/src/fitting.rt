@@ -56,7 +56,7 @@ fn is_root(instance: &Instance, branch: &Sides, cuts: &[Cut], root: u32) -> bool
     cuts.iter().all(|cut| !holds(cut.set.as_slice(), root))
 }
 
-// Whether a list has a vertex.
+/// Whether a list has a vertex.
 pub fn holds(vertices: &[u32], vertex: u32) -> bool
     ensures { result ≡ has vertices.now vertex }
 {
@@ -83,8 +83,8 @@ fn cut_fits(instance: &Instance, branch: &Sides, cut: &Cut) -> bool
     !branch.is_outside(cut.q)
 }
 
-// Whether all are vertices of an instance of n.
-fn are_vertices(n: u32, vertices: &[u32]) -> bool
+/// Whether all are among the vertices 1 to n.
+pub fn are_vertices(n: u32, vertices: &[u32]) -> bool
     ensures { IsTrue result ↔ All (IsVertex n) vertices.now }
 {
     vertices.iter().all(|vertex| 1 <= *vertex && *vertex <= n)

@@ -1,8 +1,10 @@
-ghost use Rattle.std.specs.Prelude.{◌≡◌, ℕ, ◌+◌, ◌<◌, ◌^◌, ◌&&◌, not, [], length, map, replicate, All, IfOk, if◌then◌else◌};
+ghost use Rattle.std.specs.Prelude.{◌≡◌, ℕ, ◌+◌, ◌<◌, ◌^◌, ◌&&◌, not, [], length, map, replicate, All, IfOk, Option, if◌then◌else◌};
+ghost use Rattle.st_model.specs.declared.branch.Branch.{Branch};
 ghost use Rattle.st_model.specs.Branch.{is_present};
+ghost use Rattle.st_model.specs.Ground.{Ground};
 ghost use Rattle.st_model.specs.Lists.{has};
 ghost use Rattle.st_model.specs.Made.{has_pair};
-ghost use Rattle.cut_packing.specs.Loads.{arcs_into, laid, AreLoaded};
+ghost use Rattle.cut_packing.specs.Loads.{arcs_into, laid, AreLoaded, AreLoadedIn};
 ghost use Rattle.st_model.specs.VertexSet.{AllApart};
 
 use crate::Cut;
@@ -20,8 +22,19 @@ pub fn loads(
     ensures { IfOk result
         (λ arcs. AreLoaded instance.now branch.now instance.now.links cuts.now arcs) }
 {
-    let mut arcs = free_arcs(alloc, instance, branch)?;
-    let mut members = VertexSet::new(alloc, instance.vertices() as usize + 1)?;
+    let arcs = free_arcs(alloc, instance, branch)?;
+    lay_cuts(alloc, arcs, cuts)
+}
+
+/// Arcs that bear nothing yet, with what the cuts lay on them: over whatever ground they are.
+pub fn lay_cuts(alloc: Global, arcs: LoadedArcs, cuts: &[Cut]) -> Result<LoadedArcs, AllocError>
+    requires free { (G : Ground) × (B : Branch) × (price : ℕ → ℕ → Option ℕ)
+        × AreLoadedIn G B price [] arcs }
+    ensures { (G : Ground) (B : Branch) (price : ℕ → ℕ → Option ℕ) → AreLoadedIn G B price [] arcs
+        → IfOk result (λ loaded. AreLoadedIn G B price cuts.now loaded) }
+{
+    let mut arcs = arcs;
+    let mut members = VertexSet::new(alloc, arcs.count())?;
     for cut in cuts {
         members.fill(cut.set.as_slice())?;
         lay(&mut arcs, &members, cut.y);
