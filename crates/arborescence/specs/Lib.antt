@@ -1,0 +1,4 @@
+pub mod DiNetwork
+pub mod Problem
+pub mod Stated
+pub mod Steps
