@@ -3,9 +3,7 @@ use amounts::Scale;
 use arborescence::DiInstance;
 use std::alloc::{AllocError, Global};
 use std::test::Fail;
-use stp_reader::{
-    File, ReadError, Reason, file_refused_exactly, read_file, read_stp, reads_alike,
-};
+use stp_reader::{File, ReadError, Reason, file_refused_exactly, read_file, read_stp, reads_alike};
 
 /// Three vertices, with arcs from the first to the second and back, and from the second to the third.
 const WAYS: &str = "33D32945 STP File, STP Format Version 1.0\nSECTION Graph\nNodes 3\nArcs 3\n\
@@ -134,9 +132,11 @@ fn has_arcs(
 
 /// Whether an instance is the one that is meant.
 fn is_way(alloc: Global, instance: &DiInstance, way: &Way) -> Result<bool, AllocError> {
-    Ok(instance.root() == way.root
-        && instance.terminals() == way.terminals
-        && has_arcs(alloc, instance, way.arcs)?)
+    Ok(
+        instance.root() == way.root
+            && instance.terminals() == way.terminals
+            && has_arcs(alloc, instance, way.arcs)?,
+    )
 }
 
 /// Whether the file with a change is read as it is meant.
@@ -185,8 +185,18 @@ const WAY_CHANGES: &[Change] = &[
     ("Arcs 3\n", b"Arcs 4000001\n", 4, Reason::OutOfRange),
     ("Arcs 3\n", b"Arcs 3\nArcs 3\n", 5, Reason::BadLine),
     ("Arcs 3\n", b"Arcs 3\nArcs\n", 5, Reason::BadLine),
-    ("Nodes 3\nArcs 3\n", b"Arcs 3\nNodes 3\n", 3, Reason::BadLine),
-    ("Nodes 3\nArcs 3\n", b"Arcs x\nNodes 3\n", 3, Reason::BadLine),
+    (
+        "Nodes 3\nArcs 3\n",
+        b"Arcs 3\nNodes 3\n",
+        3,
+        Reason::BadLine,
+    ),
+    (
+        "Nodes 3\nArcs 3\n",
+        b"Arcs x\nNodes 3\n",
+        3,
+        Reason::BadLine,
+    ),
     ("Nodes 3\nArcs 3\n", b"Arcs\n", 3, Reason::BadLine),
     ("Arcs 3\n", b"Arcs 2\n", 8, Reason::CountMismatch),
     ("A 1 2 4\n", b"", 7, Reason::CountMismatch),
@@ -269,8 +279,18 @@ const WAY_CHANGES: &[Change] = &[
     ("T 1\n", b"T\n", 12, Reason::BadLine),
     ("T 1\n", b"A 1 2 3\n", 12, Reason::BadLine),
     ("T 1\n", b"EOF\n", 12, Reason::Unclosed),
-    ("Terminals 2\n", b"RootP 1\nTerminals 2\n", 10, Reason::BadLine),
-    ("Terminals 2\n", b"TP 1 5\nTerminals 2\n", 10, Reason::BadLine),
+    (
+        "Terminals 2\n",
+        b"RootP 1\nTerminals 2\n",
+        10,
+        Reason::BadLine,
+    ),
+    (
+        "Terminals 2\n",
+        b"TP 1 5\nTerminals 2\n",
+        10,
+        Reason::BadLine,
+    ),
     ("Terminals 2\n", b"T 1\nTerminals 2\n", 10, Reason::BadLine),
     (
         "Terminals 2\n",
@@ -278,13 +298,28 @@ const WAY_CHANGES: &[Change] = &[
         11,
         Reason::BadLine,
     ),
-    ("Terminals 2\n", b"Terminals 2000001\n", 10, Reason::OutOfRange),
+    (
+        "Terminals 2\n",
+        b"Terminals 2000001\n",
+        10,
+        Reason::OutOfRange,
+    ),
     // The root.
     ("Root 1\n", b"Root 1\nRoot 1\n", 12, Reason::BadLine),
     ("Root 1\n", b"Root 1\nRoot x\n", 12, Reason::BadLine),
     ("T 3\n", b"T 3\nRoot 2\n", 14, Reason::BadLine),
-    ("Terminals 2\n", b"Root 1\nTerminals 2\n", 12, Reason::BadLine),
-    ("Terminals 2\n", b"Root 0\nTerminals 2\n", 10, Reason::VertexRange),
+    (
+        "Terminals 2\n",
+        b"Root 1\nTerminals 2\n",
+        12,
+        Reason::BadLine,
+    ),
+    (
+        "Terminals 2\n",
+        b"Root 0\nTerminals 2\n",
+        10,
+        Reason::VertexRange,
+    ),
     ("Root 1\n", b"Root 0\n", 11, Reason::VertexRange),
     ("Root 1\n", b"Root 4\n", 11, Reason::VertexRange),
     ("Root 1\n", b"Root x\n", 11, Reason::BadNumber),
@@ -327,7 +362,10 @@ fn is_way_change_refused(alloc: Global, change: &Change) -> Result<bool, Fail> {
 fn refuses_bad_directed_files(rt: HostRuntime) -> Result<(), Fail> {
     for change in WAY_CHANGES {
         let (from, to, ..) = *change;
-        assert!(rt; is_way_change_refused(rt.alloc(), change)?, "{to:?} for {from}");
+        assert!(rt;
+            is_way_change_refused(rt.alloc(), change)?,
+            "{to:?} for {from}"
+        );
     }
     Ok(())
 }

@@ -116,9 +116,11 @@ fn has_ends(instance: &DiInstance, drawn: &DrawnArcs) -> bool {
 fn is_read(alloc: Global, drawn: &DrawnArcs, places: usize, unit: u64) -> Result<bool, Fail> {
     let text = text_of(alloc, drawn, places)?;
     match read_file(alloc, text.as_bytes())? {
-        File::Directed { instance, scale } => Ok(scale == scale_of(drawn, unit)
-            && has_costs(&instance, drawn, unit, scale)
-            && has_ends(&instance, drawn)),
+        File::Directed { instance, scale } => Ok(
+            scale == scale_of(drawn, unit)
+                && has_costs(&instance, drawn, unit, scale)
+                && has_ends(&instance, drawn),
+        ),
         File::Plain(_) => Ok(false),
     }
 }
@@ -138,7 +140,10 @@ fn reads_drawn_directed_files(rt: HostRuntime) -> Result<(), Fail> {
     for row in DIVIDED {
         let (places, unit) = *row;
         for _file in 0..100 {
-            assert!(rt; next_is_read(rt.alloc(), &mut state, places, unit)?, "by {places}");
+            assert!(rt;
+                next_is_read(rt.alloc(), &mut state, places, unit)?,
+                "by {places}"
+            );
         }
     }
     Ok(())
