@@ -1,8 +1,10 @@
 -- Problems of both kinds, undirected and directed, and the ground on which each is judged.
-use Rattle.std.specs.Prelude.{◌≡◌, ℕ}
-use Rattle.st_model.specs.Network.{Network, IsInstance, IsVertex}
+use Rattle.std.specs.Prelude.{◌≡◌, ℕ, List}
+use Rattle.st_model.specs.Network.{Network, IsInstance}
 use Rattle.st_model.specs.Ground.{Ground, ground}
+use Rattle.st_model.specs.Wall.{IsWall}
 use Rattle.arborescence.specs.DiNetwork.{DiNetwork, IsDiNetwork, di_ground}
+use Rattle.arborescence.specs.DiWall.{IsDiWall}
 
 pub data Problem : Type 0 where
   plain : Network → Problem
@@ -29,3 +31,8 @@ pub record AreAlikeIn (G H : Ground) : Type 0 where
 -- problems that judge alike, in whatever order their links or arcs are listed
 abbrev pub AreAlike : Problem → Problem → Type 0
 AreAlike p q = AreAlikeIn (ground_of p) (ground_of q)
+
+-- a set of vertices that shows that the problem has no tree
+abbrev pub IsWallOf : Problem → List ℕ → Type 0
+IsWallOf (plain I) wall = IsWall I wall
+IsWallOf (directed D) wall = IsDiWall D wall

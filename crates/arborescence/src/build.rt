@@ -26,11 +26,7 @@ pub fn merge_arcs(
 }
 
 // Makes the pair's arc cheaper, or adds it.
-fn put(
-    arcs: &mut Vec<Link>,
-    pairs: &mut IndexSet<(u32, u32)>,
-    arc: Link,
-) -> Result<(), AllocError>
+fn put(arcs: &mut Vec<Link>, pairs: &mut IndexSet<(u32, u32)>, arc: Link) -> Result<(), AllocError>
     requires { pairs.old.keys ≡ map tail_head arcs.old.items }
     ensures arcs { OnOk result (arcs.new.items ≡ put_arc arcs.old.items arc) }
     ensures pairs { OnOk result (pairs.new.keys ≡ map tail_head arcs.new.items) }
