@@ -14,6 +14,7 @@
 mod fault;
 mod gathering;
 mod item;
+mod kept_sets;
 mod kind;
 mod law;
 mod line;
