@@ -1,0 +1,5 @@
+pub mod DiNetwork
+pub mod DiWall
+pub mod Problem
+pub mod Stated
+pub mod Steps

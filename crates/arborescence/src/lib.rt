@@ -1,0 +1,13 @@
+//! Directed instances: arborescences from a root that reach all terminals, and what bounds their cost.
+//!
+//! A `DiInstance` is seen as a directed network: its vertices, its root, one arc for each ordered pair of
+//! vertices between which one leads, and its terminals. All that is judged here is judged by the definitions
+//! of trees, packings and fullness that undirected instances have, over the ground of the network: arcs cost
+//! what they cost in their own direction, the terminals and the root have to be reached, nobody pays, and
+//! cuts have the root alone.
+#![tactic(auto)]
+
+mod build;
+mod instance;
+
+pub use instance::DiInstance;
