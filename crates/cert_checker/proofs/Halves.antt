@@ -3,6 +3,7 @@ use Rattle.std.proofs.Common.{◌≡◌, ℕ, zero, suc, ◌+◌, ◌-◌, ◌<�
 use Rattle.std.proofs.lemmas.List.{append-nil, length-map}
 use Rattle.st_model.specs.declared.branch.Branch.{Branch}
 use Rattle.st_model.specs.declared.split_at.SplitAt.{SplitAt}
+use Rattle.st_model.specs.Ground.{ground}
 use Rattle.st_model.specs.Network.{Network}
 use Rattle.cut_packing.specs.declared.cut.Cut.{Cut}
 use Rattle.log_format.specs.declared.fault.LogFault.{LogFault}
@@ -70,7 +71,7 @@ accepted : (I : Network) (count : ℕ) (p : said_proving.Proving) (h : Proving) 
     → AreRight h.instance h.least (left_over so_far.state ∷ []) lines → AcceptsClaim I (claim_of p lines)
 accepted I count p h lines so_far right =
     let B = left_over so_far.state in
-    let proves : ProvesOf h.instance B h.least lines = right_proves h.instance h.least B lines (are_right h.instance h.least (B ∷ []) lines right) in
+    let proves : ProvesOf h.instance B h.least lines = right_proves (ground h.instance) h.least B lines (are_right h.instance h.least (B ∷ []) lines right) in
     let whole_proves : ProvesFrom so_far.state p.answer.dual lines = subst (λ (x : ℕ). ProvesOf so_far.state.instance B x lines) so_far.least (subst (λ (J : Network). ProvesOf J B h.least lines) so_far.instance proves) in
     record {
       is_tree = so_far.tree.is_tree;

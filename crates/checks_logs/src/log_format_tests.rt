@@ -10,6 +10,7 @@ use log_format::{
 };
 use st_model::{Listed, SplitAt};
 use std::alloc::{AllocError, Global};
+use std::ptr;
 use std::test::Fail;
 use std::thread::Threads;
 
@@ -35,6 +36,11 @@ const LINK: &str =
     "STEINERLOG 2\nCLAIM TREE 3 3\nTREE 1 1\nA 1 2\nSTEPS 0\nPROOF\nL 1 2\nC 0 0\nC 1 1\n\
     U 2 3 1 2\nEND\n";
 
+/// A log whose first and third cut have one set, and the second another one.
+const TWICE: &str =
+    "STEINERLOG 1\nCLAIM TREE 1 0\nTREE 1 0\nSTEPS 0\nPROOF\nS 9\nC 1 2\nU 2 1 2 2 3\nU 3 1 1 3\n\
+    C 1 1\nU 3 4 2 2 3\nEND\n";
+
 /// The least and the greatest numbers that can stand in a log, and each kind of line.
 const RIGHT: &[&str] = &[
     STAR,
@@ -52,6 +58,7 @@ const RIGHT: &[&str] = &[
         A 1000000 1\nSTEPS 0\nPROOF\nC 1000000 1\nU 1 18446744073709551615 1 1000000\nEND\n",
     "STEINERLOG 1\nCLAIM TREE 6 7\nTREE 1 0\nSTEPS 0\nPROOF\nS 4\nS 4\nC 0 0\nC 0 0\nC 0 0\nEND\n",
     "STEINERLOG 1\nCLAIM TREE 1 0\nTREE 1 0\nSTEPS 0\nPROOF\nC 0 1\nU 9 0 2 7 8\nEND\n",
+    TWICE,
 ];
 
 /// Whether a log has this text, where it is written in so many threads.
@@ -183,6 +190,35 @@ fn reads_star(alloc: Global) -> Result<bool, ReadError> {
 #[test]
 fn reads_what_the_star_says(rt: HostRuntime) -> Result<(), Fail> {
     assert!(rt; reads_star(rt.alloc())?);
+    Ok(())
+}
+
+/// Whether two sets are one in memory.
+fn is_one_set(a: &Cut, b: &Cut) -> bool {
+    match (a.set.as_slice(), b.set.as_slice()) {
+        ([first, ..], [other, ..]) => ptr::eq(first, other),
+        _ => false,
+    }
+}
+
+/// Whether a set that comes twice in a log is kept once, and another one by itself.
+fn keeps_sets_once(alloc: Global) -> Result<bool, ReadError> {
+    let log = read_log(alloc, TWICE.as_bytes())?;
+    let Claim::Found { proof, .. } = &log.claim else {
+        return Ok(false);
+    };
+    let [_, ProofLine::Close(first), ProofLine::Close(second)] = proof.lines() else {
+        return Ok(false);
+    };
+    match (first.cuts.as_slice(), second.cuts.as_slice()) {
+        ([a, b], [c]) => Ok(is_one_set(a, c) && !is_one_set(a, b) && (c.q, c.y) == (3, 4)),
+        _ => Ok(false),
+    }
+}
+
+#[test]
+fn keeps_each_set_once(rt: HostRuntime) -> Result<(), Fail> {
+    assert!(rt; keeps_sets_once(rt.alloc())?);
     Ok(())
 }
 

@@ -3,8 +3,9 @@ use Rattle.std.specs.Prelude.{◌≡◌, ◌≢◌, ◌↔◌, ℕ, List}
 use Rattle.log_format.specs.declared.kind.Kind.{Kind}
 use Rattle.log_format.specs.declared.log.Log.{Log}
 use Rattle.log_format.specs.declared.log.Version.TheVariants.{Two}
-use Rattle.st_model.specs.Network.{Network, IsInstance}
-use Rattle.log_format.specs.Accepts.{Accepts, Rejects}
+use Rattle.st_model.specs.Network.{Network}
+use Rattle.arborescence.specs.Problem.{Problem, plain, IsProblem}
+use Rattle.log_format.specs.Accepts.{Accepts, AcceptsIn, Rejects, RejectsIn}
 use Rattle.log_format.specs.Text.{IsLog, log_text}
 use Rattle.log_format.specs.Refused.{LogRefused}
 
@@ -22,11 +23,15 @@ pub record RefusedExactly (bytes : List ℕ) : Type 0 where
   pub some_fault : IsNoText bytes → (line : ℕ) × (kind : Kind) × LogRefused bytes line kind
   pub one_fault : (line line' : ℕ) (kind kind' : Kind) → LogRefused bytes line kind → LogRefused bytes line' kind' → (line ≡ line') × (kind ≡ kind')
 
--- the log isn't both accepted and rejected, and of an instance not neither; where it is rejected, it is at one line and as one kind
-pub record RejectedExactly (I : Network) (log : Log) : Type 0 where
-  pub not_accepted : (line : ℕ) (kind : Kind) → Rejects I log line kind → Accepts I log → ⊥
-  pub one_fault : (line line' : ℕ) (kind kind' : Kind) → Rejects I log line kind → Rejects I log line' kind' → (line ≡ line') × (kind ≡ kind')
-  pub no_escape : IsInstance I → IsLog log → (Accepts I log → ⊥) → ((line : ℕ) (kind : Kind) → Rejects I log line kind → ⊥) → ⊥
+-- the log isn't both accepted and rejected, and of what is a problem not neither; where it is rejected, it is at one line and as one kind
+pub record RejectedExactlyIn (p : Problem) (log : Log) : Type 0 where
+  pub not_accepted : (line : ℕ) (kind : Kind) → RejectsIn p log line kind → AcceptsIn p log → ⊥
+  pub one_fault : (line line' : ℕ) (kind kind' : Kind) → RejectsIn p log line kind → RejectsIn p log line' kind' → (line ≡ line') × (kind ≡ kind')
+  pub no_escape : IsProblem p → IsLog log → (AcceptsIn p log → ⊥) → ((line : ℕ) (kind : Kind) → RejectsIn p log line kind → ⊥) → ⊥
+
+-- the same in a network
+abbrev pub RejectedExactly : Network → Log → Type 0
+RejectedExactly I log = RejectedExactlyIn (plain I) log
 
 -- the same log in version 2
 abbrev pub migrated : Log → Log

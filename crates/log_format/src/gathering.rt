@@ -2,6 +2,7 @@ ghost use Rattle.std.specs.Prelude.{◌≡◌, ◌∷◌, [], ◌++◌, OnOk, On
 ghost use Rattle.log_format.specs.Text.{IsLog, AreWhole, Begins, log_lines};
 
 use crate::fault::LineError;
+use crate::kept_sets::KeptSets;
 use crate::log::version_with;
 use crate::stage::{Stage, step};
 use crate::{Log, Version};
@@ -13,6 +14,7 @@ use std::mem;
 #[derive(Drop)]
 pub(crate) struct Gathering {
     alloc: Global,
+    kept: KeptSets,
     // Version 1 until the first line says it.
     version: Version,
     stage: Stage,
@@ -38,6 +40,7 @@ impl Gathering {
     {
         Gathering {
             alloc,
+            kept: KeptSets::new(alloc),
             version: Version::One,
             stage: Stage::AtHeader,
         }
@@ -52,7 +55,7 @@ impl Gathering {
     {
         let version = version_with(self.version, self.stage.is_at_header(), line);
         let stage = mem::replace(&mut self.stage, Stage::AtHeader);
-        self.stage = step(self.alloc, version, stage, line)?;
+        self.stage = step(self.alloc, &mut self.kept, version, stage, line)?;
         self.version = version;
         Ok(())
     }

@@ -1,9 +1,10 @@
 ghost use Rattle.std.specs.Prelude.{ℕ, List};
 ghost use Rattle.st_model.specs.Network.{Network};
 ghost use Rattle.log_format.specs.declared.log.Log.{Log};
-ghost use Rattle.log_format.specs.Accepts.{AcceptedHolds};
+ghost use Rattle.arborescence.specs.Problem.{Problem};
+ghost use Rattle.log_format.specs.Accepts.{AcceptedHolds, AcceptedOfAProblemHolds};
 ghost use Rattle.log_format.specs.Items.{ItemsAreLines, OneItem, LineItems};
-ghost use Rattle.log_format.specs.Laws.{MigratedIsTheSame, OneSpelling, RefusedExactly, RejectedExactly};
+ghost use Rattle.log_format.specs.Laws.{MigratedIsTheSame, OneSpelling, RefusedExactly, RejectedExactly, RejectedExactlyIn};
 
 /// No two logs have one text.
 pub fn one_spelling()
@@ -20,10 +21,20 @@ pub fn accepted_holds()
     ensures { AcceptedHolds }
 {}
 
+/// The same of a problem, undirected or directed.
+pub fn accepted_of_a_problem_holds()
+    ensures { AcceptedOfAProblemHolds }
+{}
+
 /// No log is both accepted and rejected, and none is neither; what is rejected is so at one line
 /// and as one kind.
 pub fn rejected_exactly()
     ensures { (I : Network) (log : Log) → RejectedExactly I log }
+{}
+
+/// The same of a problem, undirected or directed.
+pub fn rejected_of_a_problem_exactly()
+    ensures { (p : Problem) (log : Log) → RejectedExactlyIn p log }
 {}
 
 /// The lines of a log are those of its items.

@@ -7,13 +7,14 @@
 //! directions, and on the line and kind of each fault. `LogReader` reads the same line by line,
 //! and answers each line as an `Item`; it keeps the version and counts alone, so a log of any length
 //! can be read.
-//! What a log must meet to be right of an instance are the definitions *accepts* and *rejects*,
-//! with the laws that a caller rests on.
+//! What a log must meet to be right of a problem, undirected or directed, are the definitions *accepts*
+//! and *rejects*, with the laws that a caller rests on.
 #![tactic(auto)]
 
 mod fault;
 mod gathering;
 mod item;
+mod kept_sets;
 mod kind;
 mod law;
 mod line;
@@ -35,8 +36,8 @@ pub use fault::{LineError, LogFault, ReadError};
 pub use item::Item;
 pub use kind::Kind;
 pub use law::{
-    accepted_holds, items_are_lines, line_items, migrated_is_the_same, one_item, one_spelling,
-    refused_exactly, rejected_exactly,
+    accepted_holds, accepted_of_a_problem_holds, items_are_lines, line_items, migrated_is_the_same,
+    one_item, one_spelling, refused_exactly, rejected_exactly, rejected_of_a_problem_exactly,
 };
 pub use log::{Claim, Log, Version, migrate};
 pub use past::Past;

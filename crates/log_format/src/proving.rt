@@ -1,8 +1,9 @@
 ghost use Rattle.std.specs.Prelude.{◌≡◌, ◌∷◌, [], ◌++◌, ◌≤◌, IfOk};
 ghost use Rattle.log_format.specs.declared.log.Version.{Version as VersionSpec};
-ghost use Rattle.log_format.specs.Reading.{Gives, HalvesWait, root_of, cuts_left, closed, half_at, split_at, step};
+ghost use Rattle.log_format.specs.Reading.{Gives, HalvesWait, root_of, cuts_left, closed, half_at, split_at, cut_of, step};
 
 use crate::fault::LineError;
+use crate::kept_sets::KeptSets;
 use crate::line::{MAX_VERTEX, cut_of, pair_of};
 use crate::split_line::split_of;
 use crate::stage::{Answer, Proving, Stage};
@@ -136,10 +137,20 @@ pub fn at_half(
     }
 }
 
+// The cut that a line says. Its set is the one that was kept, where that came before.
+fn kept_cut(alloc: Global, kept: &mut KeptSets, line: &[u8]) -> Result<Cut, LineError>
+    ensures { Gives (λ c. c) result (cut_of line.now) }
+{
+    let Cut { set, q, y } = cut_of(alloc, line)?;
+    let set = kept.share(set)?;
+    Ok(Cut { set, q, y })
+}
+
 /// What comes after a line where cuts of a close stand.
 #[tactic(auto, unfolding(crate::specs::Reading::step))]
 pub fn at_cuts(
     alloc: Global,
+    kept: &mut KeptSets,
     proving: Proving,
     root: Option<u32>,
     cuts: Listed<Cut>,
@@ -150,7 +161,7 @@ pub fn at_cuts(
     requires some { 1 ≤ left }
     ensures { (version : VersionSpec) → Gives (λ s. s) result (step version (Stage.AtCuts proving root cuts left) line.now) }
 {
-    let cut = cut_of(alloc, line)?;
+    let cut = kept_cut(alloc, kept, line)?;
     let mut cuts = cuts.into_vec();
     cuts.push(cut)?;
     let stage = cuts_left(proving, root, Listed::of(cuts), left - 1)?;

@@ -4,6 +4,7 @@ ghost use Rattle.log_format.specs.Reached.{IsReached};
 ghost use Rattle.log_format.specs.Reading.{Gives, pair_of, step_of, stage_if, with_step, at_header, step};
 
 use crate::fault::LineError;
+use crate::kept_sets::KeptSets;
 use crate::line::{MAX_VERTEX, number_of, pair_of, wall_of};
 use crate::proving::{at_cuts, at_half};
 use crate::step_line::step_of;
@@ -215,7 +216,13 @@ fn at_wall(alloc: Global, line: &[u8]) -> Result<Stage, LineError>
 }
 
 /// What comes after a line of a log of this version, if it may stand here.
-pub fn step(alloc: Global, version: Version, stage: Stage, line: &[u8]) -> Result<Stage, LineError>
+pub fn step(
+    alloc: Global,
+    kept: &mut KeptSets,
+    version: Version,
+    stage: Stage,
+    line: &[u8],
+) -> Result<Stage, LineError>
     requires { IsReached version stage }
     ensures { Gives (λ s. s) result (step version stage line.now) }
 {
@@ -237,7 +244,7 @@ pub fn step(alloc: Global, version: Version, stage: Stage, line: &[u8]) -> Resul
             root,
             cuts,
             left,
-        } => at_cuts(alloc, proving, root, cuts, left, line),
+        } => at_cuts(alloc, kept, proving, root, cuts, left, line),
         Stage::AtWall => at_wall(alloc, line),
         Stage::AtEnd(claim) => stage_if(b"END", line, Stage::AtNothing(claim)),
         Stage::AtNothing(_) => Err(LineError::BadLine),
