@@ -65,7 +65,7 @@ pub record Growth : Type 0 where
 
 -- what is seen of it
 abbrev pub growth : Growing → Growth
-growth g = record { instance = g.walk.instance; path = g.walk.path; searches = g.searches.now; number = g.number; lines = g.written.lines.items; least = g.written.least }
+growth g = record { instance = g.walk.instance; path = g.walk.path; searches = g.searches.now; number = g.number; lines = g.written.lines; least = g.written.least }
 
 -- a branch is open, and if the first search is of its close, it is complete
 pub record IsReady (g : Growth) (branch_path : List Turn) : Type 0 where

@@ -141,8 +141,10 @@ fn light_node(
 
 /// All closes that weigh less than `least`, as nodes that searches can begin with.
 pub fn open_closes(alloc: Global, closes: Closes<'_>, least: u64) -> Result<Vec<Node>, AllocError>
-    ensures { IfOk result (λ nodes. nodes.items
+    ensures light { IfOk result (λ nodes. nodes.items
         ≡ filter (is_light closes.entry.instance least) closes.entry.nodes) }
+    ensures nodes { IfOk result (λ nodes. All (IsNode closes.entry.instance) nodes.items) }
+    ensures writable { IfOk result (λ nodes. All (λ N. IsWritablePacking N.packing) nodes.items) }
 {
     let mut nodes = Vec::new(alloc);
     let mut closes = closes;

@@ -6,14 +6,16 @@ ghost use Rattle.lift_back.specs.declared.step.Step.{Step as StepSpec};
 ghost use Rattle.lift_back.specs.State.{whole};
 ghost use Rattle.lift_back.specs.Steps.{Applies};
 ghost use Rattle.log_format.specs.declared.log.Version.TheVariants.{One};
+ghost use Rattle.log_format.specs.Preorder.{IsOneProof};
 ghost use Rattle.log_format.specs.Text.{IsLog};
 ghost use Rattle.search_core.specs.Complete.{IsAtVertex, records};
 ghost use Rattle.log_resume.specs.Grafted.{AreSearchesIn, IsGraftOf, IsProofOf};
+ghost use Rattle.log_resume.specs.Lines.{standing};
 
 use crate::growing::grown;
 use crate::law::grafted_proves;
 use lift_back::Reduced;
-use log_format::{Claim, Log, Proof};
+use log_format::{Claim, Log, Proof, ProofLine};
 use search_core::Searched;
 use st_model::Tree;
 use std::alloc::{AllocError, Global};
@@ -51,9 +53,7 @@ pub fn graft(
     let offset = reduced.offset();
     let written = grown(alloc, reduced, &proof, searches, primal)?;
     let dual = primal.min(written.least + offset);
-    let Some(proof) = Proof::of(written.lines) else {
-        unreachable!()
-    };
+    let proof = standing(proof, written.lines);
     Ok(Log {
         version,
         claim: Claim::Found {
@@ -64,4 +64,18 @@ pub fn graft(
             proof,
         },
     })
+}
+
+// The old proof, unless other lines stand in the place of its lines.
+fn standing(old: Proof, lines: Option<Vec<ProofLine>>) -> Proof
+    requires { IsOneProof (standing old lines) }
+    ensures { result ≡ standing old lines }
+{
+    let Some(lines) = lines else {
+        return old;
+    };
+    let Some(proof) = Proof::of(lines) else {
+        unreachable!()
+    };
+    proof
 }

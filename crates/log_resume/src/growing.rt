@@ -8,9 +8,11 @@ ghost use Rattle.cert_checker.specs.Path.{branch_of};
 ghost use Rattle.log_resume.specs.Closes.{closes_of};
 ghost use Rattle.log_resume.specs.Grafted.{AreSearchesOf};
 ghost use Rattle.log_resume.specs.Growing.{Goes, IsDue, IsFound, IsGrown, IsReadyFor, WritesClose, WritesSplit, growth};
+ghost use Rattle.log_resume.specs.Lines.{standing};
 ghost use Rattle.log_resume.specs.Growing.{MayPass, MayWalk, least_after, walked, weight_at};
 
 use crate::open::OpenBranches;
+use crate::written::Written;
 use certificate_log::proof_lines;
 use cut_packing::{Packing, weight};
 use lift_back::Reduced;
@@ -19,10 +21,10 @@ use search_core::{Searched, complete_counts, complete_is_proof};
 use st_model::SplitAt;
 use std::alloc::{AllocError, Global};
 
-// Lines of a graft, and the less of a bound and of what their closes weigh.
+// What a graft makes of a proof: the lines, unless each close stays, and the less of a bound and of what its closes weigh.
 #[derive(Drop)]
-pub struct Written {
-    pub lines: Vec<ProofLine>,
+pub struct Graft {
+    pub lines: Option<Vec<ProofLine>>,
     pub least: u64,
 }
 
@@ -33,7 +35,7 @@ pub struct Growing<'a> {
     walk: OpenBranches<'a>,
     searches: &'a [Searched],
     number: u64,
-    written: Written,
+    written: Written<'a>,
 }
 
 // The lines of the graft of a proof of what steps left, and the less of `top` and of its least close.
@@ -43,7 +45,7 @@ pub fn grown(
     proof: &Proof,
     searches: &[Searched],
     top: u64,
-) -> Result<Written, AllocError>
+) -> Result<Graft, AllocError>
     requires proves { (p : ProofTree) × (x : ℕ) × (proof.now ≡ preorder p)
         × Proves reduced.now.state.instance (left_over reduced.now.state) x p }
     requires searches { (p : ProofTree) → proof.now ≡ preorder p
@@ -51,23 +53,30 @@ pub fn grown(
         searches.now }
     ensures { IfOk result (λ grown. (p : ProofTree) → proof.now ≡ preorder p
         → IsGrown reduced.now.state.instance searches.now (left_over reduced.now.state) p top
-        grown.lines.items grown.least) }
+        (standing proof.now grown.lines) grown.least) }
 {
     let rest = reduced.instance(alloc)?;
     let walk = OpenBranches::of(alloc, reduced, &rest)?;
-    let mut growing = Growing::of(alloc, walk, searches, top);
     let lines = proof.lines();
     prove!(lines.len() <= usize::MAX);
-    for line in lines {
-        growing = growing.after(alloc, line)?;
+    let mut growing = Growing::of(walk, searches, &lines[..0], top);
+    for (place, line) in lines.iter().enumerate() {
+        growing = growing.after(alloc, &lines[..place + 1], line)?;
     }
-    Ok(growing.written())
+    Ok(growing.grown())
 }
 
 impl<'a> Growing<'a> {
     // The graft before any line.
-    fn of(alloc: Global, walk: OpenBranches<'a>, searches: &'a [Searched], top: u64) -> Growing<'a>
-        ensures { growth result ≡ record {
+    fn of(
+        walk: OpenBranches<'a>,
+        searches: &'a [Searched],
+        front: &'a [ProofLine],
+        top: u64,
+    ) -> Growing<'a>
+        requires { front.now ≡ [] }
+        ensures front { result.written.front ≡ [] }
+        ensures growth { growth result ≡ record {
           instance = walk.entry.instance;
           path = walk.entry.path;
           searches = searches.now;
@@ -80,38 +89,50 @@ impl<'a> Growing<'a> {
             walk,
             searches,
             number: 0,
-            written: Written {
-                lines: Vec::new(alloc),
-                least: top,
-            },
+            written: Written::over(front, top),
         }
     }
 
     // What is written.
-    fn written(self) -> Written
-        ensures { result ≡ self.entry.written }
+    fn grown(self) -> Graft
+        ensures lines { standing self.entry.written.front result.lines ≡ self.entry.written.lines }
+        ensures least { result.least ≡ self.entry.written.least }
     {
         let Growing { written, .. } = self;
-        written
+        written.grown()
     }
 
-    // The graft after the next line of the old proof.
-    fn after(self, alloc: Global, line: &ProofLine) -> Result<Growing<'a>, AllocError>
+    // The graft after the next line of the old proof, where this is the front of that up to the line.
+    fn after(
+        self,
+        alloc: Global,
+        front: &'a [ProofLine],
+        line: &ProofLine,
+    ) -> Result<Growing<'a>, AllocError>
+        requires front { front.now ≡ self.written.front ++ line.now ∷ [] }
         requires ready { IsReadyFor (growth self) line.now }
         requires room { self.number + 1 < 2 ^ 64 }
-        ensures { IfOk result (λ next. Goes (growth self.entry) line.now (growth next)) }
+        ensures goes { IfOk result (λ next. Goes (growth self.entry) line.now (growth next)) }
+        ensures front { IfOk result (λ next. next.written.front ≡ front.now) }
     {
         match line {
-            ProofLine::Split(at) => self.split(line, *at),
-            ProofLine::Close(packing) => self.close(alloc, line, packing),
+            ProofLine::Split(at) => self.split(front, line, *at),
+            ProofLine::Close(packing) => self.close(alloc, front, line, packing),
         }
     }
 
     // The graft after a split.
-    fn split(self, line: &ProofLine, at: SplitAt) -> Result<Growing<'a>, AllocError>
+    fn split(
+        self,
+        front: &'a [ProofLine],
+        line: &ProofLine,
+        at: SplitAt,
+    ) -> Result<Growing<'a>, AllocError>
         requires line { line.now ≡ ProofLine.Split at }
+        requires front { front.now ≡ self.written.front ++ ProofLine.Split at ∷ [] }
         requires may { MayPass self.walk.instance self.walk.path (ProofLine.Split at) }
-        ensures { IfOk result (λ next. WritesSplit (growth self.entry) at (growth next)) }
+        ensures goes { IfOk result (λ next. WritesSplit (growth self.entry) at (growth next)) }
+        ensures front { IfOk result (λ next. next.written.front ≡ front.now) }
     {
         let Growing {
             walk,
@@ -120,7 +141,7 @@ impl<'a> Growing<'a> {
             written,
         } = self;
         let walk = walk.after(line)?;
-        let written = written.with_split(at)?;
+        let written = written.with_split(front, at)?;
         Ok(Growing {
             walk,
             searches,
@@ -133,35 +154,41 @@ impl<'a> Growing<'a> {
     fn close(
         self,
         alloc: Global,
+        front: &'a [ProofLine],
         line: &ProofLine,
         packing: &Packing,
     ) -> Result<Growing<'a>, AllocError>
         requires line { line.now ≡ ProofLine.Close packing.now }
+        requires front { front.now ≡ self.written.front ++ ProofLine.Close packing.now ∷ [] }
         requires ready { IsReadyFor (growth self) (ProofLine.Close packing.now) }
         requires room { self.number + 1 < 2 ^ 64 }
-        ensures { IfOk result (λ next. WritesClose (growth self.entry) packing.now (growth next)) }
+        ensures goes { IfOk result (λ next. WritesClose (growth self.entry) packing.now (growth next)) }
+        ensures front { IfOk result (λ next. next.written.front ≡ front.now) }
     {
         let Some((search, left)) = self.searches.split_first() else {
-            return self.kept(alloc, line, packing);
+            return self.kept(alloc, front, line, packing);
         };
         if search.close != self.number {
-            return self.kept(alloc, line, packing);
+            return self.kept(alloc, front, line, packing);
         }
-        self.searched(alloc, packing, search, left)
+        self.searched(alloc, front, packing, search, left)
     }
 
     // The graft after a close that no search went on from.
     fn kept(
         self,
         alloc: Global,
+        front: &'a [ProofLine],
         line: &ProofLine,
         packing: &Packing,
     ) -> Result<Growing<'a>, AllocError>
         requires line { line.now ≡ ProofLine.Close packing.now }
+        requires front { front.now ≡ self.written.front ++ ProofLine.Close packing.now ∷ [] }
         requires ready { IsReadyFor (growth self) (ProofLine.Close packing.now) }
         requires due { IsDue self.number self.searches.now None self.searches.now }
         requires room { self.number + 1 < 2 ^ 64 }
-        ensures { IfOk result (λ next. WritesClose (growth self.entry) packing.now (growth next)) }
+        ensures goes { IfOk result (λ next. WritesClose (growth self.entry) packing.now (growth next)) }
+        ensures front { IfOk result (λ next. next.written.front ≡ front.now) }
     {
         let Growing {
             walk,
@@ -171,7 +198,7 @@ impl<'a> Growing<'a> {
         } = self;
         let weight = weighed(&walk, packing);
         let walk = walk.after(line)?;
-        let written = written.with_close(alloc, packing, weight)?;
+        let written = written.with_close(alloc, front, packing, weight)?;
         Ok(Growing {
             walk,
             searches,
@@ -184,15 +211,18 @@ impl<'a> Growing<'a> {
     fn searched(
         self,
         alloc: Global,
+        front: &'a [ProofLine],
         packing: &Packing,
         search: &'a Searched,
         left: &'a [Searched],
     ) -> Result<Growing<'a>, AllocError>
+        requires front { front.now ≡ self.written.front ++ ProofLine.Close packing.now ∷ [] }
         requires ready { IsReadyFor (growth self) (ProofLine.Close packing.now) }
         requires first { self.searches.now ≡ search.now ∷ left.now }
         requires due { search.now.close ≡ self.number }
         requires room { self.number + 1 < 2 ^ 64 }
-        ensures { IfOk result (λ next. WritesClose (growth self.entry) packing.now (growth next)) }
+        ensures goes { IfOk result (λ next. WritesClose (growth self.entry) packing.now (growth next)) }
+        ensures front { IfOk result (λ next. next.written.front ≡ front.now) }
     {
         let Growing {
             walk,
@@ -202,77 +232,15 @@ impl<'a> Growing<'a> {
         } = self;
         let weight = weighed(&walk, packing);
         let proof = lines_of(alloc, &walk, search)?;
-        let top = weight.max(u128::from(written.least));
+        let bound = written.least();
+        let top = weight.max(u128::from(bound));
         let (walk, least) = after_all(walk, &proof, top)?;
-        let written = written.with_tree(alloc, packing, weight, proof, least)?;
+        let written = written.with_tree(alloc, front, packing, (weight, least), proof)?;
         Ok(Growing {
             walk,
             searches: left,
             number: number + 1,
             written,
-        })
-    }
-}
-
-impl Written {
-    // A split more.
-    fn with_split(self, at: SplitAt) -> Result<Written, AllocError>
-        ensures lines { IfOk result (λ w. w.lines.items ≡ self.lines.items ++ ProofLine.Split at ∷ []) }
-        ensures least { IfOk result (λ w. w.least ≡ self.least) }
-    {
-        let Written { mut lines, least } = self;
-        lines.push(ProofLine::Split(at))?;
-        Ok(Written { lines, least })
-    }
-
-    // A close more, which weighs this.
-    fn with_close(
-        self,
-        alloc: Global,
-        packing: &Packing,
-        weight: u128,
-    ) -> Result<Written, AllocError>
-        ensures lines { IfOk result (λ w. w.lines.items
-            ≡ self.lines.items ++ ProofLine.Close packing.now ∷ []) }
-        ensures least { IfOk result (λ w. w.least ≡ min self.least weight) }
-    {
-        let Written { mut lines, least } = self;
-        lines.push(ProofLine::Close(packing.shared(alloc)?))?;
-        Ok(Written {
-            lines,
-            least: lesser(least, weight),
-        })
-    }
-
-    // The lines of a proof tree more, whose closes weigh this at least, unless that is less than what
-    // the close weighs; else the close.
-    fn with_tree(
-        self,
-        alloc: Global,
-        packing: &Packing,
-        weight: u128,
-        proof: Vec<ProofLine>,
-        least: u128,
-    ) -> Result<Written, AllocError>
-        ensures kept { IfOk result (λ w. least < weight
-            → (w.lines.items ≡ self.lines.items ++ ProofLine.Close packing.now ∷ [])
-            × (w.least ≡ min self.least weight)) }
-        ensures grown { IfOk result (λ w. weight ≤ least
-            → (w.lines.items ≡ self.lines.items ++ proof.items)
-            × (w.least ≡ min self.least least)) }
-    {
-        if least < weight {
-            return self.with_close(alloc, packing, weight);
-        }
-        let Written {
-            mut lines,
-            least: before,
-        } = self;
-        let mut proof = proof;
-        lines.append(&mut proof)?;
-        Ok(Written {
-            lines,
-            least: lesser(before, least),
         })
     }
 }
@@ -333,15 +301,4 @@ fn weighed(walk: &OpenBranches<'_>, packing: &Packing) -> u128
         return 0;
     };
     weight(walk.instance(), branch, packing)
-}
-
-// The lesser of two numbers.
-fn lesser(bound: u64, weight: u128) -> u64
-    ensures { result ≡ min bound weight }
-{
-    if weight < u128::from(bound) {
-        weight as u64
-    } else {
-        bound
-    }
 }

@@ -12,6 +12,7 @@ mod grafts;
 mod growing;
 mod law;
 mod open;
+mod written;
 
 pub use closes::{Closes, open_closes};
 pub use grafts::graft;

@@ -30,9 +30,9 @@ use bidirected_form::Arcs;
 use branching::{Node, choose};
 use cut_packing::{Packing, weight};
 use dual_ascent::{Ascent, Extension};
-use graph_store::Whole;
+use graph_store::{Store, Whole};
 use level_packing::{Leaf, close_all};
-use st_model::{Instance, Sides, SplitAt};
+use st_model::{Branch, Instance, Sides, SplitAt};
 use std::alloc::{AllocError, Global};
 use std::thread::Threads;
 
@@ -42,6 +42,30 @@ use std::thread::Threads;
 pub struct Manner {
     pub threads: usize,
     pub links: bool,
+}
+
+/// Whether a node gets the effort of a whole search: it has no cuts yet, or nothing is decided in its branch, so that
+/// its cuts are all with which an earlier search ended. A vertex that no link leads to is outside of each branch where
+/// steps took it away.
+pub fn is_whole(store: &Store, node: &Node) -> bool {
+    node.packing.cuts.as_slice().is_empty() || is_undecided(store, &node.branch)
+}
+
+// Whether nobody is inside, nobody with a link outside, and nothing said of links.
+fn is_undecided(store: &Store, branch: &Branch) -> bool {
+    branch.inside.as_slice().is_empty()
+        && branch.must.as_slice().is_empty()
+        && branch.barred.as_slice().is_empty()
+        && !branch
+            .outside
+            .as_slice()
+            .iter()
+            .any(|vertex| is_linked(store, *vertex))
+}
+
+// Whether a link leads to a vertex.
+fn is_linked(store: &Store, vertex: u32) -> bool {
+    vertex > 0 && vertex <= store.vertices() && store.degree(vertex) > 0
 }
 
 /// Works on a node. It closes where its packing weighs as much as the incumbent costs, or where nothing
@@ -70,8 +94,7 @@ pub fn expand<R: Threads + Sync>(
     let Some(vertex) = choose(&node, &whole.instance) else {
         return close(alloc, &whole.instance, node, incumbent.cost);
     };
-    let is_bare = node.packing.cuts.as_slice().is_empty();
-    let effort = Effort::at(&node.branch, is_bare, manner.threads);
+    let effort = Effort::at(&node.branch, is_whole(&whole.store, &node), manner.threads);
     let means = Means { rt, alloc, effort };
     take_up(&means, whole, node, vertex, incumbent, plan, manner.links)
 }

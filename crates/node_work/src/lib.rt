@@ -31,7 +31,7 @@ mod target;
 
 pub use attempt::{Attempt, Site, make_all};
 pub use deciding::root_of;
-pub use expanding::{Manner, expand};
+pub use expanding::{Manner, expand, is_whole};
 pub use node::no_cuts;
 pub use plan::Plan;
 pub use raising::raise;

@@ -5,6 +5,7 @@ use Rattle.search_core.specs.ReadOff.{least_weight}
 use Rattle.certificate_log.proofs.Proved.{one_proof}
 use Rattle.log_resume.specs.Closes.{closes_of}
 use Rattle.log_resume.specs.Grafted.{AreSearchesOf}
+use Rattle.log_resume.specs.Lines.{standing}
 use Rattle.log_resume.proofs.Certifying.{IsGrownOver, assembled, same_found, small_dual}
 use Rattle.log_resume.proofs.grafts.graft.Goals as goal
 
@@ -26,6 +27,13 @@ overflow_add-written c =
     let small = small_dual c.args.reduced.now.first s c.args.tree c.args.primal c.in_ok-written.written.least (least_weight s.instance (left_over s) grown.after) c.requires.instance o.state c.requires.tree c.requires.cost grown.is_least in
     omega (arith, small, o.offset)
 
+pub standing-proof-requires : goal.standing-proof-requires
+standing-proof-requires c =
+    let (steps, q, is, applies) = c.requires.proof in
+    let parts = same_found _ _ _ _ _ _ _ _ _ _ (sym c.in-Found.is ∙ is.claims) in
+    let grown = c.in_ok-written.ensures q (parts.1 ∙ is.lines) in
+    (grown.after, grown.lines)
+
 pub returns : goal.returns
 returns c =
     let s = c.args.reduced.now.state in
@@ -34,7 +42,8 @@ returns c =
     let (steps, q, is, applies) = c.requires.proof in
     let parts = same_found _ _ _ _ _ _ _ _ _ _ (sym c.in-Found.is ∙ is.claims) in
     let o = c.offset-offset.ensures in
-    let h : IsGrownOver first s c.args.log c.args.tree c.args.primal c.args.searches.now steps q w.lines.items w.least = record {
+    let lines = standing c.in-Found.proof w.lines in
+    let h : IsGrownOver first s c.args.log c.args.tree c.args.primal c.args.searches.now steps q lines w.least = record {
       instance = c.requires.instance;
       is_log = c.requires.log;
       old_proof = is;
@@ -47,4 +56,4 @@ returns c =
       has_grown = c.in_ok-written.ensures q (parts.1 ∙ is.lines);
       law = c.grafted_proves.ensures;
     } in
-    rw (c.min-dual.ensures, o.offset, c.in-Some.ensures.lines, parts.0) (assembled first s c.args.log c.args.tree c.args.primal c.args.searches.now steps q w.lines.items w.least h)
+    rw (c.min-dual.ensures, o.offset, c.standing-proof.ensures, parts.0) (assembled first s c.args.log c.args.tree c.args.primal c.args.searches.now steps q lines w.least h)
