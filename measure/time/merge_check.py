@@ -1,7 +1,7 @@
 """What a run of the merge check costs, crate by crate, in seconds of a processor.
 
-    python3 measure/merge_check.py OUT &     while `rt ci` runs, in another shell
-    python3 measure/merge_check.py --tell OUT
+    python3 measure/time/merge_check.py OUT &     while `rt ci` runs, in another shell
+    python3 measure/time/merge_check.py --tell OUT
 
 looks every second at the prover's processes of all runs of `rt ci` on this machine, until it is stopped, and writes what
 each took into OUT; --tell sums that up: of each crate its proof (of a crate of tests: that of its tests), the base of its

@@ -8,7 +8,7 @@ build_crate() {
     shift
     scratch=$(mktemp -d)
     trap 'rm -rf "$scratch"' EXIT
-    tar -C "$here/.." --exclude='crates/*/out' -cf - HANDLES crates crates.txt | tar -C "$scratch" -xf -
+    tar -C "$here/../.." --exclude='crates/*/out' -cf - HANDLES crates crates.txt | tar -C "$scratch" -xf -
     echo "$name: $*" >> "$scratch/crates.txt"
     crate=$scratch/crates/$name
     mkdir "$crate"

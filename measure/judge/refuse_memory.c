@@ -1,5 +1,5 @@
 // Refuses the request for memory of the number FAIL_AT, from 1, of the program that it is loaded into:
-// gcc -shared -fPIC -o refuse.so measure/refuse_memory.c; FAIL_AT=7 LD_PRELOAD=./refuse.so steiner ..
+// gcc -shared -fPIC -o refuse.so measure/judge/refuse_memory.c; FAIL_AT=7 LD_PRELOAD=./refuse.so steiner ..
 // After each request it writes how many there were into the file that COUNT_TO names.
 #define _GNU_SOURCE
 #include <dlfcn.h>

@@ -1,12 +1,14 @@
-"""Solves files beside other programs: beside.py STEINER [OTHER ..] -- FILE ..
+"""Solves files beside other programs: beside.py [--processor] STEINER [OTHER ..] -- FILE ..
 
 Writes a line of a table for each file: for each other program, a command that takes the file as its last
 word, the time that it took and the cost that it said; for `steiner` the dual and the primal, the lines of
-the proof, the time and the peak memory of `solve`, the size of the log, and the time of `check`. Of times
-each is the least of three runs; a run that doesn't end within 60 seconds is written as `open`. The memory
+the proof, the time and the peak memory of `solve`, the size of the log, and the time of `check`. Of times each is the
+least of three runs, by the clock or, with --processor, in seconds of a processor; a run that doesn't end within 60 seconds by
+the clock is written as `open`. The memory
 is what GNU time tells."""
 import os
 import re
+import resource
 import subprocess
 import sys
 import tempfile
@@ -16,14 +18,23 @@ RUNS = 3
 SECONDS = 60
 
 
+def processor():
+    """The seconds of a processor that all commands took that have ended."""
+    usage = resource.getrusage(resource.RUSAGE_CHILDREN)
+    return usage.ru_utime + usage.ru_stime
+
+
+now = time.monotonic
+
+
 def run(words):
     """What the command writes, and its time; None where it doesn't end in time."""
-    begin = time.monotonic()
+    begin = now()
     try:
         done = subprocess.run(words, stdout=subprocess.PIPE, timeout=SECONDS, check=False)
     except subprocess.TimeoutExpired:
         return None
-    return done.stdout.decode(), time.monotonic() - begin
+    return done.stdout.decode(), now() - begin
 
 
 def least(words):
@@ -68,6 +79,10 @@ def ours(steiner, path, room):
 
 
 def main():
+    global now
+    if sys.argv[1] == "--processor":
+        now = processor
+        del sys.argv[1]
     split = sys.argv.index("--")
     steiner, others, paths = sys.argv[1], sys.argv[2:split], sys.argv[split + 1 :]
     heads = [f"`{command}`" for command in others]

@@ -1,6 +1,6 @@
 """Which definitions a clause rests on, by their files.
 
-    python3 measure/believed.py [check | verify | solve | headline | CRATE/FILE:NAME ..]
+    python3 measure/judge/believed.py [check | verify | solve | headline | CRATE/FILE:NAME ..]
 
 follows the words and operators of each definition from those that are named, as cert_checker/Verdict:Concludes, and tells
 of each file of specs/ how many lines it has without imports and blank lines, and how many of these are the
@@ -13,7 +13,7 @@ import os
 import re
 import sys
 
-CRATES = os.path.join(os.path.dirname(os.path.abspath(__file__)), "..", "crates")
+CRATES = os.path.join(os.path.dirname(os.path.abspath(__file__)), "..", "..", "crates")
 STARTS = {
     "check": ["cert_checker/Verdict:Concludes", "stp_reader/Reads:Reads"],
     "verify": ["solution_reader/Stated:IsStated", "solution_reader/Reads:ReadsSolution", "stp_reader/Reads:Reads"],

@@ -1,6 +1,6 @@
 """Memory refused at every place: refused_memory.py STEINER
 
-Builds measure/refuse_memory.c and runs `solve` of the odd wheel with a log, plainly and with one or two
+Builds measure/judge/refuse_memory.c and runs `solve` of the odd wheel with a log, plainly and with one or two
 workers, `check` of a log of the triangle, `gen 1 3 3 2`, `few` of the odd wheel, and `verify` of a solution
 of the triangle, once for each request for memory, which is refused. A run whose request is refused ends as one in which none is; or with code 9, nothing sent and no log
 saved; or with code 8 where the request was standard output's own, and no more than a front was sent. What
