@@ -1,3 +1,7 @@
 pub mod Merging
 pub mod Putting
 pub mod Building
+pub mod OpenArcs
+pub mod Spreads
+pub mod DiTrees
+pub mod DiWeights

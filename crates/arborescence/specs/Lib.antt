@@ -3,3 +3,5 @@ pub mod DiWall
 pub mod Problem
 pub mod Stated
 pub mod Steps
+pub mod Open
+pub mod First

@@ -8,6 +8,20 @@
 #![tactic(auto)]
 
 mod build;
+mod first;
+mod fitting;
+mod fullness;
 mod instance;
+mod judge;
+mod loads;
+mod spreading;
+mod walls;
+mod weighing;
 
+pub use first::di_first_tree;
+pub use fitting::di_fits;
+pub use fullness::di_is_full;
 pub use instance::DiInstance;
+pub use judge::{di_cost, di_is_tree};
+pub use walls::di_wall;
+pub use weighing::di_weight;
