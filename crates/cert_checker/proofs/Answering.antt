@@ -3,45 +3,46 @@ use Rattle.std.proofs.Common.{◌≡◌, ℕ, Bool, true, false, List, [], ◌�
 use Rattle.std.specs.Prelude.{◌⊎◌, IfOk, IsErrAnd, MatchResult}
 use Rattle.std.proofs.lemmas.List.{append-nil}
 use Rattle.amounts.specs.declared.scale.Scale.{Scale}
-use Rattle.st_model.specs.Network.{Network, IsInstance}
+use Rattle.st_model.specs.Network.{Network}
+use Rattle.arborescence.specs.Problem.{Problem, plain, IsProblem}
 use Rattle.stp_reader.specs.declared.fault.ReadError as file
 use Rattle.stp_reader.specs.declared.fault.ReadError.TheVariants as file_error
 use Rattle.stp_reader.specs.declared.reason.Reason.{Reason}
 use Rattle.stp_reader.specs.Reads.{Reads}
-use Rattle.log_format.specs.Accepts.{AcceptedHolds}
+use Rattle.log_format.specs.Accepts.{AcceptedOfAProblemHolds}
 use Rattle.log_format.specs.Text.{AreWhole, Begins}
 use Rattle.log_format.proofs.WholeLines.{is_text}
 use Rattle.cert_checker.specs.declared.fault.CheckFault.{CheckFault}
 use Rattle.cert_checker.specs.declared.fault.CheckFault.TheVariants.{Stp, Log, NoMemory}
 use Rattle.cert_checker.specs.declared.verdict.Verdict.{Verdict}
 use Rattle.cert_checker.specs.declared.verdict.Checked.{Checked}
-use Rattle.cert_checker.specs.Checking.{IsTextOf, IsAnswer}
+use Rattle.cert_checker.specs.Checking.{IsTextOf, IsAcceptedTextIn, IsWrongTextIn, IsAnswer}
 use Rattle.cert_checker.specs.Fault.{fault_of_file}
 use Rattle.cert_checker.specs.Hearing.{AreTaken, IsJudgementOf, AreJudged, IsFed}
 use Rattle.cert_checker.specs.Held.{AreHeld, IsHeld}
 use Rattle.cert_checker.specs.Pieces.{Pieces, IsVerdictOn, IsAnswerTo}
-use Rattle.cert_checker.specs.Verdict.{Concludes}
+use Rattle.cert_checker.specs.Verdict.{Concludes, ConcludesIn}
 use Rattle.cert_checker.proofs.Judgements.{holds_concludes}
 
 -- ---- the judgement
 
 -- what is judged of the lines of a log is answered of its text
-pub judged_answers : (I : Network) (lines : List (List ℕ)) (part text : List ℕ) (result : Result Verdict CheckFault) → AreTaken lines part text → part ≡ [] → AreWhole lines
-    → AreJudged I lines result → IsVerdictOn I text result
-judged_answers I lines part text result read none (log, is, same) judged = by_result result (judged log is same)
+pub judged_answers : (K : Problem) (lines : List (List ℕ)) (part text : List ℕ) (result : Result Verdict CheckFault) → AreTaken lines part text → part ≡ [] → AreWhole lines
+    → AreJudged K lines result → IsVerdictOn K text result
+judged_answers K lines part text result read none (log, is, same) judged = by_result result (judged log is same)
   where
     is_of : IsTextOf text log
     is_of = record { is_log = is; text = is_text text log (same ∙ sym read.whole) (read.rest ∙ none) }
 
-    by_result : (r : Result Verdict CheckFault) → IsJudgementOf I log r → IsVerdictOn I text r
+    by_result : (r : Result Verdict CheckFault) → IsJudgementOf K log r → IsVerdictOn K text r
     by_result (Ok verdict) j = (log, is_of, j.0, j.1)
     by_result (Err (Log f)) j = inr (log, is_of, j)
     by_result (Err e) j = j
 
 -- and concludes
-pub answer_concludes : (I : Network) (text : List ℕ) (result : Result Verdict CheckFault) → AcceptedHolds → IsInstance I → IsVerdictOn I text result → IfOk result (Concludes I)
-answer_concludes I text (Ok verdict) law instance (log, is, accepts, same) = subst (Concludes I) (sym same) (holds_concludes I log.claim (law I log instance accepts))
-answer_concludes I text (Err e) law instance answer = tt
+pub answer_concludes : (K : Problem) (text : List ℕ) (result : Result Verdict CheckFault) → AcceptedOfAProblemHolds → IsProblem K → IsVerdictOn K text result → IfOk result (ConcludesIn K)
+answer_concludes K text (Ok verdict) law problem (log, is, accepts, same) = subst (ConcludesIn K) (sym same) (holds_concludes K log.claim (law K log problem accepts))
+answer_concludes K text (Err e) law problem answer = tt
 
 -- ---- splits
 
@@ -81,16 +82,15 @@ never_refused read y a b found (inr e) = absurd cc
 -- ---- the whole
 
 -- an answer to pieces is one of their file and the text
-pub answers_of : (stp : List ℕ) (p : Pieces) (result : Result Checked CheckFault) → Reads stp p.instance p.scale → IsAnswerTo p result → IsAnswer stp p.text result
-answers_of stp p (Ok checked) reads answer = (p.instance, subst (Reads stp p.instance) (sym answer.1) reads, answer.0)
-answers_of stp p (Err (Log f)) reads answer = (p.instance, p.scale, reads, answer)
-answers_of stp p (Err e) reads answer = absurd answer
+answers_of : (stp : List ℕ) (I : Network) (p : Pieces) (result : Result Checked CheckFault) → Reads stp I p.scale → p.problem ≡ plain I → IsAnswerTo p result → IsAnswer stp p.text result
+answers_of stp I p (Ok checked) reads is answer = (I, subst (Reads stp I) (sym answer.1) reads, subst (λ (K : Problem). IsAcceptedTextIn K p.text checked.verdict) is answer.0)
+answers_of stp I p (Err (Log f)) reads is answer = (I, p.scale, reads, subst (λ (K : Problem). IsWrongTextIn K p.text f.line f.kind) is answer)
+answers_of stp I p (Err e) reads is answer = absurd answer
 
 -- the same of what was fed to a checker of that file
-pub fed_answers : (stp log : List ℕ) (first fed : Pieces) (result : Result Checked CheckFault) → Reads stp first.instance first.scale → fed.instance ≡ first.instance → fed.scale ≡ first.scale → fed.text ≡ log → IsAnswerTo fed result → IsAnswer stp log result
-fed_answers stp log first fed result reads same unit all answer =
-    let of_file : Reads stp fed.instance fed.scale = subst (λ (K : Network). Reads stp K fed.scale) (sym same) (subst (Reads stp first.instance) (sym unit) reads) in
-    subst (λ (t : List ℕ). IsAnswer stp t result) all (answers_of stp fed result of_file answer)
+pub fed_answers : (stp log : List ℕ) (I : Network) (first fed : Pieces) (result : Result Checked CheckFault) → Reads stp I first.scale → first.problem ≡ plain I → fed.problem ≡ first.problem → fed.scale ≡ first.scale → fed.text ≡ log → IsAnswerTo fed result → IsAnswer stp log result
+fed_answers stp log I first fed result reads is same unit all answer =
+    subst (λ (t : List ℕ). IsAnswer stp t result) all (answers_of stp I fed result (subst (Reads stp I) (sym unit) reads) (same ∙ is) answer)
 
 -- ---- the verdict and its unit
 
@@ -107,27 +107,27 @@ never_both_ways found fault result is e = absurd cc
 pub that_fault : (fault other : CheckFault) (result : Result Verdict CheckFault) → result ≡ Err fault → result ≡ Err other → answered (Err fault) ≡ answered (Err other)
 that_fault fault other result is e = let it : fault ≡ other = cc in ap (λ f. answered (Err f)) it
 
-pub verdict_answers : (p : Pieces) (result : Result Verdict CheckFault) (verdict : Verdict) (unit : Scale) → result ≡ Ok verdict → unit ≡ p.scale → IsVerdictOn p.instance p.text result → IsAnswerTo p (Ok (record { verdict = verdict; scale = unit }))
-verdict_answers p result verdict unit is same answer = (subst (λ r. IsVerdictOn p.instance p.text r) is answer, same)
+pub verdict_answers : (p : Pieces) (result : Result Verdict CheckFault) (verdict : Verdict) (unit : Scale) → result ≡ Ok verdict → unit ≡ p.scale → IsVerdictOn p.problem p.text result → IsAnswerTo p (Ok (record { verdict = verdict; scale = unit }))
+verdict_answers p result verdict unit is same answer = (subst (λ r. IsVerdictOn p.problem p.text r) is answer, same)
 
-pub fault_answers : (p : Pieces) (result : Result Verdict CheckFault) (fault : CheckFault) → result ≡ Err fault → IsVerdictOn p.instance p.text result → IsAnswerTo p (Err fault)
-fault_answers p result fault is answer = same_fault p fault (subst (λ r. IsVerdictOn p.instance p.text r) is answer)
+pub fault_answers : (p : Pieces) (result : Result Verdict CheckFault) (fault : CheckFault) → result ≡ Err fault → IsVerdictOn p.problem p.text result → IsAnswerTo p (Err fault)
+fault_answers p result fault is answer = same_fault p fault (subst (λ r. IsVerdictOn p.problem p.text r) is answer)
   where
-    same_fault : (p : Pieces) (fault : CheckFault) → IsVerdictOn p.instance p.text (Err fault) → IsAnswerTo p (Err fault)
+    same_fault : (p : Pieces) (fault : CheckFault) → IsVerdictOn p.problem p.text (Err fault) → IsAnswerTo p (Err fault)
     same_fault p (Log f) wrong = wrong
     same_fault p (Stp f) wrong = wrong
     same_fault p NoMemory wrong = wrong
 
 -- ---- the file, and what was made of it
 
-abbrev pub pieces : Network → Scale → List ℕ → Pieces
-pieces I scale text = record { instance = I; scale = scale; text = text }
+abbrev pub pieces : Problem → Scale → List ℕ → Pieces
+pieces K scale text = record { problem = K; scale = scale; text = text }
 
-pub made_of : (I J : Network) (scale unit : Scale) (text : List ℕ) → J ≡ I → unit ≡ scale → text ≡ [] → pieces J unit text ≡ pieces I scale []
-made_of I J scale unit text same of_it none = λ i. pieces (same i) (of_it i) (none i)
+pub made_of : (I J : Network) (first : Pieces) (scale unit : Scale) → J ≡ I → unit ≡ scale → first ≡ pieces (plain J) unit [] → first ≡ pieces (plain I) scale []
+made_of I J first scale unit same of_it is = is ∙ (λ i. pieces (plain (same i)) (of_it i) [])
 
--- what is concluded of the instance of a checker is concluded of the file's
-pub concludes_fed : (I : Network) (scale : Scale) (first fed : Pieces) (result : Result Checked CheckFault) → first ≡ pieces I scale [] → fed.instance ≡ first.instance
-    → IfOk result (λ checked. Concludes fed.instance checked.verdict) → IfOk result (λ checked. Concludes I checked.verdict)
+-- what is concluded of the problem of a checker is concluded of the file's instance
+pub concludes_fed : (I : Network) (scale : Scale) (first fed : Pieces) (result : Result Checked CheckFault) → first ≡ pieces (plain I) scale [] → fed.problem ≡ first.problem
+    → IfOk result (λ checked. ConcludesIn fed.problem checked.verdict) → IfOk result (λ checked. Concludes I checked.verdict)
 concludes_fed I scale first fed result is same concludes =
-    subst (λ (K : Network). IfOk result (λ checked. Concludes K checked.verdict)) (same ∙ ap (λ (p : Pieces). p.instance) is) concludes
+    subst (λ (K : Problem). IfOk result (λ checked. ConcludesIn K checked.verdict)) (same ∙ ap (λ (p : Pieces). p.problem) is) concludes

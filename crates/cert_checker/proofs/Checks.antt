@@ -3,12 +3,13 @@ use Rattle.std.proofs.Common.{ℕ, List, inl, inr, Result, Ok, Err, refl, subst}
 use Rattle.std.specs.Prelude.{◌≡◌, IfOk}
 use Rattle.amounts.specs.declared.scale.Scale.{Scale}
 use Rattle.st_model.specs.Network.{Network}
+use Rattle.arborescence.specs.Problem.{Problem, plain}
 use Rattle.stp_reader.specs.declared.reason.Reason.{Reason}
 use Rattle.stp_reader.specs.Reads.{Reads, Refused}
 use Rattle.stp_reader.specs.Laws as file
 use Rattle.log_format.specs.declared.kind.Kind.{Kind}
 use Rattle.log_format.specs.declared.log.Log as log_type
-use Rattle.log_format.specs.Laws.{OneSpelling, RefusedExactly, RejectedExactly}
+use Rattle.log_format.specs.Laws.{OneSpelling, RefusedExactly, RejectedExactlyIn}
 use Rattle.cert_checker.specs.declared.fault.CheckFault.{CheckFault}
 use Rattle.cert_checker.specs.declared.fault.CheckFault.TheVariants.{Stp, Log, NoMemory}
 use Rattle.cert_checker.specs.declared.verdict.Verdict.{Verdict}
@@ -42,24 +43,24 @@ module _ (stp bytes : List ℕ) (of_file : file.RefusedExactly stp) where
   file_answers (Err (Log f)) (J, unit, reads, text) line reason refused = absurd (of_file.not_both J unit line reason reads refused)
   file_answers (Err NoMemory) answer line reason refused = inr refl
 
-  module _ (spelling : OneSpelling) (of_text : RefusedExactly bytes) (of_log : (I : Network) (log : log_type.Log) → RejectedExactly I log) where
+  module _ (spelling : OneSpelling) (of_text : RefusedExactly bytes) (of_log : (p : Problem) (log : log_type.Log) → RejectedExactlyIn p log) where
     -- an accepted log is answered with its verdict
     pub accepted_answers : (result : Result Checked CheckFault) → IsAnswer stp bytes result → (I : Network) (scale : Scale) (verdict : Verdict) → Reads stp I scale → IsAcceptedText I bytes verdict → Answers result (Ok (record { verdict = verdict; scale = scale }))
     accepted_answers (Ok other) (J, reads, text) I scale verdict here accepted =
         let one = of_file.one_instance J I other.scale scale reads here in
-        let same = one_verdict bytes spelling of_text of_log I other.verdict verdict (subst (λ (K : Network). IsAcceptedText K bytes other.verdict) one.0 text) accepted in
+        let same = one_verdict bytes spelling of_text of_log (plain I) other.verdict verdict (subst (λ (K : Network). IsAcceptedText K bytes other.verdict) one.0 text) accepted in
         inl (λ i. Ok (record { verdict = same i; scale = one.1 i }))
     accepted_answers (Err (Stp f)) answer I scale verdict here accepted = absurd (of_file.not_both I scale f.line f.reason here answer)
     accepted_answers (Err (Log f)) (J, unit, reads, wrong) I scale verdict here accepted =
-        absurd (not_wrong bytes spelling of_text of_log I verdict f.line f.kind accepted (subst (λ (K : Network). IsWrongText K bytes f.line f.kind) (of_file.one_instance J I unit scale reads here).0 wrong))
+        absurd (not_wrong bytes spelling of_text of_log (plain I) verdict f.line f.kind accepted (subst (λ (K : Network). IsWrongText K bytes f.line f.kind) (of_file.one_instance J I unit scale reads here).0 wrong))
     accepted_answers (Err NoMemory) answer I scale verdict here accepted = inr refl
 
     -- a log that is wrong is answered with its fault
     pub wrong_answers : (result : Result Checked CheckFault) → IsAnswer stp bytes result → (I : Network) (scale : Scale) (line : ℕ) (kind : Kind) → Reads stp I scale → IsWrongText I bytes line kind → Answers result (Err (Log (record { line = line; kind = kind })))
     wrong_answers (Ok other) (J, reads, text) I scale line kind here wrong =
-        absurd (not_wrong bytes spelling of_text of_log I other.verdict line kind (subst (λ (K : Network). IsAcceptedText K bytes other.verdict) (of_file.one_instance J I other.scale scale reads here).0 text) wrong)
+        absurd (not_wrong bytes spelling of_text of_log (plain I) other.verdict line kind (subst (λ (K : Network). IsAcceptedText K bytes other.verdict) (of_file.one_instance J I other.scale scale reads here).0 text) wrong)
     wrong_answers (Err (Stp f)) answer I scale line kind here wrong = absurd (of_file.not_both I scale f.line f.reason here answer)
     wrong_answers (Err (Log f)) (J, unit, reads, found) I scale line kind here wrong =
-        let same = one_wrong bytes spelling of_text of_log I f.line line f.kind kind (subst (λ (K : Network). IsWrongText K bytes f.line f.kind) (of_file.one_instance J I unit scale reads here).0 found) wrong in
+        let same = one_wrong bytes spelling of_text of_log (plain I) f.line line f.kind kind (subst (λ (K : Network). IsWrongText K bytes f.line f.kind) (of_file.one_instance J I unit scale reads here).0 found) wrong in
         inl (λ i. Err (Log (record { line = same.0 i; kind = same.1 i })))
     wrong_answers (Err NoMemory) answer I scale line kind here wrong = inr refl

@@ -1,7 +1,7 @@
 -- What is judged stays so where an item says nothing at its place, and a fault stays whatever comes.
 use Rattle.std.proofs.Common.{◌≡◌, ℕ, zero, suc, ◌+◌, ◌-◌, ◌<◌, List, [], ◌∷◌, ◌++◌, Option, inl, inr, sym, ap, ◌∙◌, append_assoc, arith}
 use Rattle.std.proofs.lemmas.List.{append-nil}
-use Rattle.st_model.specs.Network.{Network}
+use Rattle.arborescence.specs.Problem.{Problem}
 use Rattle.cut_packing.specs.declared.cut.Cut.{Cut}
 use Rattle.lift_back.specs.declared.step.Step.{Step}
 use Rattle.log_format.specs.declared.item.Item.{Item}
@@ -51,27 +51,25 @@ may_before (AtEnd c) Last claim may = may
 may_before s item claim may = may
 
 -- a fault stays
-pub wrong_later : (I : Network) (s : Said) (item : Item) (stage : Stage) → IsWrong I s stage → IsWrong I (taken s item) stage
-wrong_later I s item stage (f, is, rejects) = (f, is, λ claim may. rejects claim (may_before s item claim may))
+pub wrong_later : (K : Problem) (s : Said) (item : Item) (stage : Stage) → IsWrong K s stage → IsWrong K (taken s item) stage
+wrong_later K s item stage (f, is, rejects) = (f, is, λ claim may. rejects claim (may_before s item claim may))
 
 -- ---- what was right so far
 
-pub proving_later : (I : Network) (count : ℕ) (p : said_proving.Proving) (h : Proving) → IsProving I count p h → IsProving I (count + 1) p h
-proving_later I count p h so_far = record {
+pub proving_later : (K : Problem) (count : ℕ) (p : said_proving.Proving) (h : Proving) → IsProving K count p h → IsProving K (count + 1) p h
+proving_later K count p h so_far = record {
   primal = so_far.primal;
   dual = so_far.dual;
   tree = so_far.tree;
-  state = so_far.state;
-  applied = so_far.applied;
-  instance = so_far.instance;
-  least = so_far.least;
+  branch = so_far.branch;
+  due = so_far.due;
   goes_on = so_far.goes_on;
   wait = so_far.wait;
   few = omega (arith, so_far.few);
 }
 
-stepping_later : (I : Network) (count : ℕ) (a : Answer) (h : Stepping) → IsStepping I count a h → IsStepping I (count + 1) a h
-stepping_later I count a h so_far = record {
+stepping_later : (K : Problem) (count : ℕ) (a : Answer) (h : Stepping) → IsStepping K count a h → IsStepping K (count + 1) a h
+stepping_later K count a h so_far = record {
   primal = so_far.primal;
   dual = so_far.dual;
   tree = so_far.tree;
@@ -81,14 +79,14 @@ stepping_later I count a h so_far = record {
 }
 
 -- one line later
-pub right_later : (I : Network) (count : ℕ) (s : Said) (stage : Stage) → IsRight I count s stage → IsRight I (count + 1) s stage
-right_later I count AtClaim stage (is, few) = (is, omega (arith, few))
-right_later I count (AtTree primal dual) stage (is, few) = (is, omega (arith, few))
-right_later I count (AtArcs primal dual start arcs left) stage (is, few) = (is, omega (arith, few))
-right_later I count (AtSteps a left) stage (h, is, so_far) = (h, is, stepping_later I count a h so_far)
-right_later I count (AtHalf p) stage (h, is, so_far) = (h, is, proving_later I count p h so_far)
-right_later I count (AtCuts p root cuts left) stage (h, is, so_far, few) = (h, is, proving_later I count p h so_far, omega (arith, few))
-right_later I count s stage right = right
+pub right_later : (K : Problem) (count : ℕ) (s : Said) (stage : Stage) → IsRight K count s stage → IsRight K (count + 1) s stage
+right_later K count AtClaim stage (is, few) = (is, omega (arith, few))
+right_later K count (AtTree primal dual) stage (is, few) = (is, omega (arith, few))
+right_later K count (AtArcs primal dual start arcs left) stage (is, few) = (is, omega (arith, few))
+right_later K count (AtSteps a left) stage (h, is, so_far) = (h, is, stepping_later K count a h so_far)
+right_later K count (AtHalf p) stage (h, is, so_far) = (h, is, proving_later K count p h so_far)
+right_later K count (AtCuts p root cuts left) stage (h, is, so_far, few) = (h, is, proving_later K count p h so_far, omega (arith, few))
+right_later K count s stage right = right
 
 -- ---- which stage it is
 
@@ -116,23 +114,23 @@ said_tag AtWall = 7
 said_tag (AtEnd claim) = 8
 said_tag (AtNothing claim) = 8
 
-same_tag : (I : Network) (count : ℕ) (s : Said) (stage : Stage) → IsRight I count s stage → tag stage ≡ said_tag s
-same_tag I count AtHeader stage is = ap tag is
-same_tag I count AtClaim stage (is, few) = ap tag is
-same_tag I count (AtTree primal dual) stage (is, few) = ap tag is
-same_tag I count (AtArcs primal dual start arcs left) stage (is, few) = ap tag is
-same_tag I count (AtSteps a left) stage (h, is, so_far) = ap tag is
-same_tag I count (AtHalf p) stage (h, is, so_far) = ap tag is
-same_tag I count (AtCuts p root cuts left) stage (h, is, so_far, few) = ap tag is
-same_tag I count AtWall stage is = ap tag is
-same_tag I count (AtEnd claim) stage (is, accepts) = ap tag is
-same_tag I count (AtNothing claim) stage (is, accepts) = ap tag is
+same_tag : (K : Problem) (count : ℕ) (s : Said) (stage : Stage) → IsRight K count s stage → tag stage ≡ said_tag s
+same_tag K count AtHeader stage is = ap tag is
+same_tag K count AtClaim stage (is, few) = ap tag is
+same_tag K count (AtTree primal dual) stage (is, few) = ap tag is
+same_tag K count (AtArcs primal dual start arcs left) stage (is, few) = ap tag is
+same_tag K count (AtSteps a left) stage (h, is, so_far) = ap tag is
+same_tag K count (AtHalf p) stage (h, is, so_far) = ap tag is
+same_tag K count (AtCuts p root cuts left) stage (h, is, so_far, few) = ap tag is
+same_tag K count AtWall stage is = ap tag is
+same_tag K count (AtEnd claim) stage (is, accepts) = ap tag is
+same_tag K count (AtNothing claim) stage (is, accepts) = ap tag is
 
 -- without a fault it is right so far
-right_of : (I : Network) (count : ℕ) (s : Said) (stage : Stage) → tag stage < 9 → IsJudged I count s stage → IsRight I count s stage
-right_of I count s stage below (inl right) = right
-right_of I count s stage below (inr (f, is, rejects)) = absurd (omega (arith, below, ap tag is))
+right_of : (K : Problem) (count : ℕ) (s : Said) (stage : Stage) → tag stage < 9 → IsJudged K count s stage → IsRight K count s stage
+right_of K count s stage below (inl right) = right
+right_of K count s stage below (inr (f, is, rejects)) = absurd (omega (arith, below, ap tag is))
 
 -- and the stage tells how far
-pub right_at : (I : Network) (count : ℕ) (s : Said) (stage : Stage) → tag stage < 9 → IsJudged I count s stage → IsRight I count s stage × (said_tag s ≡ tag stage)
-right_at I count s stage below judged = let right = right_of I count s stage below judged in (right, sym (same_tag I count s stage right))
+pub right_at : (K : Problem) (count : ℕ) (s : Said) (stage : Stage) → tag stage < 9 → IsJudged K count s stage → IsRight K count s stage × (said_tag s ≡ tag stage)
+right_at K count s stage below judged = let right = right_of K count s stage below judged in (right, sym (same_tag K count s stage right))

@@ -17,3 +17,4 @@ pub mod Halves
 pub mod Pieces
 pub mod Hears
 pub mod Answering
+pub mod DiWalls

@@ -7,13 +7,13 @@ use Rattle.st_model.specs.declared.branch.Branch.{Branch}
 use Rattle.st_model.specs.declared.split_at.SplitAt.{SplitAt}
 use Rattle.st_model.specs.declared.split_at.SplitAt.TheVariants.{Vertex, Link}
 use Rattle.st_model.specs.Lists.{has}
-use Rattle.st_model.specs.Network.{Network}
+use Rattle.st_model.specs.Ground.{Ground}
 use Rattle.st_model.specs.Branch.{joined, yes_half, no_half}
 use Rattle.st_model.proofs.Halves.{has-joined}
-use Rattle.cut_packing.specs.ProofTree.{IsSplitAt}
+use Rattle.cut_packing.specs.ProofTree.{IsSplitAtIn}
 use Rattle.cert_checker.specs.declared.turn.Turn.{Turn}
 use Rattle.cert_checker.specs.declared.turn.Turn.TheVariants.{Inside, Outside, Used, Barred}
-use Rattle.cert_checker.specs.Path.{turned, turned_back, TellsEnds, TellEnds, without_new, branch_of, waiting, open_branches, next_path, yes_path, AreSplits}
+use Rattle.cert_checker.specs.Path.{turned, turned_back, TellsEnds, TellEnds, without_new, branch_of, waiting, open_branches, next_path, yes_path, AreSplitsIn}
 use Rattle.cert_checker.proofs.Places.{without-with_vertex, without_new-joined, without_last-push}
 
 -- a turn is taken back
@@ -34,14 +34,14 @@ taken_back turn turns rest B C told last led back =
     back ∙ ap (λ (D : Branch). turned_back D turn) (led ∙ ap branch_of path) ∙ turned_back-turned (branch_of (reverse rest)) turn tells.0
 
 -- turns at splits say rightly which ends come inside
-pub tell_ends : (I : Network) (path : List Turn) → AreSplits I path → TellEnds path
-tell_ends I [] splits = tt
-tell_ends I (turn ∷ path) splits = (splits.0.1, tell_ends I path splits.1)
+pub tell_ends : (G : Ground) (path : List Turn) → AreSplitsIn G path → TellEnds path
+tell_ends G [] splits = tt
+tell_ends G (turn ∷ path) splits = (splits.0.1, tell_ends G path splits.1)
 
 -- a path goes on into the half that says yes
-pub splits-yes_path : (I : Network) (path : List Turn) (at : SplitAt) → IsSplitAt I (branch_of path) at → AreSplits I path → AreSplits I (yes_path path at)
-splits-yes_path I path (Vertex v) is splits = ((is, tt), splits)
-splits-yes_path I path (Link a b) is splits =
+pub splits-yes_path : (G : Ground) (path : List Turn) (at : SplitAt) → IsSplitAtIn G (branch_of path) at → AreSplitsIn G path → AreSplitsIn G (yes_path path at)
+splits-yes_path G path (Vertex v) is splits = ((is, tt), splits)
+splits-yes_path G path (Link a b) is splits =
     let apart : (a == b) ≡ false = let low = is.ordered in grind (arith, nat_tests) in
     let same : has (joined (branch_of path).inside a) b ≡ has (branch_of path).inside b = has-joined (branch_of path).inside a b ∙ ap (λ (t : Bool). t || has (branch_of path).inside b) apart in
     ((is, (refl, ap not (sym same))), splits)

@@ -202,7 +202,7 @@ stopped_more lines text bytes read few =
 
 -- a line that was taken
 pub line_taken : (before after : Lines) (part text line bytes rest now : List ℕ) → AreTaken before.lines part text → cut 10 line ≡ None → bytes ≡ part ++ line
-    → (after ≡ record { instance = before.instance; lines = before.lines ++ bytes ∷ [] }) × Begins after.lines
+    → (after ≡ record { problem = before.problem; lines = before.lines ++ bytes ∷ [] }) × Begins after.lines
     → length text + length line + 1 < 2 ^ 63 → rest ≡ [] → now ≡ text ++ (line ++ 10 ∷ []) → AreTaken after.lines rest now
 line_taken before after part text line bytes rest now read none whole heard few nothing all =
     let lines : after.lines ≡ before.lines ++ (part ++ line) ∷ [] = ap (λ (l : Lines). l.lines) heard.0 ∙ ap (λ (r : List ℕ). before.lines ++ r ∷ []) whole in

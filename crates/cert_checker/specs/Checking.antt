@@ -2,10 +2,11 @@
 use Rattle.std.specs.Prelude.{◌≡◌, ℕ, ◌⊎◌, List, Result, Ok, Err}
 use Rattle.amounts.specs.declared.scale.Scale.{Scale}
 use Rattle.st_model.specs.Network.{Network}
+use Rattle.arborescence.specs.Problem.{Problem, plain}
 use Rattle.stp_reader.specs.Reads.{Reads, Refused}
 use Rattle.log_format.specs.declared.kind.Kind.{Kind}
 use Rattle.log_format.specs.declared.log.Log as log_type
-use Rattle.log_format.specs.Accepts.{Accepts, Rejects}
+use Rattle.log_format.specs.Accepts.{AcceptsIn, RejectsIn}
 use Rattle.log_format.specs.Refused.{LogRefused}
 use Rattle.log_format.specs.Text.{IsLog, log_text}
 use Rattle.cert_checker.specs.declared.fault.CheckFault.{CheckFault}
@@ -20,12 +21,19 @@ pub record IsTextOf (bytes : List ℕ) (log : log_type.Log) : Type 0 where
   pub text : bytes ≡ log_text log
 
 -- the bytes are the text of a log that is accepted, and this is its verdict
-abbrev pub IsAcceptedText : Network → List ℕ → Verdict → Type 0
-IsAcceptedText I bytes verdict = (log : log_type.Log) × IsTextOf bytes log × Accepts I log × (verdict ≡ verdict_of log.claim)
+abbrev pub IsAcceptedTextIn : Problem → List ℕ → Verdict → Type 0
+IsAcceptedTextIn p bytes verdict = (log : log_type.Log) × IsTextOf bytes log × AcceptsIn p log × (verdict ≡ verdict_of log.claim)
 
 -- the bytes are the text of no log for this fault, or of one that is rejected for it
+abbrev pub IsWrongTextIn : Problem → List ℕ → ℕ → Kind → Type 0
+IsWrongTextIn p bytes line kind = LogRefused bytes line kind ⊎ ((log : log_type.Log) × IsTextOf bytes log × RejectsIn p log line kind)
+
+-- the same of an instance
+abbrev pub IsAcceptedText : Network → List ℕ → Verdict → Type 0
+IsAcceptedText I bytes verdict = IsAcceptedTextIn (plain I) bytes verdict
+
 abbrev pub IsWrongText : Network → List ℕ → ℕ → Kind → Type 0
-IsWrongText I bytes line kind = LogRefused bytes line kind ⊎ ((log : log_type.Log) × IsTextOf bytes log × Rejects I log line kind)
+IsWrongText I bytes line kind = IsWrongTextIn (plain I) bytes line kind
 
 -- why this is answered: the file is read at this scale and the log is the text of one that is accepted; or the first fault of file, text and judgement
 abbrev pub IsAnswer : List ℕ → List ℕ → Result Checked CheckFault → Type 0

@@ -7,5 +7,5 @@ use Rattle.cert_checker.specs.Lines.{Lines}
 
 -- it was taken; or no log begins with the lines and this one
 abbrev pub IsHeard : Lines → List ℕ → Heard → Type 0
-IsHeard before line (Taken after) = (after ≡ record { instance = before.instance; lines = before.lines ++ line ∷ [] }) × Begins after.lines
+IsHeard before line (Taken after) = (after ≡ record { problem = before.problem; lines = before.lines ++ line ∷ [] }) × Begins after.lines
 IsHeard before line (Bad after) = (after ≡ before) × (¬ (Begins (before.lines ++ line ∷ [])))

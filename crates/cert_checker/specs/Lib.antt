@@ -1,5 +1,6 @@
 pub mod Path
 pub mod Verdict
+pub mod Posed
 pub mod Judging
 pub mod Fault
 pub mod Checking

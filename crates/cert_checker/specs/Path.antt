@@ -6,9 +6,10 @@ use Rattle.st_model.specs.declared.branch.Branch.{Branch}
 use Rattle.st_model.specs.declared.split_at.SplitAt.{SplitAt}
 use Rattle.st_model.specs.declared.split_at.SplitAt.TheVariants.{Vertex, Link}
 use Rattle.st_model.specs.Lists.{has}
+use Rattle.st_model.specs.Ground.{Ground, ground}
 use Rattle.st_model.specs.Network.{Network}
 use Rattle.st_model.specs.Branch.{joined, with_inside, with_outside, with_must, with_barred, all_trees}
-use Rattle.cut_packing.specs.ProofTree.{IsSplitAt}
+use Rattle.cut_packing.specs.ProofTree.{IsSplitAtIn}
 use Rattle.log_format.specs.declared.proof_line.ProofLine.{ProofLine}
 use Rattle.log_format.specs.declared.proof_line.ProofLine.TheVariants.{Split, Close}
 use Rattle.cert_checker.specs.declared.turn.Turn.{Turn}
@@ -68,9 +69,13 @@ next_path (Used a b a_came b_came ∷ path) = Some (Barred a b ∷ path)
 next_path (Barred a b ∷ path) = next_path path
 
 -- each turn is where its branch can be split, and says rightly which ends come inside by it
+abbrev pub AreSplitsIn : Ground → List Turn → Type 0
+AreSplitsIn G [] = Unit {0}
+AreSplitsIn G (turn ∷ path) = (IsSplitAtIn G (branch_of path) (at_of turn) × TellsEnds (branch_of path) turn) × AreSplitsIn G path
+
+-- the same in a network
 abbrev pub AreSplits : Network → List Turn → Type 0
-AreSplits I [] = Unit {0}
-AreSplits I (turn ∷ path) = (IsSplitAt I (branch_of path) (at_of turn) × TellsEnds (branch_of path) turn) × AreSplits I path
+AreSplits I path = AreSplitsIn (ground I) path
 
 -- both sets are written in order
 pub record IsInOrder (B : Branch) : Type 0 where

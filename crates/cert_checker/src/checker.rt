@@ -6,18 +6,24 @@ ghost use Rattle.stp_reader.specs.Reads.{Reads, Refused};
 ghost use Rattle.log_format.specs.declared.kind.Kind.{Kind as LogKind};
 ghost use Rattle.cert_checker.specs.declared.fault.CheckFault.TheVariants.{Stp, Log, NoMemory};
 ghost use Rattle.cert_checker.specs.declared.verdict.Verdict.{Verdict as Conclusion};
-ghost use Rattle.cert_checker.specs.Checking.{IsAcceptedText, IsWrongText};
+ghost use Rattle.arborescence.specs.Problem.{plain};
+ghost use Rattle.cert_checker.specs.Checking.{IsAcceptedTextIn, IsWrongTextIn};
 ghost use Rattle.cert_checker.specs.Fault.{IsFaultOfFile};
 ghost use Rattle.cert_checker.specs.Held.{IsHeld};
 ghost use Rattle.cert_checker.specs.Pieces.{IsAnswerTo, IsVerdictOn};
 ghost use Rattle.amounts.specs.declared.scale.Scale.{Scale as FileScale};
-ghost use Rattle.cert_checker.specs.Verdict.{Concludes};
+ghost use Rattle.cert_checker.specs.Posed.{problem_of};
+ghost use Rattle.cert_checker.specs.Verdict.{ConcludesIn};
 
 use crate::fed::Fed;
 use crate::hearing::{Heard, Hearing};
+use crate::posed::Posed;
 use crate::{CheckFault, Checked, Verdict};
 use amounts::Scale;
-use log_format::{Kind, LogFault, accepted_holds, one_spelling, refused_exactly, rejected_exactly};
+use log_format::{
+    Kind, LogFault, accepted_of_a_problem_holds, one_spelling, refused_exactly,
+    rejected_of_a_problem_exactly,
+};
 use plain_text::cut_at;
 use std::alloc::{AllocError, Global};
 use std::marker::Model;
@@ -39,10 +45,10 @@ impl Model for Checker {
     ghost use Rattle.cert_checker.specs.Pieces.{Pieces};
     ghost use Rattle.cert_checker.specs.Hearing.{IsFed};
 
-    // The instance and its scale, and the pieces that came, one after the other.
+    // The problem and what its numbers count, and the pieces that came, one after the other.
     ghost Value = { Pieces };
 
-    ghost view = { λ c. record { instance = c.hearing.instance; scale = c.scale; text = c.fed } };
+    ghost view = { λ c. record { problem = c.hearing.problem; scale = c.scale; text = c.fed } };
 
     ghost invariant = { λ c. IsFed c.hearing.lines c.is_bad c.part.items c.fed };
 }
@@ -51,10 +57,11 @@ impl Checker {
     /// A checker of logs on the instance of an STP file, to which nothing was fed.
     pub fn begin(alloc: Global, stp: &[u8]) -> Result<Checker, CheckFault>
         // It is of the instance that the file stands for, and its scale.
-        ensures found { IfOk result (λ c. Reads stp.now c.instance c.scale × (c.text ≡ [])) }
+        ensures found { IfOk result (λ c. (I : Network) × Reads stp.now I c.scale
+            × (c.problem ≡ plain I) × (c.text ≡ [])) }
         // The instance that the file stands for is that of the checker, unless memory runs out.
         ensures only { (I : Network) (scale : FileScale) → Reads stp.now I scale → MatchResult result
-            (λ c. c ≡ record { instance = I; scale = scale; text = [] }) (λ e. e ≡ NoMemory) }
+            (λ c. c ≡ record { problem = plain I; scale = scale; text = [] }) (λ e. e ≡ NoMemory) }
         // A fault is the first of the file.
         ensures fault { IfErr result (IsFaultOfFile stp.now) }
         // A file that is refused is answered so, unless memory runs out.
@@ -63,22 +70,29 @@ impl Checker {
     {
         let reading = read_stp(alloc, stp)?;
         let scale = reading.scale;
-        Ok(Checker {
-            hearing: Hearing::new(alloc, reading.instance),
+        Ok(Checker::on(alloc, Posed::Plain(reading.instance), scale))
+    }
+
+    /// A checker of logs on this problem, whose numbers count so much, and to which nothing was fed.
+    pub fn on(alloc: Global, posed: Posed, scale: Scale) -> Checker
+        ensures { result ≡ record { problem = problem_of posed; scale = scale; text = [] } }
+    {
+        Checker {
+            hearing: Hearing::new(alloc, posed),
             scale,
             is_bad: false,
             part: Vec::new(alloc),
             fed: Fed::new(),
-        })
+        }
     }
 
     /// The checker to which the next piece of the log was fed. A piece may end anywhere. What is kept
-    /// is the instance and what the steps so far left of it, the splits that are open, one packing,
+    /// is the problem and what the steps so far left of it, the splits that are open, one packing,
     /// the arcs of the tree until they are judged, and the line that isn't whole yet. Without memory
     /// the checker comes to its end.
     pub fn feed(self, piece: &[u8]) -> Result<Checker, AllocError>
         requires few { length self.text + length piece.now < 2 ^ 63 }
-        ensures instance { IfOk result (λ c. c.instance ≡ self.instance) }
+        ensures problem { IfOk result (λ c. c.problem ≡ self.problem) }
         ensures scale { IfOk result (λ c. c.scale ≡ self.scale) }
         ensures text { IfOk result (λ c. c.text ≡ self.text ++ piece.now) }
     {
@@ -95,7 +109,7 @@ impl Checker {
     fn end_line(self, line: &[u8]) -> Result<Checker, AllocError>
         requires few { length self.text + length line.now + 1 < 2 ^ 63 }
         requires one { cut 10 line.now ≡ None }
-        ensures instance { IfOk result (λ c. c.instance ≡ self.instance) }
+        ensures problem { IfOk result (λ c. c.problem ≡ self.problem) }
         ensures scale { IfOk result (λ c. c.scale ≡ self.scale) }
         ensures text { IfOk result (λ c. c.text ≡ self.text ++ (line.now ++ 10 ∷ [])) }
     {
@@ -138,7 +152,7 @@ impl Checker {
     fn go_on(self, bytes: &[u8]) -> Result<Checker, AllocError>
         requires few { length self.text + length bytes.now < 2 ^ 63 }
         requires none { cut 10 bytes.now ≡ None }
-        ensures instance { IfOk result (λ c. c.instance ≡ self.instance) }
+        ensures problem { IfOk result (λ c. c.problem ≡ self.problem) }
         ensures scale { IfOk result (λ c. c.scale ≡ self.scale) }
         ensures text { IfOk result (λ c. c.text ≡ self.text ++ bytes.now) }
     {
@@ -164,18 +178,18 @@ impl Checker {
         })
     }
 
-    /// What may be concluded of the instance from the log whose text is all that was fed: what `check`
+    /// What may be concluded of the problem from the log whose text is all that was fed: what `check`
     /// answers to it, however it was cut into pieces. The faults of the text come first, wherever they
     /// stand, and then those of what it says. It takes no memory.
     pub fn finish(self) -> Result<Checked, CheckFault>
-        // The verdict is true of the trees of the instance, and of their costs.
-        ensures concludes { IfOk result (λ checked. Concludes self.instance checked.verdict) }
+        // The verdict is true of the trees of the problem, and of their costs.
+        ensures concludes { IfOk result (λ checked. ConcludesIn self.problem checked.verdict) }
         // Each answer has its reason.
         ensures exact { IsAnswerTo self result }
         // Each reason has its answer.
-        ensures accepted { (verdict : Conclusion) → IsAcceptedText self.instance self.text verdict
+        ensures accepted { (verdict : Conclusion) → IsAcceptedTextIn self.problem self.text verdict
             → result ≡ Ok (record { verdict = verdict; scale = self.scale }) }
-        ensures log { (line : ℕ) (kind : LogKind) → IsWrongText self.instance self.text line kind
+        ensures log { (line : ℕ) (kind : LogKind) → IsWrongTextIn self.problem self.text line kind
             → result ≡ Err (Log (record { line = line; kind = kind })) }
     {
         self.checked()
@@ -183,11 +197,11 @@ impl Checker {
 
     // The verdict and its unit, or the first fault, and that each reason has its answer.
     fn checked(&self) -> Result<Checked, CheckFault>
-        ensures concludes { IfOk result (λ checked. Concludes self.now.instance checked.verdict) }
+        ensures concludes { IfOk result (λ checked. ConcludesIn self.now.problem checked.verdict) }
         ensures exact { IsAnswerTo self.now result }
-        ensures accepted { (verdict : Conclusion) → IsAcceptedText self.now.instance self.now.text verdict
+        ensures accepted { (verdict : Conclusion) → IsAcceptedTextIn self.now.problem self.now.text verdict
             → result ≡ Ok (record { verdict = verdict; scale = self.now.scale }) }
-        ensures log { (line : ℕ) (kind : LogKind) → IsWrongText self.now.instance self.now.text line kind
+        ensures log { (line : ℕ) (kind : LogKind) → IsWrongTextIn self.now.problem self.now.text line kind
             → result ≡ Err (Log (record { line = line; kind = kind })) }
     {
         let scale = self.unit();
@@ -197,7 +211,7 @@ impl Checker {
         }
     }
 
-    // What the numbers of the instance count.
+    // What the numbers of the problem count.
     fn unit(&self) -> Scale
         ensures { result ≡ self.now.scale }
     {
@@ -206,25 +220,25 @@ impl Checker {
 
     // The verdict, or the first fault, and that each reason has its answer.
     fn reasoned_answer(&self) -> Result<Verdict, CheckFault>
-        ensures concludes { IfOk result (Concludes self.now.instance) }
-        ensures exact { IsVerdictOn self.now.instance self.now.text result }
-        ensures accepted { (verdict : Conclusion) → IsAcceptedText self.now.instance self.now.text verdict
+        ensures concludes { IfOk result (ConcludesIn self.now.problem) }
+        ensures exact { IsVerdictOn self.now.problem self.now.text result }
+        ensures accepted { (verdict : Conclusion) → IsAcceptedTextIn self.now.problem self.now.text verdict
             → result ≡ Ok verdict }
-        ensures log { (line : ℕ) (kind : LogKind) → IsWrongText self.now.instance self.now.text line kind
+        ensures log { (line : ℕ) (kind : LogKind) → IsWrongTextIn self.now.problem self.now.text line kind
             → result ≡ Err (Log (record { line = line; kind = kind })) }
     {
         one_spelling();
         refused_exactly();
-        rejected_exactly();
+        rejected_of_a_problem_exactly();
         self.answer()
     }
 
     // The verdict, or the first fault.
     fn answer(&self) -> Result<Verdict, CheckFault>
-        ensures exact { IsVerdictOn self.now.instance self.now.text result }
-        ensures concludes { IfOk result (Concludes self.now.instance) }
+        ensures exact { IsVerdictOn self.now.problem self.now.text result }
+        ensures concludes { IfOk result (ConcludesIn self.now.problem) }
     {
-        accepted_holds();
+        accepted_of_a_problem_holds();
         if self.is_bad {
             return Err(fault_at(self.hearing.next_line(), Kind::BadLine));
         }

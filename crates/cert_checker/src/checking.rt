@@ -39,7 +39,7 @@ pub fn check(alloc: Global, stp: &[u8], log: &[u8]) -> Result<Checked, CheckFaul
         → Answers result (Err (Log (record { line = line; kind = kind }))) }
 {
     log_format::one_spelling();
-    log_format::rejected_exactly();
+    log_format::rejected_of_a_problem_exactly();
     log_format::refused_exactly();
     stp_reader::refused_exactly();
     answer(alloc, stp, log)

@@ -1,17 +1,18 @@
 ghost use Rattle.std.specs.Prelude.{◌≡◌, ◌+◌, ◌^◌, ◌<◌, [], ◌∷◌, ◌++◌, ◌↔◌, length, IsTrue, IfOk};
-ghost use Rattle.st_model.specs.Network.{IsInstance};
+ghost use Rattle.arborescence.specs.Problem.{IsProblem};
 ghost use Rattle.log_format.specs.Text.{AreWhole, Begins};
 ghost use Rattle.cert_checker.specs.Heard.{IsHeard};
 ghost use Rattle.cert_checker.specs.Hearing.{AreJudged};
 ghost use Rattle.cert_checker.specs.Following.{Follows, IsReady};
+ghost use Rattle.cert_checker.specs.Posed.{problem_of};
 ghost use Rattle.cert_checker.specs.Held.{AreHeld, opened};
 
 use crate::following::after_item;
+use crate::posed::Posed;
 use crate::splits::Splits;
 use crate::stage::Stage;
 use crate::{CheckFault, Verdict};
 use log_format::{Item, LineError, LogReader, line_items};
-use st_model::Instance;
 use std::alloc::{AllocError, Global};
 use std::marker::Model;
 
@@ -19,7 +20,7 @@ use std::marker::Model;
 #[derive(Drop)]
 pub struct Hearing {
     alloc: Global,
-    instance: Instance,
+    posed: Posed,
     reader: LogReader,
     stage: Stage,
     splits: Splits,
@@ -30,28 +31,29 @@ pub struct Hearing {
 impl Model for Hearing {
     ghost use Rattle.cert_checker.specs.Lines.{Lines};
     ghost use Rattle.cert_checker.specs.Hearing.{IsHearing};
+    ghost use Rattle.cert_checker.specs.Posed.{problem_of};
 
     ghost Value = { Lines };
 
-    ghost view = { λ h. record { instance = h.instance; lines = h.reader } };
+    ghost view = { λ h. record { problem = problem_of h.posed; lines = h.reader } };
 
-    ghost invariant = { λ h. IsHearing h.instance h.reader h.stage h.splits h.lines };
+    ghost invariant = { λ h. IsHearing (problem_of h.posed) h.reader h.stage h.splits h.lines };
 }
 
 // The splits that aren't finished after one more item, and what is judged then.
 fn next_of(
     alloc: Global,
-    instance: &Instance,
+    posed: &Posed,
     splits: Splits,
     stage: Stage,
     item: Item,
 ) -> Result<(Splits, Stage), AllocError>
-    requires { IsReady stage }
+    requires { IsReady (problem_of posed.now) stage }
     ensures opened { IfOk result (λ next. next.0 ≡ opened splits item) }
-    ensures follows { IfOk result (λ next. Follows instance.now item stage next.1) }
+    ensures follows { IfOk result (λ next. Follows (problem_of posed.now) item stage next.1) }
 {
     let splits = splits.after(&item)?;
-    let stage = after_item(alloc, instance, stage, item)?;
+    let stage = after_item(alloc, posed, stage, item)?;
     Ok((splits, stage))
 }
 
@@ -65,14 +67,14 @@ pub enum Heard {
 }
 
 impl Hearing {
-    // No line, on this instance.
-    pub fn new(alloc: Global, instance: Instance) -> Self
-        ensures none { result ≡ record { instance = instance; lines = [] } }
+    // No line, on this problem.
+    pub fn new(alloc: Global, posed: Posed) -> Self
+        ensures none { result ≡ record { problem = problem_of posed; lines = [] } }
         ensures begins { Begins result.lines }
     {
         Hearing {
             alloc,
-            instance,
+            posed,
             reader: LogReader::begin(alloc),
             stage: Stage::BeforeHeader,
             splits: Splits::new(alloc),
@@ -87,7 +89,7 @@ impl Hearing {
     {
         let Hearing {
             alloc,
-            instance,
+            posed,
             reader,
             stage,
             splits,
@@ -96,10 +98,10 @@ impl Hearing {
         let mut reader = reader;
         match reader.line(line) {
             Ok(item) => {
-                let (splits, stage) = next_of(alloc, &instance, splits, stage, item)?;
+                let (splits, stage) = next_of(alloc, &posed, splits, stage, item)?;
                 Ok(Heard::Taken(Hearing {
                     alloc,
-                    instance,
+                    posed,
                     reader,
                     stage,
                     splits,
@@ -108,7 +110,7 @@ impl Hearing {
             }
             Err(LineError::BadLine) => Ok(Heard::Bad(Hearing {
                 alloc,
-                instance,
+                posed,
                 reader,
                 stage,
                 splits,
@@ -143,11 +145,11 @@ impl Hearing {
     // What is judged of a log that came to its end.
     pub fn judgement(&self) -> Result<Verdict, CheckFault>
         requires { AreWhole self.now.lines }
-        ensures judged { AreJudged self.now.instance self.now.lines result }
-        ensures instance { IsInstance self.now.instance }
+        ensures judged { AreJudged self.now.problem self.now.lines result }
+        ensures problem { IsProblem self.now.problem }
     {
         line_items();
-        prove!(1 <= self.instance.vertices());
+        prove!(1 <= self.posed.vertices());
         match &self.stage {
             Stage::Right(verdict) => Ok(*verdict),
             Stage::Wrong(fault) => Err(CheckFault::Log(*fault)),

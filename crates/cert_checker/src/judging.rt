@@ -1,11 +1,14 @@
 ghost use Rattle.std.specs.Prelude.{◌≡◌, OnOk, IfErr};
-ghost use Rattle.log_format.specs.Accepts.{AcceptsClaim, RejectsClaim, steps_line};
+ghost use Rattle.log_format.specs.Accepts.{AcceptsClaimIn, RejectsClaimIn, steps_line};
 ghost use Rattle.cert_checker.specs.Judging.{IfFault, IsRightTree, IsWrongTree};
+ghost use Rattle.cert_checker.specs.Posed.{ground_on, problem_of};
 
 use crate::JudgeError;
-use crate::wall::is_wall;
+use crate::judges::{cost_of, is_tree_of};
+use crate::posed::Posed;
+use crate::wall::is_wall_of;
 use log_format::{Claim, Kind};
-use st_model::{Instance, Listed, Tree, is_tree, tree_cost};
+use st_model::{Listed, Tree};
 use std::alloc::Global;
 
 // The line of the first step.
@@ -18,19 +21,19 @@ pub(crate) fn steps_line(tree: &Tree) -> u64
 // Judges a tree and the two numbers that are claimed of it.
 pub(crate) fn judge_tree(
     alloc: Global,
-    instance: &Instance,
+    posed: &Posed,
     primal: u64,
     dual: u64,
     tree: &Tree,
 ) -> Result<(), JudgeError>
-    ensures right { OnOk result (IsRightTree instance.now primal dual tree.now) }
+    ensures right { OnOk result (IsRightTree (ground_on posed.now) primal dual tree.now) }
     ensures wrong { IfErr result (λ e. IfFault e
-        (IsWrongTree instance.now primal dual tree.now)) }
+        (IsWrongTree (ground_on posed.now) primal dual tree.now)) }
 {
-    if !is_tree(alloc, instance, tree)? {
+    if !is_tree_of(alloc, posed, tree)? {
         return Err(JudgeError::at(3, Kind::NotTree));
     }
-    if tree_cost(instance, tree) != primal {
+    if cost_of(posed, tree) != primal {
         return Err(JudgeError::at(2, Kind::WrongCost));
     }
     if primal < dual {
@@ -40,16 +43,12 @@ pub(crate) fn judge_tree(
 }
 
 // Judges a wall.
-pub(crate) fn judge_wall(
-    alloc: Global,
-    instance: &Instance,
-    wall: &Listed<u32>,
-) -> Result<(), JudgeError>
-    ensures right { OnOk result (AcceptsClaim instance.now (Claim.NoTree wall.now)) }
+pub(crate) fn judge_wall(alloc: Global, posed: &Posed, wall: &Listed<u32>) -> Result<(), JudgeError>
+    ensures right { OnOk result (AcceptsClaimIn (problem_of posed.now) (Claim.NoTree wall.now)) }
     ensures wrong { IfErr result (λ e. IfFault e
-        (RejectsClaim instance.now (Claim.NoTree wall.now))) }
+        (RejectsClaimIn (problem_of posed.now) (Claim.NoTree wall.now))) }
 {
-    if !is_wall(alloc, instance, wall.as_slice())? {
+    if !is_wall_of(alloc, posed, wall.as_slice())? {
         return Err(JudgeError::at(3, Kind::BadWall));
     }
     Ok(())

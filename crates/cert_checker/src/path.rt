@@ -32,7 +32,7 @@ impl Model for Path {
 
 impl Path {
     // The path to the branch of all trees.
-    fn new(alloc: Global) -> Self
+    pub(crate) fn new(alloc: Global) -> Self
         ensures { result ≡ [] }
     {
         Path {

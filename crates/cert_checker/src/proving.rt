@@ -1,14 +1,17 @@
-ghost use Rattle.std.specs.Prelude.{ℕ, IfOk};
-ghost use Rattle.st_model.specs.Network.{Network};
+ghost use Rattle.std.specs.Prelude.{IfOk};
 ghost use Rattle.log_format.specs.declared.item.Item.TheVariants.{Split as OneSplit, CloseHead, OneCut};
-ghost use Rattle.cert_checker.specs.Path.{AreSplits};
-ghost use Rattle.cert_checker.specs.Following.{Follows, IsAfterCuts, IsAfterLine, IsBegun, IsReady};
+ghost use Rattle.cert_checker.specs.declared.posed.Rest.TheVariants.{Left};
+ghost use Rattle.cert_checker.specs.Path.{AreSplitsIn};
+ghost use Rattle.cert_checker.specs.Posed.{ground_left, problem_of};
+ghost use Rattle.cert_checker.specs.Following.{Follows, IsAfterCuts, IsAfterLine, IsBegun, IsFirst, IsReady};
 
 use crate::line::{judge_line, line_count};
 use crate::path::Path;
+use crate::posed::{Posed, Rest};
 use crate::stage::{Proving, Stage, Stepping};
 use crate::{JudgeError, Verdict};
 use cut_packing::{Cut, Packing};
+use lift_back::Reduced;
 use log_format::ProofLine;
 use st_model::{Listed, SplitAt};
 use std::alloc::{AllocError, Global};
@@ -17,39 +20,65 @@ use std::alloc::{AllocError, Global};
 pub fn begun(alloc: Global, stepping: &Stepping) -> Result<Proving, AllocError>
     ensures { IfOk result (IsBegun stepping.now) }
 {
-    let reduced = &stepping.reduced;
-    let least = stepping.dual.saturating_sub(reduced.offset());
-    let instance = reduced.instance(alloc)?;
-    let gone = reduced.gone(alloc)?;
-    let path = Path::leaving_out(alloc, &gone)?;
+    let (left, least, path) = first_of(alloc, &stepping.rest, stepping.dual)?;
     Ok(Proving {
         primal: stepping.primal,
         dual: stepping.dual,
-        instance,
+        left,
         least,
         path,
         number: stepping.number.saturating_add(1),
     })
 }
 
+// What is left, what is to be proved of it, and the path to the branch that it is to be proved of.
+fn first_of(alloc: Global, rest: &Rest, dual: u64) -> Result<(Option<Posed>, u64, Path), AllocError>
+    ensures { IfOk result (λ first. IsFirst rest.now dual first.0 first.1 first.2) }
+{
+    match rest {
+        Rest::Left(reduced) => first_left(alloc, reduced, dual),
+        Rest::Whole => Ok((None, dual, Path::new(alloc))),
+    }
+}
+
+// The same of an instance.
+fn first_left(
+    alloc: Global,
+    reduced: &Reduced,
+    dual: u64,
+) -> Result<(Option<Posed>, u64, Path), AllocError>
+    ensures { IfOk result (λ first. IsFirst (Left reduced.now) dual first.0 first.1 first.2) }
+{
+    let least = dual.saturating_sub(reduced.offset());
+    let instance = reduced.instance(alloc)?;
+    let gone = reduced.gone(alloc)?;
+    let path = Path::leaving_out(alloc, &gone)?;
+    Ok((Some(Posed::Plain(instance)), least, path))
+}
+
 // After a line of the proof, which is judged.
-fn after_line(alloc: Global, proving: Proving, line: &ProofLine) -> Result<Stage, AllocError>
-    requires { AreSplits proving.instance proving.path }
-    ensures { IfOk result (IsAfterLine proving line.now) }
+fn after_line(
+    alloc: Global,
+    posed: &Posed,
+    proving: Proving,
+    line: &ProofLine,
+) -> Result<Stage, AllocError>
+    requires { AreSplitsIn (ground_left (problem_of posed.now) proving.left) proving.path }
+    ensures { IfOk result (IsAfterLine (problem_of posed.now) proving line.now) }
 {
     let Proving {
         primal,
         dual,
-        instance,
+        left,
         least,
         path,
         number,
     } = proving;
-    match judge_line(alloc, &instance, least, number, path, line) {
+    match judge_line(alloc, posed.left_or(&left), least, number, path, line) {
         Ok(Some(path)) => Ok(Stage::BeforeHalf(Proving {
             primal,
             dual,
-            instance,
+            left,
             least,
             path,
             number: number.saturating_add(line_count(line)),
@@ -61,14 +90,19 @@ fn after_line(alloc: Global, proving: Proving, line: &ProofLine) -> Result<Stage
 }
 
 // After a split, which is judged.
-pub fn after_split(alloc: Global, stage: Stage, at: SplitAt) -> Result<Stage, AllocError>
-    requires { IsReady stage }
-    ensures { IfOk result (λ next. (I : Network) → Follows I (OneSplit at) stage next) }
+pub fn after_split(
+    alloc: Global,
+    posed: &Posed,
+    stage: Stage,
+    at: SplitAt,
+) -> Result<Stage, AllocError>
+    requires { IsReady (problem_of posed.now) stage }
+    ensures { IfOk result (Follows (problem_of posed.now) (OneSplit at) stage) }
 {
     match stage {
         Stage::BeforeHalf(proving) => {
             let line = ProofLine::Split(at);
-            let next = after_line(alloc, proving, &line)?;
+            let next = after_line(alloc, posed, proving, &line)?;
             Ok(next)
         }
         other => Ok(other),
@@ -78,13 +112,14 @@ pub fn after_split(alloc: Global, stage: Stage, at: SplitAt) -> Result<Stage, Al
 // After some cuts of a close, which is judged with the last of them.
 fn after_cuts(
     alloc: Global,
+    posed: &Posed,
     proving: Proving,
     root: Option<u32>,
     cuts: Listed<Cut>,
     left: u64,
 ) -> Result<Stage, AllocError>
-    requires { AreSplits proving.instance proving.path }
-    ensures { IfOk result (IsAfterCuts proving root cuts left) }
+    requires { AreSplitsIn (ground_left (problem_of posed.now) proving.left) proving.path }
+    ensures { IfOk result (IsAfterCuts (problem_of posed.now) proving root cuts left) }
 {
     if left > 0 {
         return Ok(Stage::AmongCuts {
@@ -95,24 +130,25 @@ fn after_cuts(
         });
     }
     let line = ProofLine::Close(Packing { root, cuts });
-    let next = after_line(alloc, proving, &line)?;
+    let next = after_line(alloc, posed, proving, &line)?;
     Ok(next)
 }
 
 // After the head of a close.
 pub fn after_head(
     alloc: Global,
+    posed: &Posed,
     stage: Stage,
     root: Option<u32>,
     count: u64,
 ) -> Result<Stage, AllocError>
-    requires { IsReady stage }
-    ensures { IfOk result (λ next. (I : Network) → Follows I (CloseHead root count) stage next) }
+    requires { IsReady (problem_of posed.now) stage }
+    ensures { IfOk result (Follows (problem_of posed.now) (CloseHead root count) stage) }
 {
     match stage {
         Stage::BeforeHalf(proving) => {
             let none = Listed::of(Vec::new(alloc));
-            let next = after_cuts(alloc, proving, root, none, count)?;
+            let next = after_cuts(alloc, posed, proving, root, none, count)?;
             Ok(next)
         }
         other => Ok(other),
@@ -120,9 +156,9 @@ pub fn after_head(
 }
 
 // After a cut.
-pub fn after_cut(alloc: Global, stage: Stage, cut: Cut) -> Result<Stage, AllocError>
-    requires { IsReady stage }
-    ensures { IfOk result (λ next. (I : Network) → Follows I (OneCut cut) stage next) }
+pub fn after_cut(alloc: Global, posed: &Posed, stage: Stage, cut: Cut) -> Result<Stage, AllocError>
+    requires { IsReady (problem_of posed.now) stage }
+    ensures { IfOk result (Follows (problem_of posed.now) (OneCut cut) stage) }
 {
     match stage {
         Stage::AmongCuts {
@@ -134,7 +170,7 @@ pub fn after_cut(alloc: Global, stage: Stage, cut: Cut) -> Result<Stage, AllocEr
             let mut cuts = cuts.into_vec();
             cuts.push(cut)?;
             let cuts = Listed::of(cuts);
-            let next = after_cuts(alloc, proving, root, cuts, left.saturating_sub(1))?;
+            let next = after_cuts(alloc, posed, proving, root, cuts, left.saturating_sub(1))?;
             Ok(next)
         }
         other => Ok(other),

@@ -1,16 +1,16 @@
 use crate::Verdict;
 use crate::path::Path;
+use crate::posed::{Posed, Rest};
 use cut_packing::Cut;
-use lift_back::Reduced;
 use log_format::LogFault;
-use st_model::{Instance, Listed};
+use st_model::Listed;
 
-/// What some steps leave of the instance, where the tree is right and each step was taken.
+/// What some steps leave of the problem, where the tree is right and each step was taken.
 #[derive(Drop)]
 pub struct Stepping {
     pub primal: u64,
     pub dual: u64,
-    pub reduced: Reduced,
+    pub rest: Rest,
     // The number of the next line.
     pub number: u64,
 }
@@ -20,8 +20,8 @@ pub struct Stepping {
 pub struct Proving {
     pub primal: u64,
     pub dual: u64,
-    // What the steps leave.
-    pub instance: Instance,
+    // What the steps leave, where it isn't the whole problem.
+    pub left: Option<Posed>,
     // What is to be proved of it.
     pub least: u64,
     // The way to the branch that the next line is of.

@@ -6,6 +6,7 @@ use std::test::Fail;
 use stp_reader::{Reason, StpFault};
 
 mod decimals;
+mod directed;
 mod drawn;
 mod hostile;
 mod links;

@@ -1,23 +1,20 @@
 -- What is accepted holds: a bound that is proved of what steps leave bounds every tree, and no tree gets past a wall.
-use Rattle.std.proofs.Common.{◌≡◌, ℕ, Bool, true, false, cond, List, [], ◌∷◌, Option, None, refl, sym, ap, subst, ◌∙◌, eq-eqb, arith}
-use Rattle.std.specs.Prelude.{◌==◌, ◌||◌, IsTrue, IsSome}
-use Rattle.std.proofs.lemmas.Bool.{both_ways, eqb-true, false≢true, or_left, or_right}
+use Rattle.std.proofs.Common.{◌≡◌, ℕ, List, [], ◌∷◌, refl, sym, ap, subst, ◌∙◌, arith}
+use Rattle.std.proofs.lemmas.Bool.{both_ways}
 use Rattle.st_model.specs.declared.tree.Tree.{Tree}
 use Rattle.st_model.specs.Lists.{has}
 use Rattle.st_model.specs.Network.{Network, IsInstance}
 use Rattle.st_model.specs.Ground.{ground}
-use Rattle.st_model.specs.Arborescence.{GrowsIn, IsTree, IsTreeIn, IsBoundIn, reached_from}
+use Rattle.st_model.specs.Arborescence.{IsTree, IsTreeIn, IsBoundIn}
 use Rattle.st_model.specs.Branch.{all_trees}
-use Rattle.st_model.proofs.Branches.{IsVertexSet-member}
 use Rattle.st_model.proofs.Distinct.{link-comm}
 use Rattle.st_model.proofs.Members.{has-one}
 use Rattle.st_model.proofs.Reaching.{one_side}
-use Rattle.cut_packing.specs.Laws.{IsRooted}
 use Rattle.cut_packing.proofs.Duality.{proof_tree_bounds_lem}
-use Rattle.cut_packing.proofs.Rooted.{rooted_proof_tree_bounds_lem, starts_there}
-use Rattle.arborescence.specs.DiNetwork.{DiNetwork, IsDiNetwork, arc_from, away_price, di_ground}
-use Rattle.arborescence.specs.DiWall.{IsDiWall}
+use Rattle.cut_packing.proofs.Rooted.{rooted_proof_tree_bounds_lem}
+use Rattle.arborescence.specs.DiNetwork.{di_ground}
 use Rattle.arborescence.specs.Problem.{Problem, plain, directed, ground_of, IsProblem, IsWallOf}
+use Rattle.arborescence.proofs.DiTrees.{is_rooted, wall_bars}
 use Rattle.log_format.specs.declared.log.Claim.{Claim}
 use Rattle.log_format.specs.declared.log.Claim.TheVariants.{Found, NoTree}
 use Rattle.log_format.specs.declared.proof_line.ProofLine.{ProofLine}
@@ -40,46 +37,6 @@ bounds I dual steps proof instance (s, applies, (p, lines, proves)) t is_tree =
     let bound = proof_tree_bounds_lem (ground s.instance) (left_over s) (left_of dual s) p left (link-comm s.instance.links) tt proves is_left.tree (belongs_left_over s left is_left) in
     omega arith
 
--- ---- directed networks
-
--- no arc leads to the root, which every tree has to reach
-rooted : (D : DiNetwork) → IsDiNetwork D → IsRooted (di_ground D) D.root
-rooted D network = record {
-  root = refl;
-  vertex = network.root;
-  required = or_left (D.root == D.root) (has D.terminals D.root) (eq-eqb D.root D.root refl);
-  unentered = λ u. ap (λ (b : Bool). cond b None (arc_from D.arcs u D.root)) (eq-eqb D.root D.root refl);
-}
-
--- an arc that has a price is one of the network
-is_arc : (D : DiNetwork) (u v : ℕ) → IsSome (away_price D u v) → IsSome (arc_from D.arcs u v)
-is_arc D u v some = at (v == D.root) some
-  where
-    at : (b : Bool) → IsSome (cond b None (arc_from D.arcs u v)) → IsSome (arc_from D.arcs u v)
-    at true none = absurd (false≢true none)
-    at false is = is
-
--- arcs that grow from within a set that none leaves stay within it
-stays_within : (D : DiNetwork) (wall r : List ℕ) (arcs : List (ℕ × ℕ)) → ((u v : ℕ) → IsSome (arc_from D.arcs u v) → IsTrue (has wall u) → IsTrue (has wall v)) → GrowsIn (di_ground D) r arcs → ((v : ℕ) → IsTrue (has r v) → IsTrue (has wall v)) → (v : ℕ) → IsTrue (has (reached_from r arcs) v) → IsTrue (has wall v)
-stays_within D wall r [] unleft grows within v there = within v there
-stays_within D wall r ((a, b) ∷ arcs) unleft grows within v there =
-    stays_within D wall (b ∷ r) arcs unleft grows.3 (λ w joins. by_head w (b == w) refl joins) v there
-  where
-    by_head : (w : ℕ) (same : Bool) → (b == w) ≡ same → IsTrue (has (b ∷ r) w) → IsTrue (has wall w)
-    by_head w true is joins = subst (λ (x : ℕ). IsTrue (has wall x)) (eqb-true b w is) (unleft a b (is_arc D a b grows.0) (within a grows.1))
-    by_head w false is joins = within w (sym (ap (λ (c : Bool). c || has r w) is) ∙ joins)
-
--- no tree gets past a wall of a directed network
-no_way_out : (D : DiNetwork) (wall : List ℕ) → IsDiNetwork D → IsDiWall D wall → (t : Tree) → IsTreeIn (di_ground D) t → ⊥
-no_way_out D wall network is_wall t is_tree =
-    let start = starts_there (di_ground D) D.root t (rooted D network) is_tree in
-    let (v, terminal, out) = is_wall.outside in
-    let vertex = IsVertexSet-member D.n D.terminals v network.terminals terminal in
-    let there = is_tree.required v vertex (or_right (v == D.root) (has D.terminals v) terminal) in
-    both_ways (has wall v) out (stays_within D wall (t.start ∷ []) t.arcs is_wall.unleft is_tree.arborescence.grows (λ w first. subst (λ (x : ℕ). IsTrue (has wall x)) (sym start ∙ has-one t.start w first) is_wall.root) v there)
-
--- ---- walls
-
 -- no tree gets past a wall
 no_tree : (I : Network) (wall : List ℕ) → IsWall I wall → (t : Tree) → IsTree I t → ⊥
 no_tree I wall is_wall t is_tree =
@@ -95,11 +52,11 @@ no_tree I wall is_wall t is_tree =
 proof_bounds : (p : Problem) (dual : ℕ) (steps : List Step) (proof : List ProofLine) → IsProblem p → ProvesAfterIn p steps dual proof → IsBoundIn (ground_of p) dual
 proof_bounds (plain I) dual steps proof instance proved = bounds I dual steps proof instance proved
 proof_bounds (directed D) dual steps proof network (none, (p, lines, proves)) =
-    λ t is_tree. rooted_proof_tree_bounds_lem (di_ground D) D.root all_trees dual p t (rooted D network) refl proves is_tree (belongs_to_all t)
+    λ t is_tree. rooted_proof_tree_bounds_lem (di_ground D) D.root all_trees dual p t (is_rooted D network) refl proves is_tree (belongs_to_all t)
 
 wall_stops : (p : Problem) (wall : List ℕ) → IsProblem p → IsWallOf p wall → (t : Tree) → IsTreeIn (ground_of p) t → ⊥
 wall_stops (plain I) wall instance is_wall = no_tree I wall is_wall
-wall_stops (directed D) wall network is_wall = no_way_out D wall network is_wall
+wall_stops (directed D) wall network is_wall = λ t is_tree. wall_bars D wall t network is_wall is_tree
 
 -- what is claimed holds
 claim_holds : (p : Problem) (claim : Claim) → IsProblem p → AcceptsClaimIn p claim → HoldsIn p claim

@@ -7,6 +7,7 @@ use Rattle.std.proofs.lemmas.List.Elements.{All-head, All-tail}
 use Rattle.st_model.specs.declared.branch.Branch.{Branch}
 use Rattle.st_model.specs.declared.split_at.SplitAt.{SplitAt}
 use Rattle.st_model.specs.declared.split_at.SplitAt.TheVariants.{Vertex, Link}
+use Rattle.st_model.specs.Ground.{ground}
 use Rattle.st_model.specs.Network.{Network, IsInstance}
 use Rattle.st_model.specs.Branch.{IsBranch, yes_half, no_half}
 use Rattle.cut_packing.specs.ProofTree.{ProofTree, Proves, close, split, IsSplitAt}
@@ -120,12 +121,12 @@ right_after I (Some path) (line.Close P) lines right = right.2
 -- the path after a line goes by splits, too
 pub splits_after : (I : Network) (o : Option (List Turn)) (l : ProofLine) → ((path : List Turn) (at : SplitAt) → o ≡ Some path → l ≡ line.Split at → IsSplitAt I (branch_of path) at) → IfSome o (AreSplits I) → IfSome (option_and_then (λ p. path_after p l) o) (AreSplits I)
 splits_after I None l right splits = tt
-splits_after I (Some path) (line.Split at) right splits = splits-yes_path I path at (right path at refl refl) splits
+splits_after I (Some path) (line.Split at) right splits = splits-yes_path (ground I) path at (right path at refl refl) splits
 splits_after I (Some path) (line.Close P) right splits = by_case (next_path path) refl
   where
     by_case : (next : Option (List Turn)) → next_path path ≡ next → IfSome next (AreSplits I)
     by_case None e = tt
-    by_case (Some next) e = splits-next_path I path next e splits
+    by_case (Some next) e = splits-next_path (ground I) path next e splits
 
 -- the closes along a line and those after it
 pub closes-cons : (I : Network) (o : Option (List Turn)) (number : ℕ) (l : ProofLine) (lines : List ProofLine) → AreRightFrom I o (l ∷ lines)
@@ -175,4 +176,4 @@ opened_after I o path l next is_open right same is =
 
 -- its turns say rightly which ends come inside
 pub opened_tells : (I : Network) (o : Option (List Turn)) (path : List Turn) → IsOpened (record { instance = I; path = o }) → o ≡ Some path → TellEnds path
-opened_tells I o path is_open same = tell_ends I path (subst (λ (t : Option (List Turn)). IfSome t (AreSplits I)) same is_open.splits)
+opened_tells I o path is_open same = tell_ends (ground I) path (subst (λ (t : Option (List Turn)). IfSome t (AreSplits I)) same is_open.splits)

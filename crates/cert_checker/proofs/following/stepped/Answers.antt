@@ -3,7 +3,6 @@ use Rattle.cert_checker.proofs.following.stepped.Goals as goal
 
 pub returns-in-Ok : goal.returns-in-Ok
 returns-in-Ok c = record {
-  state = c.take.ensures.state;
   takes = c.in-Ok.ensures.taken;
   primal = refl;
   dual = refl;

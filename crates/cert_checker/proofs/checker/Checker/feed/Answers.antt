@@ -10,7 +10,7 @@ end_line-requires-clause-one c = (cut_takes c.loop-line.rest.now c.in-Some.line.
 
 pub loop-line-preserved : goal.loop-line-preserved
 loop-line-preserved c = (
-  c.in_ok-checker.ensures.instance ∙ c.loop-line.invariant.0,
+  c.in_ok-checker.ensures.problem ∙ c.loop-line.invariant.0,
   c.in_ok-checker.ensures.scale ∙ c.loop-line.invariant.1,
   line_goes c.loop-line.checker.text c.in_ok-checker.checker.text c.loop-line.rest.now c.in-Some.line.now c.in-Some.after.now c.args.self.text c.args.piece.now c.loop-line.invariant.2 (cut_takes c.loop-line.rest.now c.in-Some.line.now c.in-Some.after.now (sym c.in-Some.ensures.cut)).0 c.in_ok-checker.ensures.text,
 )
