@@ -5,3 +5,5 @@ pub mod Stated
 pub mod Steps
 pub mod Open
 pub mod First
+pub mod Gathering
+pub mod Ascending

@@ -7,17 +7,23 @@
 //! cuts have the root alone.
 #![tactic(auto)]
 
+mod ascending;
+mod ascent;
 mod build;
 mod first;
 mod fitting;
 mod fullness;
+mod gathering;
 mod instance;
 mod judge;
 mod loads;
+mod raising;
 mod spreading;
 mod walls;
 mod weighing;
 
+pub use ascending::di_ascend;
+pub use ascent::DiAscent;
 pub use first::di_first_tree;
 pub use fitting::di_fits;
 pub use fullness::di_is_full;
