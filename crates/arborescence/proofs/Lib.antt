@@ -8,3 +8,4 @@ pub mod DiWeights
 pub mod Used
 pub mod Raised
 pub mod Ascended
+pub mod InWords

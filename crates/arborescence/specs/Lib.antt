@@ -7,3 +7,4 @@ pub mod Open
 pub mod First
 pub mod Gathering
 pub mod Ascending
+pub mod Words
