@@ -5,3 +5,7 @@ pub mod OpenArcs
 pub mod Spreads
 pub mod DiTrees
 pub mod DiWeights
+pub mod Used
+pub mod Raised
+pub mod Ascended
+pub mod InWords

@@ -5,3 +5,6 @@ pub mod Stated
 pub mod Steps
 pub mod Open
 pub mod First
+pub mod Gathering
+pub mod Ascending
+pub mod Words
