@@ -88,9 +88,9 @@ pub offset_within : (s : State) (primal : ℕ) → HasTreeWithin s primal → s.
 offset_within s primal (t, is, within) = omega arith
 
 -- the first tree is cheaper than the log's
-pub first_cheaper : (s : State) (primal value : ℕ) (t : Tree) → IsTree s.instance t → ReachesAsTold (left_over s) t → value ≡ cost s.instance t → value < primal - s.offset
-    → (NoneIsCertain s.instance all_trees → cost s.instance t ≤ sum_to (pays s.instance) s.instance.n) → IsFirstIn s primal (record { least = value; tree = Some t })
-first_cheaper s primal value t tree reaches is less cheap =
+pub first_cheaper : (s : State) (primal value : ℕ) (t guide : Tree) → IsTree s.instance t → ReachesAsTold (left_over s) t → value ≡ cost s.instance t → value < primal - s.offset
+    → (NoneIsCertain s.instance all_trees → cost s.instance t ≤ sum_to (pays s.instance) s.instance.n) → IsFirstIn s primal (record { least = value; tree = Some t; guide = guide })
+first_cheaper s primal value t guide tree reaches is less cheap =
     let left : IsTreeOf s t = record { tree = tree; avoids = reaches.outside } in
     record {
       less = (t, left, omega arith);
@@ -99,9 +99,9 @@ first_cheaper s primal value t tree reaches is less cheap =
     }
 
 -- or the log's tree is no dearer
-pub first_kept : (s : State) (primal value : ℕ) (t : Tree) → IsTree s.instance t → ReachesAsTold (left_over s) t → value ≡ cost s.instance t → primal - s.offset ≤ value → s.offset ≤ primal
-    → (NoneIsCertain s.instance all_trees → cost s.instance t ≤ sum_to (pays s.instance) s.instance.n) → IsFirstIn s primal (record { least = primal - s.offset; tree = None })
-first_kept s primal value t tree reaches is no_more within cheap =
+pub first_kept : (s : State) (primal value : ℕ) (t guide : Tree) → IsTree s.instance t → ReachesAsTold (left_over s) t → value ≡ cost s.instance t → primal - s.offset ≤ value → s.offset ≤ primal
+    → (NoneIsCertain s.instance all_trees → cost s.instance t ≤ sum_to (pays s.instance) s.instance.n) → IsFirstIn s primal (record { least = primal - s.offset; tree = None; guide = guide })
+first_kept s primal value t guide tree reaches is no_more within cheap =
     let left : IsTreeOf s t = record { tree = tree; avoids = reaches.outside } in
     record {
       less = (t, left, omega arith);
@@ -109,41 +109,47 @@ first_kept s primal value t tree reaches is no_more within cheap =
       cheap = λ none. let h = cheap none in omega (arith, h, is);
     }
 
--- a first tree that was found in a graph of what is left
-pub record IsFirstTree (s : State) (W : Network) (g : Graph) (B : Branch) (primal : ℕ) (first : Tree) : Type 0 where
+-- a first tree that was found in a graph of what is left, and a guide that is no dearer
+pub record IsFirstTree (s : State) (W : Network) (g : Graph) (B : Branch) (primal : ℕ) (first guide : Tree) : Type 0 where
   pub is_state : IsState s
   pub within : HasTreeWithin s primal
   pub whole_is : W ≡ s.instance
   pub of : IsWholeOf W g
   pub branch_is : B ≡ left_over s
-  pub tree : IsTree g.network first
-  pub reaches : ReachesAsTold B first
   pub low : NoneIsCertain g.network B → IsNoDearerThanOne g B first
   pub law : LoneStartsMissTheRest
+  pub tree : IsTree W guide
+  pub reaches : ReachesAsTold B guide
+  pub no_dearer : cost W guide ≤ cost W first
 
-module _ (s : State) (W : Network) (g : Graph) (B : Branch) (primal : ℕ) (first : Tree) (h : IsFirstTree s W g B primal first) where
+module _ (s : State) (W : Network) (g : Graph) (B : Branch) (primal : ℕ) (first guide : Tree) (h : IsFirstTree s W g B primal first guide) where
   of_left : IsWholeOf s.instance g
   of_left = subst (λ (N : Network). IsWholeOf N g) h.whole_is h.of
 
-  first_tree : IsTree s.instance first
-  first_tree = subst (λ (N : Network). IsTree N first) of_left.network h.tree
+  guide_tree : IsTree s.instance guide
+  guide_tree = subst (λ (N : Network). IsTree N guide) h.whole_is h.tree
 
-  first_reaches : ReachesAsTold (left_over s) first
-  first_reaches = subst (λ (C : Branch). ReachesAsTold C first) h.branch_is h.reaches
+  guide_reaches : ReachesAsTold (left_over s) guide
+  guide_reaches = subst (λ (C : Branch). ReachesAsTold C guide) h.branch_is h.reaches
 
-  first_cheap : NoneIsCertain s.instance all_trees → cost s.instance first ≤ sum_to (pays s.instance) s.instance.n
-  first_cheap = cheap_first_left s g primal first h.is_state of_left h.law h.within (subst (λ (C : Branch). NoneIsCertain g.network C → IsNoDearerThanOne g C first) h.branch_is h.low)
+  guide_cheap : NoneIsCertain s.instance all_trees → cost s.instance guide ≤ sum_to (pays s.instance) s.instance.n
+  guide_cheap none =
+      let first_cheap = cheap_first_left s g primal first h.is_state of_left h.law h.within (subst (λ (C : Branch). NoneIsCertain g.network C → IsNoDearerThanOne g C first) h.branch_is h.low) none in
+      let less : cost s.instance guide ≤ cost s.instance first = subst (λ (N : Network). cost N guide ≤ cost N first) h.whole_is h.no_dearer in
+      omega (arith, first_cheap, less)
 
-  first_cost : (value : ℕ) → value ≡ cost W first → value ≡ cost s.instance first
-  first_cost value is = is ∙ ap (λ (N : Network). cost N first) h.whole_is
+  guide_cost : (value : ℕ) → value ≡ cost W guide → value ≡ cost s.instance guide
+  guide_cost value is = is ∙ ap (λ (N : Network). cost N guide) h.whole_is
 
-  pub found_cheaper : (value offset : ℕ) → value ≡ cost W first → offset ≡ s.offset → value < primal - offset → IsFirstIn s primal (record { least = value; tree = Some first })
-  found_cheaper value offset is paid less = first_cheaper s primal value first first_tree first_reaches (first_cost value is) (omega (arith, paid, less)) first_cheap
+  pub found_cheaper : (value offset : ℕ) (copy : Tree) → value ≡ cost W guide → offset ≡ s.offset → copy ≡ guide → value < primal - offset → IsFirstIn s primal (record { least = value; tree = Some copy; guide = guide })
+  found_cheaper value offset copy is paid same less =
+      let cheaper = first_cheaper s primal value guide guide guide_tree guide_reaches (guide_cost value is) (omega (arith, paid, less)) guide_cheap in
+      subst (λ (t : Tree). IsFirstIn s primal (record { least = value; tree = Some t; guide = guide })) (sym same) cheaper
 
-  pub found_no_cheaper : (value offset : ℕ) → value ≡ cost W first → offset ≡ s.offset → primal - offset ≤ value → IsFirstIn s primal (record { least = primal - offset; tree = None })
+  pub found_no_cheaper : (value offset : ℕ) → value ≡ cost W guide → offset ≡ s.offset → primal - offset ≤ value → IsFirstIn s primal (record { least = primal - offset; tree = None; guide = guide })
   found_no_cheaper value offset is paid no_more =
-      let kept = first_kept s primal value first first_tree first_reaches (first_cost value is) (omega (arith, paid, no_more)) (offset_within s primal h.within) first_cheap in
-      subst (λ (x : ℕ). IsFirstIn s primal (record { least = primal - x; tree = None })) (sym paid) kept
+      let kept = first_kept s primal value guide guide guide_tree guide_reaches (guide_cost value is) (omega (arith, paid, no_more)) (offset_within s primal h.within) guide_cheap in
+      subst (λ (x : ℕ). IsFirstIn s primal (record { least = primal - x; tree = None; guide = guide })) (sym paid) kept
 
 -- ---- what is known in the end
 

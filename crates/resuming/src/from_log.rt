@@ -13,6 +13,8 @@ ghost use Rattle.resuming.specs.Resumed.{ClaimsTree, IsResumed};
 
 use crate::going_on::{Gone, go_on};
 use crate::known::Known;
+use crate::lowering::nearer;
+use better_trees::Incumbent;
 use graph_store::Whole;
 use lift_back::{ApplyError, Reduced, Step, steps_keep_the_best};
 use log_format::{Claim, Log, Proof, accepted_holds};
@@ -63,7 +65,11 @@ pub fn resume<R: Threads + Wait + Sync, G: Gate>(
         unreachable!()
     };
     let reduced = left_of(alloc, instance, steps.as_slice())?;
-    let gone = searched(rt, alloc, &reduced, proof, *primal, limits, gate)?;
+    let best = Incumbent {
+        tree,
+        cost: *primal,
+    };
+    let gone = searched(rt, alloc, &reduced, proof, &best, limits, gate)?;
     let tree = best_tree(alloc, &reduced, &gone.known, tree)?;
     let primal = gone.known.least + reduced.offset();
     let certificate = graft(alloc, log, &reduced, tree, primal, &gone.searches)?;
@@ -121,40 +127,41 @@ fn take(reduced: &mut Reduced, step: &Step) -> Result<(), AllocError>
     }
 }
 
-// The searches that go on from a proof of what is left, where a tree of this cost is known.
+// The searches that go on from a proof of what is left, where this tree of the first instance is known.
 fn searched<R: Threads + Wait + Sync, G: Gate>(
     rt: &R,
     alloc: Global,
     reduced: &Reduced,
     proof: &Proof,
-    primal: u64,
+    best: &Incumbent<'_>,
     limits: Limits,
     gate: &G,
 ) -> Result<Gone, AllocError>
-    requires tree { HasTreeWithin reduced.now.state primal }
+    requires tree { HasTreeWithin reduced.now.state best.now.cost }
     requires proves { (p : ProofTree) × (x : ℕ) × (proof.now ≡ preorder p)
         × Proves reduced.now.state.instance (left_over reduced.now.state) x p }
     requires writable { All (IsWritableLine Two) proof.now }
-    ensures { IfOk result (IsGoneIn reduced.now.state primal limits.budget proof.now) }
+    ensures { IfOk result (IsGoneIn reduced.now.state best.now.cost limits.budget proof.now) }
 {
     let rest = reduced.instance(alloc)?;
     let whole = Whole::of(alloc, rest)?;
-    let known = first_known(alloc, &whole, reduced, primal)?;
+    let known = first_known(alloc, &whole, reduced, best)?;
     let closes = Closes::of(alloc, reduced, &whole.instance, proof)?;
     let gone = go_on(rt, alloc, &whole, closes, known, limits, gate)?;
     Ok(gone)
 }
 
-// What is known at first: the log's tree, or a first tree of what is left where that is cheaper.
+// What is known at first: the log's tree, or a tree of what is left where that is cheaper: the log's one lowered, or a
+// first tree.
 fn first_known(
     alloc: Global,
     whole: &Whole,
     reduced: &Reduced,
-    primal: u64,
+    best: &Incumbent<'_>,
 ) -> Result<Known, AllocError>
     requires whole { whole.now.instance ≡ reduced.now.state.instance }
-    requires tree { HasTreeWithin reduced.now.state primal }
-    ensures { IfOk result (IsFirstIn reduced.now.state primal) }
+    requires tree { HasTreeWithin reduced.now.state best.now.cost }
+    ensures { IfOk result (IsFirstIn reduced.now.state best.now.cost) }
 {
     lone_starts_miss_the_rest();
     prove!(1 <= whole.instance.vertices());
@@ -164,13 +171,20 @@ fn first_known(
     let Some(first) = first_tree(alloc, &whole.store, &sides)? else {
         unreachable!()
     };
-    let cost = tree_cost(&whole.instance, &first);
-    let least = primal - offset;
+    let guide = nearer(alloc, whole, &sides, first, best.tree)?;
+    let cost = tree_cost(&whole.instance, &guide);
+    let least = best.cost - offset;
     if cost < least {
+        let copy = guide.copied(alloc)?;
         return Ok(Known {
             least: cost,
-            tree: Some(first),
+            tree: Some(copy),
+            guide,
         });
     }
-    Ok(Known { least, tree: None })
+    Ok(Known {
+        least,
+        tree: None,
+        guide,
+    })
 }

@@ -24,7 +24,7 @@ pub struct Gone {
 
 /// Goes on from each close that weighs less than the least cost known at its turn, in the order of
 /// the lines, each time with what is left of the budget. No node is split at a link. Where no budget
-/// is left no worker begins, and the close waits as it is.
+/// is left no worker begins, and the branch of the close waits without cuts.
 pub fn go_on<R: Threads + Wait + Sync, G: Gate>(
     rt: &R,
     alloc: Global,
@@ -53,7 +53,8 @@ pub fn go_on<R: Threads + Wait + Sync, G: Gate>(
     let mut budget = limits.budget;
     while let Some((node, rest)) = closes.next_below(alloc, known.least)? {
         let limits = Limits { budget, ..limits };
-        let search = search_from(rt, alloc, whole, node, known.least, limits, gate)?;
+        let incumbent = known.incumbent();
+        let search = search_from(rt, alloc, whole, node, &incumbent, limits, gate)?;
         budget -= search.gathered.claimed;
         known = known.after(alloc, &whole.instance, search.gathered.segments.as_slice())?;
         searches.push(search)?;

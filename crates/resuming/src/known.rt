@@ -3,19 +3,35 @@ ghost use Rattle.st_model.specs.Arborescence.{IsTree};
 ghost use Rattle.search_core.specs.Complete.{least_found, less_found};
 ghost use Rattle.resuming.specs.Finding.{IsKept};
 
+use better_trees::Incumbent;
 use search_core::Segment;
 use st_model::{Instance, Tree, tree_cost};
 use std::alloc::{AllocError, Global};
 
 /// What is known of trees: the least cost of one, and one of that cost, unless it is a tree of
-/// another instance.
+/// another instance. Where it is, workers look at the guide, of which nothing has to hold.
 #[derive(Debug, Drop)]
 pub struct Known {
     pub least: u64,
     pub tree: Option<Tree>,
+    pub guide: Tree,
 }
 
 impl Known {
+    // The tree that workers look at first, and the least cost known.
+    pub(crate) fn incumbent(&self) -> Incumbent<'_>
+        ensures { result.cost ≡ self.now.least }
+    {
+        let tree = match &self.tree {
+            Some(tree) => tree,
+            None => &self.guide,
+        };
+        Incumbent {
+            tree,
+            cost: self.least,
+        }
+    }
+
     // What is known after a search, of which these are the segments.
     pub(crate) fn after(
         self,
@@ -61,6 +77,7 @@ impl Known {
         Ok(Known {
             least: cost,
             tree: Some(tree),
+            guide: self.guide,
         })
     }
 }

@@ -10,8 +10,11 @@
 mod from_log;
 mod going_on;
 mod known;
+mod lowering;
 mod searching;
 
 pub use from_log::{Resumed, resume};
 pub use going_on::{Gone, go_on};
 pub use known::Known;
+pub use lowering::lowered;
+pub use searching::search_from;

@@ -1,7 +1,8 @@
 use crate::processors::Processors;
 use better_trees::{Priced, least_after, tree_of};
 use branching::Node;
-use node_work::Plan;
+use graph_store::Store;
+use node_work::{Plan, is_whole};
 use st_model::Tree;
 use std::alloc::{AllocError, Global};
 use std::sync::Mutex;
@@ -101,9 +102,10 @@ impl<'a> Known<'a> {
         }
     }
 
-    /// Takes all processors for a node without cuts, unless another worker has them: whether it did.
-    pub fn take_processors(&self, node: &Node) -> bool {
-        node.packing.cuts.as_slice().is_empty() && self.hint.processors.take()
+    /// Takes all processors for a node that gets the effort of a whole search, unless another worker has them: whether
+    /// it did.
+    pub fn take_processors(&self, store: &Store, node: &Node) -> bool {
+        is_whole(store, node) && self.hint.processors.take()
     }
 
     /// Gives the processors back, if they were taken.

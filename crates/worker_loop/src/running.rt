@@ -17,19 +17,19 @@ use crate::crew::Crew;
 use crate::hint::Hint;
 use crate::team::{handed_back, run_team, team_of};
 use crate::{Gate, Limits};
+use better_trees::Incumbent;
 use branching::Node;
 use cut_packing::Packing;
 use graph_store::Whole;
-use incumbent::Incumbent;
+use incumbent::Incumbent as LeastCost;
 use node_pool::{begin, close, passes_stay_a_pool};
 use open_ledger::Ledger;
 use search_core::{Gathered, no_cuts, root_of};
-use st_model::{Branch, Listed, MAX_VERTICES, Sides, Tree, tree_cost};
+use st_model::{Branch, Listed, MAX_VERTICES, Tree, tree_cost};
 use std::alloc::{AllocError, Global};
 use std::marker::Brand;
 use std::sync::Wait;
 use std::thread::Threads;
-use tree_heuristic::first_tree;
 
 // The most claims that a ledger counts. No memory holds so many records.
 const MOST_CLAIMS: u64 = (1 << 63) - 1;
@@ -85,38 +85,38 @@ pub fn run_all<R: Threads + Wait + Sync, G: Gate>(
 }
 
 /// The same from a node on: the trees asked for are those of its branch, the search begins with its cuts,
-/// and all that is known of trees is that one costs no more than `start_cost`. Its number is not looked at:
-/// in what is gathered, the node has the number 0.
+/// and all that is known of trees is that one costs no more than the incumbent. Of the incumbent's tree nothing has to
+/// hold: workers look at it to see where trees branch. The node's number is not looked at: in what is gathered, it has
+/// the number 0.
 pub fn run_all_from<R: Threads + Wait + Sync, G: Gate>(
     rt: &R,
     alloc: Global,
     whole: &Whole,
     node: Node,
-    start_cost: u64,
+    incumbent: &Incumbent<'_>,
     limits: Limits,
     gate: &G,
 ) -> Result<Gathered, AllocError>
     requires node { IsWritableNode whole.now.instance node }
     // Where nobody has to be reached, it is no more than leaving everybody out costs.
     requires cheap { NoneIsCertain whole.now.instance node.branch
-        → start_cost ≤ sum_to (pays whole.now.instance) whole.now.instance.n }
+        → incumbent.now.cost ≤ sum_to (pays whole.now.instance) whole.now.instance.n }
     ensures complete { IfOk result
-        (λ G. IsComplete G whole.now.instance node.branch start_cost limits.budget) }
+        (λ G. IsComplete G whole.now.instance node.branch incumbent.now.cost limits.budget) }
     ensures finished { IfOk result
-        (λ G. IsFinished G whole.now.instance node.branch start_cost limits.budget) }
+        (λ G. IsFinished G whole.now.instance node.branch incumbent.now.cost limits.budget) }
     ensures cheaper { IfOk result
-        (λ G. All (λ s. IfSome s.best (λ t. cost whole.now.instance t < start_cost)) G.segments) }
+        (λ G. All (λ s. IfSome s.best (λ t. cost whole.now.instance t < incumbent.now.cost)) G.segments) }
     ensures writable { IfOk result (AllPackings IsWritablePacking) }
     ensures sites { IsFalse limits.links → IfOk result (λ G. All IsAtVertex (records G)) }
 {
     prove!(whole.instance.vertices() <= MAX_VERTICES);
-    let known = known_tree(alloc, whole, &node.branch)?;
     let hint = Hint::none();
     let crew = Crew {
         rt,
         alloc,
         whole,
-        start: &known,
+        start: incumbent.tree,
         hint: &hint,
         gate,
     };
@@ -125,21 +125,10 @@ pub fn run_all_from<R: Threads + Wait + Sync, G: Gate>(
         packing,
         ..
     } = node;
+    let first = incumbent.cost;
     let limits = limits.seated();
-    let gathered = searched::<Brand, R, G>(&crew, &branch, packing, start_cost, limits)?;
+    let gathered = searched::<Brand, R, G>(&crew, &branch, packing, first, limits)?;
     Ok(gathered)
-}
-
-// The tree that workers know of first: one of the vertices that a branch leaves, and else vertex 1 alone.
-fn known_tree(alloc: Global, whole: &Whole, branch: &Branch) -> Result<Tree, AllocError>
-    requires { IsBranch whole.now.instance branch.now }
-{
-    let sides = Sides::of(alloc, branch.copied(alloc)?)?;
-    let found = first_tree(alloc, &whole.store, &sides)?;
-    Ok(found.unwrap_or(Tree {
-        start: 1,
-        arcs: Listed::of(Vec::new(alloc)),
-    }))
 }
 
 // The search for an aim from a packing on, where a tree of this cost is known.
@@ -165,7 +154,7 @@ fn searched<Q: Aim + Send, R: Threads + Wait + Sync, G: Gate>(
     let root = root_of(alloc, branch, packing)?;
     let passes = begin::<SoundFor<Q>>(alloc, workers, root)?;
     let (ledger, accounts) = Ledger::begin(alloc, allowed, workers)?;
-    let (incumbent, sights) = Incumbent::begin(alloc, first, workers)?;
+    let (incumbent, sights) = LeastCost::begin(alloc, first, workers)?;
     let mut team = team_of(alloc, workers, limits.links, passes, accounts, sights)?;
     run_team(crew, team.as_mut_slice(), workers as usize);
     let returned = handed_back(alloc, team)?;

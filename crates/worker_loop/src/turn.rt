@@ -93,7 +93,7 @@ impl<Q: Aim> Worker<Q> {
         work.seen = self.best.see();
         known.catch_up(crew.alloc, work.seen)?;
         let plan = known.plan.take();
-        let has_all = known.take_processors(&node);
+        let has_all = known.take_processors(&crew.whole.store, &node);
         let manner = Manner {
             threads: if has_all { self.workers as usize } else { 1 },
             links: self.links,

@@ -4,10 +4,11 @@ ghost use Rattle.st_model.specs.Network.{IsVertex};
 ghost use Rattle.node_work.specs.Node.{IsWritableNode};
 
 use super::starting::{Outcome, avoiding, first_required, outcome_of};
+use better_trees::Incumbent;
 use branching::Node;
 use graph_store::Whole;
 use search_core::no_cuts;
-use st_model::{Instance, Need};
+use st_model::{Instance, Listed, Need, Tree};
 use std::alloc::{AllocError, Global};
 use std::sync::Wait;
 use std::thread::Threads;
@@ -53,6 +54,14 @@ pub fn go_on_without<R: Threads + Wait + Sync>(
         budget,
         links: false,
     };
-    let found = run_all_from(rt, alloc, whole, node, start_cost, limits, &OpenGate)?;
+    let tree = Tree {
+        start: certain,
+        arcs: Listed::of(Vec::new(alloc)),
+    };
+    let incumbent = Incumbent {
+        tree: &tree,
+        cost: start_cost,
+    };
+    let found = run_all_from(rt, alloc, whole, node, &incumbent, limits, &OpenGate)?;
     Ok(Some(outcome_of(&found)))
 }

@@ -15,4 +15,4 @@ returns g c =
     let gone = c.in_ok-gone.gone in
     let gone_on = subst (λ (N : Network). GoOn N closes known.least c.args.limits.budget gone.searches.items gone.known.least) whole_is c.in_ok-gone.ensures.searches in
     let tree = subst (λ (N : Network). IfSome gone.known.tree (IsKnown N known.tree closes gone.known.least)) whole_is c.in_ok-gone.ensures.tree in
-    gone_in s c.args.primal c.args.limits.budget p c.args.proof.now known closes gone c.in_ok-known.ensures written c.in_ok-closes.ensures.nodes gone_on tree c.in_ok-gone.ensures.none
+    gone_in s c.args.best.now.cost c.args.limits.budget p c.args.proof.now known closes gone c.in_ok-known.ensures written c.in_ok-closes.ensures.nodes gone_on tree c.in_ok-gone.ensures.none

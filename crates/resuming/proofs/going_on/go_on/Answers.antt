@@ -1,7 +1,8 @@
-use Rattle.std.proofs.Common.{◌∙◌, ◌≤◌, arith, refl, subst}
+use Rattle.std.proofs.Common.{ℕ, ◌∙◌, ◌≤◌, arith, refl, subst}
 use Rattle.std.specs.Prelude.{None, Some}
 use Rattle.st_model.specs.Network.{Network}
 use Rattle.log_resume.specs.Closes.{IsNextBelow}
+use Rattle.resuming.specs.GoingOn.{IsSearchFrom}
 use Rattle.resuming.proofs.Falling.{search_falls}
 use Rattle.resuming.proofs.Going.{all_searched, kept_so, lowered_so, none_so, one_more, rest_among, this_among}
 use Rattle.resuming.proofs.going_on.go_on.Goals as goal
@@ -14,7 +15,7 @@ loop-known-preserved g c =
     let N = c.in-Some.node in
     let rest = c.in-Some.rest.nodes in
     let E = c.in_ok-search.search in
-    let ran = c.in_ok-search.ensures in
+    let ran : IsSearchFrom I N here.known.least here.budget E = subst (λ (x : ℕ). IsSearchFrom I N x here.budget E) c.incumbent-incumbent.ensures c.in_ok-search.ensures in
     let new = c.in_ok-known.known in
     let segments = c.as_slice.result.now in
     let are = c.as_slice.ensures in
