@@ -1,3 +1,11 @@
 pub mod Merging
 pub mod Putting
 pub mod Building
+pub mod OpenArcs
+pub mod Spreads
+pub mod DiTrees
+pub mod DiWeights
+pub mod Used
+pub mod Raised
+pub mod Ascended
+pub mod InWords

@@ -3,3 +3,8 @@ pub mod DiWall
 pub mod Problem
 pub mod Stated
 pub mod Steps
+pub mod Open
+pub mod First
+pub mod Gathering
+pub mod Ascending
+pub mod Words

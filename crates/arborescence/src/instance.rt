@@ -1,7 +1,7 @@
 ghost use Rattle.std.specs.Prelude.{◌≡◌, ◌^◌, ◌<◌, ◌≤◌, IfOk, OnSome, All};
 ghost use Rattle.st_model.specs.Lists.{has, total};
 ghost use Rattle.st_model.specs.Network.{IsVertex};
-ghost use Rattle.arborescence.specs.DiNetwork.{IsDiNetwork, arc_from, is_sought};
+ghost use Rattle.arborescence.specs.DiNetwork.{IsDiNetwork, arc_from, away_price, is_sought};
 ghost use Rattle.arborescence.specs.Stated.{di_network_of};
 
 use crate::build::{ascending_terminals, merge_arcs};
@@ -82,6 +82,7 @@ impl DiInstance {
     pub fn root(&self) -> u32
         ensures root { result ≡ self.now.root }
         ensures vertex { IsVertex self.now.n result }
+        ensures instance { IsDiNetwork self.now }
     {
         self.root
     }
@@ -123,5 +124,16 @@ impl DiInstance {
     {
         let index = self.pairs.get_index_of(&(tail, head))?;
         Some(self.arcs[index].cost)
+    }
+
+    /// The cost of the arc from one vertex to another, of which none leads to the root: no tree has one.
+    pub fn away_cost(&self, tail: u32, head: u32) -> Option<u64>
+        ensures cost { result ≡ away_price self.now tail head }
+        ensures in_range { OnSome result (IsVertex self.now.n tail × IsVertex self.now.n head) }
+    {
+        if head == self.root {
+            return None;
+        }
+        self.arc_cost(tail, head)
     }
 }

@@ -7,7 +7,29 @@
 //! cuts have the root alone.
 #![tactic(auto)]
 
+mod ascending;
+mod ascent;
 mod build;
+mod first;
+mod fitting;
+mod fullness;
+mod gathering;
 mod instance;
+mod judge;
+mod law;
+mod loads;
+mod raising;
+mod spreading;
+mod walls;
+mod weighing;
 
+pub use ascending::di_ascend;
+pub use ascent::DiAscent;
+pub use first::di_first_tree;
+pub use fitting::di_fits;
+pub use fullness::di_is_full;
 pub use instance::DiInstance;
+pub use judge::{di_cost, di_is_tree};
+pub use law::{directed_words, packings_bound, walls_leave_no_tree};
+pub use walls::di_wall;
+pub use weighing::di_weight;

@@ -1,0 +1,7 @@
+use Rattle.std.proofs.Common.{◌≡◌, ◌*◌, ◌^◌, ◌≤◌, take}
+use Rattle.st_model.specs.Lists.{total}
+use Rattle.arborescence.proofs.weighing.values.Given as goal
+
+abbrev pub invariant-loop-cut : goal.invariant-loop-cut
+invariant-loop-cut l =
+    record { sum : l.sum ≡ total (λ c. c.y) (take l.cut-index l.cuts); bound : l.sum ≤ l.cut-index * 2 ^ 64 }
