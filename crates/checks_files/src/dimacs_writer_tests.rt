@@ -81,7 +81,16 @@ EOF
 
 // Whether a tree is written as the lone vertex.
 fn is_lone(alloc: Global, tree: &Tree) -> Result<bool, AllocError> {
-    let text = solution_text(alloc, "a\"b\tö ~", 12, tree, 0, u64::MAX, Scale::Whole, false)?;
+    let text = solution_text(
+        alloc,
+        "a\"b\tö ~",
+        12,
+        tree,
+        0,
+        u64::MAX,
+        Scale::Whole,
+        false,
+    )?;
     Ok(text.as_slice() == LONE.as_bytes())
 }
 
