@@ -43,7 +43,7 @@ EOF
 
 // Whether a tree is written as the star.
 fn is_star(alloc: Global, tree: &Tree) -> Result<bool, AllocError> {
-    let text = solution_text(alloc, "row1.stp", 1, tree, 6, 6, Scale::Whole)?;
+    let text = solution_text(alloc, "row1.stp", 1, tree, 6, 6, Scale::Whole, false)?;
     Ok(text.as_slice() == STAR.as_bytes())
 }
 
@@ -81,7 +81,7 @@ EOF
 
 // Whether a tree is written as the lone vertex.
 fn is_lone(alloc: Global, tree: &Tree) -> Result<bool, AllocError> {
-    let text = solution_text(alloc, "a\"b\tö ~", 12, tree, 0, u64::MAX, Scale::Whole)?;
+    let text = solution_text(alloc, "a\"b\tö ~", 12, tree, 0, u64::MAX, Scale::Whole, false)?;
     Ok(text.as_slice() == LONE.as_bytes())
 }
 
@@ -138,6 +138,7 @@ fn is_priced(alloc: Global, dual: u64, primal: u64, wanted: &str) -> Result<bool
         dual,
         primal,
         Scale::Millionths,
+        false,
     )?;
     Ok(text.as_slice() == wanted.as_bytes())
 }
@@ -148,6 +149,28 @@ fn writes_millionths_as_decimals(rt: HostRuntime) -> Result<(), Fail> {
         let (dual, primal, remark, dual_text, primal_text) = *row;
         let wanted = priced(rt.alloc(), remark, dual_text, primal_text)?;
         assert!(rt; is_priced(rt.alloc(), dual, primal, &wanted)?);
+    }
+    Ok(())
+}
+
+// How a text ends whose tree has an arc from 2 to 1 and one from 1 to 3, where the instance is directed, and where it isn't.
+const ENDS: &[(bool, &[u8])] = &[
+    (true, b"Edges 2\nE 1 3\nE 2 1\nEND\nEOF\n"),
+    (false, b"Edges 2\nE 1 2\nE 1 3\nEND\nEOF\n"),
+];
+
+// Whether that tree is written with this end.
+fn ends_so(alloc: Global, directed: bool, end: &[u8]) -> Result<bool, AllocError> {
+    let tree = tree_of(alloc, 2, &[(2, 1), (1, 3)])?;
+    let text = solution_text(alloc, "a.stp", 1, &tree, 7, 7, Scale::Whole, directed)?;
+    Ok(text.as_slice().ends_with(end))
+}
+
+#[test]
+fn writes_arcs_as_they_go_where_they_have_a_direction(rt: HostRuntime) -> Result<(), Fail> {
+    for row in ENDS {
+        let (directed, end) = *row;
+        assert!(rt; ends_so(rt.alloc(), directed, end)?);
     }
     Ok(())
 }

@@ -5,7 +5,9 @@ use std::test::Fail;
 use stp_reader::{ReadError, Reading, Reason, read_stp, refused_exactly};
 
 mod decimals;
+mod directed;
 mod drawn;
+mod drawn_arcs;
 mod pinned;
 
 const HEADER: &str = "33D32945 STP File, STP Format Version 1.0";
@@ -461,9 +463,9 @@ const CHANGES: &[Change] = &[
     ),
 ];
 
-/// The star's file with this in the place of that.
-fn changed(alloc: Global, from: &str, to: &[u8]) -> Result<Vec<u8>, Fail> {
-    let (before, after) = STAR.split_once(from).ok_or("the file has no such part")?;
+/// A file with this in the place of that.
+fn changed(alloc: Global, file: &str, from: &str, to: &[u8]) -> Result<Vec<u8>, Fail> {
+    let (before, after) = file.split_once(from).ok_or("the file has no such part")?;
     let mut text = Vec::new(alloc);
     text.extend_from_slice(before.as_bytes())?;
     text.extend_from_slice(to)?;
@@ -474,7 +476,7 @@ fn changed(alloc: Global, from: &str, to: &[u8]) -> Result<Vec<u8>, Fail> {
 /// Whether the star's file is refused so with this change.
 fn is_change_refused(alloc: Global, change: &Change) -> Result<bool, Fail> {
     let (from, to, line, reason) = *change;
-    Ok(is_refused(alloc, &changed(alloc, from, to)?, line, reason))
+    Ok(is_refused(alloc, &changed(alloc, STAR, from, to)?, line, reason))
 }
 
 #[test]
@@ -488,7 +490,7 @@ fn refuses_one_change(rt: HostRuntime) -> Result<(), Fail> {
 
 /// Whether the star is read of its file with another end.
 fn ends_with(alloc: Global, to: &[u8]) -> Result<bool, Fail> {
-    has_sizes(alloc, &changed(alloc, "T 3\nEND\nEOF\n", to)?, 4, 6)
+    has_sizes(alloc, &changed(alloc, STAR, "T 3\nEND\nEOF\n", to)?, 4, 6)
 }
 
 /// Other ends of that file.
@@ -510,8 +512,10 @@ fn tells_reasons(rt: HostRuntime) {
         Reason::BadNumber,
         Reason::NoVertices,
         Reason::ScaleRange,
+        Reason::NoRoot,
     ];
-    assert_eq!(rt; reasons.map(|reason| reason.code()), [1, 6, 17, 18]);
+    assert_eq!(rt; reasons.map(|reason| reason.code()), [1, 6, 17, 18, 19]);
     assert_eq!(rt; Reason::CountMismatch.name(), "CountMismatch");
     assert_eq!(rt; Reason::ScaleRange.name(), "ScaleRange");
+    assert_eq!(rt; Reason::NoRoot.name(), "NoRoot");
 }

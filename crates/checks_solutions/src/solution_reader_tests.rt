@@ -356,7 +356,7 @@ fn comes_back(
     other: Scale,
 ) -> Result<bool, AllocError> {
     let tree = star_tree(alloc)?;
-    let text = solution_text(alloc, "row1.stp", 1, &tree, cost, cost, scale)?;
+    let text = solution_text(alloc, "row1.stp", 1, &tree, cost, cost, scale, false)?;
     Ok(
         answer(alloc, instance, scale, &text) == Ok(cost)
             && answer(alloc, instance, other, &text) == Err(VerifyFault::CostDiffers),

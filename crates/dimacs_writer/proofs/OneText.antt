@@ -1,5 +1,5 @@
 -- A tree has one text.
-use Rattle.std.proofs.Common.{◌≡◌, ℕ, zero, suc, List, [], ◌∷◌, ◌⊎◌, inl, inr, refl, sym, ap, ◌∙◌, arith}
+use Rattle.std.proofs.Common.{◌≡◌, ℕ, Bool, zero, suc, List, [], ◌∷◌, ◌⊎◌, inl, inr, refl, sym, ap, ◌∙◌, arith}
 use Rattle.std.specs.Prelude.{Contains}
 use Rattle.std.specs.declared.cmp.Ordering.{Ordering}
 use Rattle.std.specs.declared.cmp.Ordering.TheVariants.{Less, Greater}
@@ -12,7 +12,7 @@ use Rattle.std.proofs.lemmas.Map.Keys.{sorted_head, sorted_tail, sorted_from_str
 use Rattle.st_model.specs.declared.tree.Tree.{Tree}
 use Rattle.st_model.specs.Lists.{has}
 use Rattle.dimacs_writer.specs.Laws.{HaveSameSets, TreeHasOneText}
-use Rattle.dimacs_writer.specs.Solution.{AreEdges, AreVertices, edge_order, solution_text_of}
+use Rattle.dimacs_writer.specs.Solution.{AreEdgesIn, AreVertices, edge_order, solution_text_of}
 use Rattle.st_model.proofs.Members.{Contains-from_has, has-from_Contains}
 
 split : {K : Type 0} (y : K) (ys : List K) (z : K) → Contains (y ∷ ys) z → (y ≡ z) ⊎ Contains ys z
@@ -62,21 +62,21 @@ sorted_same {K} R o (x ∷ xs) (y ∷ ys) up vp to from =
 edges_total : IsTotalOrder edge_order
 edges_total = then_total (on_total (λ edge. edge.0) nat_cmp_total) (on_total (λ edge. edge.1) nat_cmp_total)
 
-same_vertices : (s t : Tree) (vs ws : List ℕ) → HaveSameSets s t → AreVertices s vs → AreVertices t ws → vs ≡ ws
-same_vertices s t vs ws same v w = sorted_same nat_cmp nat_cmp_total vs ws (sorted_from_strictly_increasing vs v.ascending) (sorted_from_strictly_increasing ws w.ascending)
+same_vertices : (directed : Bool) (s t : Tree) (vs ws : List ℕ) → HaveSameSets directed s t → AreVertices s vs → AreVertices t ws → vs ≡ ws
+same_vertices directed s t vs ws same v w = sorted_same nat_cmp nat_cmp_total vs ws (sorted_from_strictly_increasing vs v.ascending) (sorted_from_strictly_increasing ws w.ascending)
     (λ z there. Contains-from_has ws z (sym (both z) ∙ has-from_Contains vs z there))
     (λ z there. Contains-from_has vs z (both z ∙ has-from_Contains ws z there))
   where
     both : (z : ℕ) → has vs z ≡ has ws z
     both z = v.same z ∙ same.vertices z ∙ sym (w.same z)
 
-same_edges : (s t : Tree) (ds fs : List (ℕ × ℕ)) → HaveSameSets s t → AreEdges s ds → AreEdges t fs → ds ≡ fs
-same_edges s t ds fs same d f = sorted_same edge_order edges_total ds fs d.ascending f.ascending
+same_edges : (directed : Bool) (s t : Tree) (ds fs : List (ℕ × ℕ)) → HaveSameSets directed s t → AreEdgesIn directed s ds → AreEdgesIn directed t fs → ds ≡ fs
+same_edges directed s t ds fs same d f = sorted_same edge_order edges_total ds fs d.ascending f.ascending
     (λ z there. (f.same z).1 ((same.edges z).0 ((d.same z).0 there)))
     (λ z there. (d.same z).1 ((same.edges z).1 ((f.same z).0 there)))
 
 pub one_text : TreeHasOneText
-one_text name workers s t dual primal scale bytes others same a b =
-    let vertices = same_vertices s t a.vertices b.vertices same a.vertices_of_tree b.vertices_of_tree in
-    let edges = same_edges s t a.edges b.edges same a.edges_of_tree b.edges_of_tree in
+one_text directed name workers s t dual primal scale bytes others same a b =
+    let vertices = same_vertices directed s t a.vertices b.vertices same a.vertices_of_tree b.vertices_of_tree in
+    let edges = same_edges directed s t a.edges b.edges same a.edges_of_tree b.edges_of_tree in
     a.text ∙ ap (λ (vs : List ℕ). solution_text_of name workers vs a.edges dual primal scale) vertices ∙ ap (λ (es : List (ℕ × ℕ)). solution_text_of name workers b.vertices es dual primal scale) edges ∙ sym b.text

@@ -11,12 +11,11 @@ use Rattle.amounts.specs.Text.{amount_text}
 use Rattle.amounts.proofs.Reread.{texts_differ, lacks-amount_text}
 use Rattle.st_model.specs.declared.tree.Tree.{Tree}
 use Rattle.st_model.specs.Lists.{has}
-use Rattle.st_model.specs.Regrown.{unordered}
 use Rattle.st_model.proofs.Members.{has-one, has-from_Contains}
 use Rattle.st_model.proofs.Reaching.{reached_in}
 use Rattle.dimacs_writer.specs.Laws.{Solution, IsSmallTree, TextTellsSolution, TextTellsTree, text_of}
 use Rattle.plain_text.specs.Lines.{ended}
-use Rattle.dimacs_writer.specs.Solution.{AreEdges, AreVertices, IsSolutionText, name_byte, number_line, vertex_line, edge_line, header, comment_lines, solutions_lines, run_lines, solution_text_of}
+use Rattle.dimacs_writer.specs.Solution.{ends_written, AreEdgesIn, AreVertices, IsSolutionTextIn, name_byte, number_line, vertex_line, edge_line, header, comment_lines, solutions_lines, run_lines, solution_text_of}
 use Rattle.plain_text.proofs.Lacking.{lacks, lacks-append, lacks-decimal, cut_same, are_whole, lines_same}
 
 abbrev IsSmall : ℕ → Type 0
@@ -147,22 +146,26 @@ tells s t h k same_scale e =
 small_vertices : (t : Tree) (vertices : List ℕ) → IsSmallTree t → AreVertices t vertices → All IsSmall vertices
 small_vertices t vertices small are = All-weaker (Contains vertices) IsSmall (λ v there. reached_in IsSmall (t.start ∷ []) t.arcs (λ w h. subst IsSmall (has-one t.start w h) small.start) (recursion_from_All _ t.arcs (All-weaker HasSmallEnds (λ arc. IsSmall arc.1) (λ arc ends. ends.1) t.arcs small.arcs)) v (sym (are.same v) ∙ has-from_Contains vertices v there)) vertices (All-contains_itself vertices)
 
-small_edges : (t : Tree) (edges : List (ℕ × ℕ)) → IsSmallTree t → AreEdges t edges → All HasSmallEnds edges
-small_edges t edges small are = All-weaker (Contains edges) HasSmallEnds (λ edge there. All-contains HasSmallEnds (map unordered t.arcs) edge ends ((are.same edge).0 there)) edges (All-contains_itself edges)
-  where
-    ends : All HasSmallEnds (map unordered t.arcs)
-    ends = All-map HasSmallEnds unordered t.arcs (All-weaker HasSmallEnds (λ arc. HasSmallEnds (unordered arc)) (λ arc h. (omega (arith, h.0, h.1), omega (arith, h.0, h.1))) t.arcs small.arcs)
+small_ends : (directed : Bool) (arc : ℕ × ℕ) → HasSmallEnds arc → HasSmallEnds (ends_written directed arc)
+small_ends true arc h = h
+small_ends false arc h = (omega (arith, h.0, h.1), omega (arith, h.0, h.1))
 
-abbrev said : {name : List ℕ} {workers : ℕ} {t : Tree} {dual primal : ℕ} {scale : Scale} {bytes : List ℕ} → IsSolutionText name workers t dual primal scale bytes → Solution
-said {name} {workers} {t} {dual} {primal} {scale} text = record { name = name; workers = workers; vertices = text.vertices; edges = text.edges; dual = dual; primal = primal; scale = scale }
+small_edges : (directed : Bool) (t : Tree) (edges : List (ℕ × ℕ)) → IsSmallTree t → AreEdgesIn directed t edges → All HasSmallEnds edges
+small_edges directed t edges small are = All-weaker (Contains edges) HasSmallEnds (λ edge there. All-contains HasSmallEnds (map (ends_written directed) t.arcs) edge ends ((are.same edge).0 there)) edges (All-contains_itself edges)
+  where
+    ends : All HasSmallEnds (map (ends_written directed) t.arcs)
+    ends = All-map HasSmallEnds (ends_written directed) t.arcs (All-weaker HasSmallEnds (λ arc. HasSmallEnds (ends_written directed arc)) (small_ends directed) t.arcs small.arcs)
+
+abbrev said : {directed : Bool} {name : List ℕ} {workers : ℕ} {t : Tree} {dual primal : ℕ} {scale : Scale} {bytes : List ℕ} → IsSolutionTextIn directed name workers t dual primal scale bytes → Solution
+said {directed} {name} {workers} {t} {dual} {primal} {scale} text = record { name = name; workers = workers; vertices = text.vertices; edges = text.edges; dual = dual; primal = primal; scale = scale }
 
 pub tells_tree : TextTellsTree
-tells_tree name other_name workers other_workers s t dual other_dual primal other_primal scale other_scale bytes small_s small_t first second =
+tells_tree directed name other_name workers other_workers s t dual other_dual primal other_primal scale other_scale bytes small_s small_t first second =
     let v = first.vertices_of_tree in
     let w = second.vertices_of_tree in
     let d = first.edges_of_tree in
     let f = second.edges_of_tree in
-    let same = same_tree (said first) (said second) (small_vertices s first.vertices small_s v) (small_vertices t second.vertices small_t w) (small_edges s first.edges small_s d) (small_edges t second.edges small_t f) (sym first.text ∙ second.text) in
+    let same = same_tree (said first) (said second) (small_vertices s first.vertices small_s v) (small_vertices t second.vertices small_t w) (small_edges directed s first.edges small_s d) (small_edges directed t second.edges small_t f) (sym first.text ∙ second.text) in
     record {
       vertices = λ x. sym (v.same x) ∙ ap (λ (list : List ℕ). has list x) same.0 ∙ w.same x;
       edges = λ edge. (λ h. (f.same edge).0 (rw same.1 at ((d.same edge).1 h)), λ h. (d.same edge).0 (rw (← same.1) at ((f.same edge).1 h)));

@@ -1,11 +1,10 @@
 -- What the text of a solution tells.
-use Rattle.std.specs.Prelude.{◌≡◌, ◌↔◌, ℕ, ◌<◌, ◌^◌, List, map, All, Contains}
+use Rattle.std.specs.Prelude.{◌≡◌, ◌↔◌, ℕ, ◌<◌, ◌^◌, Bool, List, map, All, Contains}
 use Rattle.amounts.specs.declared.scale.Scale.{Scale}
 use Rattle.st_model.specs.declared.tree.Tree.{Tree}
 use Rattle.st_model.specs.Arborescence.{reached}
 use Rattle.st_model.specs.Lists.{has}
-use Rattle.st_model.specs.Regrown.{unordered}
-use Rattle.dimacs_writer.specs.Solution.{IsSolutionText, name_byte, solution_text_of}
+use Rattle.dimacs_writer.specs.Solution.{ends_written, IsSolutionTextIn, name_byte, solution_text_of}
 
 -- all that stands in a text, and the unit that its dual and its primal count
 pub record Solution : Type 0 where
@@ -46,15 +45,15 @@ pub record IsSmallTree (t : Tree) : Type 0 where
   pub start : t.start < 2 ^ 64
   pub arcs : All (λ arc. (arc.0 < 2 ^ 64) × (arc.1 < 2 ^ 64)) t.arcs
 
--- both reach the same vertices along the same links
-pub record HaveSameSets (s t : Tree) : Type 0 where
+-- both reach the same vertices along the same links, or along the same arcs where the instance is directed
+pub record HaveSameSets (directed : Bool) (s t : Tree) : Type 0 where
   pub vertices : (v : ℕ) → has (reached s) v ≡ has (reached t) v
-  pub edges : (edge : ℕ × ℕ) → Contains (map unordered s.arcs) edge ↔ Contains (map unordered t.arcs) edge
+  pub edges : (edge : ℕ × ℕ) → Contains (map (ends_written directed) s.arcs) edge ↔ Contains (map (ends_written directed) t.arcs) edge
 
--- a tree has one text, whatever the order and the directions of its arcs
+-- a tree has one text, whatever the order of its arcs, and where the instance isn't directed, whatever their directions
 abbrev pub TreeHasOneText : Type 0
-TreeHasOneText = (name : List ℕ) (workers : ℕ) (s t : Tree) (dual primal : ℕ) (scale : Scale) (bytes others : List ℕ) → HaveSameSets s t → IsSolutionText name workers s dual primal scale bytes → IsSolutionText name workers t dual primal scale others → bytes ≡ others
+TreeHasOneText = (directed : Bool) (name : List ℕ) (workers : ℕ) (s t : Tree) (dual primal : ℕ) (scale : Scale) (bytes others : List ℕ) → HaveSameSets directed s t → IsSolutionTextIn directed name workers s dual primal scale bytes → IsSolutionTextIn directed name workers t dual primal scale others → bytes ≡ others
 
--- trees that have one text are the same but for the order and the directions of their arcs, whatever unit their costs count
+-- trees that have one text are the same but for the order of their arcs, and where the instance isn't directed for their directions, whatever unit their costs count
 abbrev pub TextTellsTree : Type 0
-TextTellsTree = (name other_name : List ℕ) (workers other_workers : ℕ) (s t : Tree) (dual other_dual primal other_primal : ℕ) (scale other_scale : Scale) (bytes : List ℕ) → IsSmallTree s → IsSmallTree t → IsSolutionText name workers s dual primal scale bytes → IsSolutionText other_name other_workers t other_dual other_primal other_scale bytes → HaveSameSets s t
+TextTellsTree = (directed : Bool) (name other_name : List ℕ) (workers other_workers : ℕ) (s t : Tree) (dual other_dual primal other_primal : ℕ) (scale other_scale : Scale) (bytes : List ℕ) → IsSmallTree s → IsSmallTree t → IsSolutionTextIn directed name workers s dual primal scale bytes → IsSolutionTextIn directed other_name other_workers t other_dual other_primal other_scale bytes → HaveSameSets directed s t

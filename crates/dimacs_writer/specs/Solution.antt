@@ -1,5 +1,5 @@
 -- The text of a solution, section by section, and which vertices and edges of a tree stand in it.
-use Rattle.std.specs.Prelude.{◌≡◌, ◌↔◌, ℕ, ◌==◌, ◌||◌, nat_lt, if◌then◌else◌, List, [], ◌∷◌, ◌++◌, length, map, Contains, codes}
+use Rattle.std.specs.Prelude.{◌≡◌, ◌↔◌, ℕ, ◌==◌, ◌||◌, nat_lt, Bool, true, false, if◌then◌else◌, List, [], ◌∷◌, ◌++◌, length, map, Contains, codes}
 use Rattle.std.specs.Fmt.{decimal}
 use Rattle.std.specs.List.{flat_map}
 use Rattle.std.specs.List.Sorted.{IsStrictlyIncreasing, IsStrictlySortedBy}
@@ -73,15 +73,27 @@ pub record AreVertices (t : Tree) (vertices : List ℕ) : Type 0 where
 abbrev pub edge_order : ℕ × ℕ → ℕ × ℕ → Ordering
 edge_order x y = ordering_then (nat_cmp x.0 y.0) (nat_cmp x.1 y.1)
 
--- the links of the tree's arcs, the lower end first, ascending, each once
-pub record AreEdges (t : Tree) (edges : List (ℕ × ℕ)) : Type 0 where
-  pub ascending : IsStrictlySortedBy edge_order edges
-  pub same : (edge : ℕ × ℕ) → Contains edges edge ↔ Contains (map unordered t.arcs) edge
+-- the ends of an arc as they are written: as it goes where the instance is directed, else the lower one first
+abbrev pub ends_written : Bool → ℕ × ℕ → ℕ × ℕ
+ends_written true arc = arc
+ends_written false arc = unordered arc
 
--- the bytes are the text of the tree's vertices and edges
-pub record IsSolutionText (name : List ℕ) (workers : ℕ) (t : Tree) (dual primal : ℕ) (scale : Scale) (bytes : List ℕ) : Type 0 where
+-- the ends of the tree's arcs, as they are written, ascending, each once
+pub record AreEdgesIn (directed : Bool) (t : Tree) (edges : List (ℕ × ℕ)) : Type 0 where
+  pub ascending : IsStrictlySortedBy edge_order edges
+  pub same : (edge : ℕ × ℕ) → Contains edges edge ↔ Contains (map (ends_written directed) t.arcs) edge
+
+-- the bytes are the text of the tree's vertices and edges, where the instance is directed, or where it isn't
+pub record IsSolutionTextIn (directed : Bool) (name : List ℕ) (workers : ℕ) (t : Tree) (dual primal : ℕ) (scale : Scale) (bytes : List ℕ) : Type 0 where
   pub vertices : List ℕ
   pub edges : List (ℕ × ℕ)
   pub vertices_of_tree : AreVertices t vertices
-  pub edges_of_tree : AreEdges t edges
+  pub edges_of_tree : AreEdgesIn directed t edges
   pub text : bytes ≡ solution_text_of name workers vertices edges dual primal scale
+
+-- the same where it isn't
+abbrev pub AreEdges : Tree → List (ℕ × ℕ) → Type 0
+AreEdges t edges = AreEdgesIn false t edges
+
+abbrev pub IsSolutionText : List ℕ → ℕ → Tree → ℕ → ℕ → Scale → List ℕ → Type 0
+IsSolutionText name workers t dual primal scale bytes = IsSolutionTextIn false name workers t dual primal scale bytes

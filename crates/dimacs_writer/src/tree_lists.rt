@@ -1,7 +1,6 @@
 ghost use Rattle.std.specs.Prelude.{◌≡◌, ◌↔◌, ◌++◌, ◌∷◌, [], IfOk, IsTrue, Contains, map};
 ghost use Rattle.std.specs.List.Sorted.{IsStrictlySortedBy};
-ghost use Rattle.st_model.specs.Regrown.{unordered};
-ghost use Rattle.dimacs_writer.specs.Solution.{AreVertices, AreEdges};
+ghost use Rattle.dimacs_writer.specs.Solution.{AreVertices, AreEdgesIn, ends_written};
 
 use st_model::Tree;
 use std::alloc::{AllocError, Global};
@@ -15,11 +14,11 @@ pub fn vertices_of(alloc: Global, tree: &Tree) -> Result<Vec<u32>, AllocError>
     Ok(vertices)
 }
 
-/// The links of the tree, lower ends first, ascending and each once.
-pub fn edges_of(alloc: Global, tree: &Tree) -> Result<Vec<(u32, u32)>, AllocError>
-    ensures { IfOk result (λ edges. AreEdges tree.now edges.items) }
+/// The ends of the tree's arcs as they are written, ascending and each once.
+pub fn edges_of(alloc: Global, tree: &Tree, directed: bool) -> Result<Vec<(u32, u32)>, AllocError>
+    ensures { IfOk result (λ edges. AreEdgesIn directed tree.now edges.items) }
 {
-    let mut edges = links_of(alloc, tree)?;
+    let mut edges = all_ends(alloc, tree, directed)?;
     put_in_order(&mut edges);
     Ok(edges)
 }
@@ -44,12 +43,23 @@ fn heads_and_start(alloc: Global, tree: &Tree) -> Result<Vec<u32>, AllocError>
     Ok(list)
 }
 
-// The two ends of each arc, the lower first.
-fn links_of(alloc: Global, tree: &Tree) -> Result<Vec<(u32, u32)>, AllocError>
-    ensures { IfOk result (λ list. list.items ≡ map unordered tree.now.arcs) }
+// The ends of each arc as they are written.
+fn all_ends(alloc: Global, tree: &Tree, directed: bool) -> Result<Vec<(u32, u32)>, AllocError>
+    ensures { IfOk result (λ list. list.items ≡ map (ends_written directed) tree.now.arcs) }
 {
     let arcs = tree.arcs.as_slice();
     arcs.iter()
-        .map(|arc| (arc.0.min(arc.1), arc.0.max(arc.1)))
+        .map(|arc| ends_written(*arc, directed))
         .collect(alloc)
+}
+
+// The ends of an arc as it goes where the instance is directed, else the lower one first.
+fn ends_written(arc: (u32, u32), directed: bool) -> (u32, u32)
+    ensures { result ≡ ends_written directed arc }
+{
+    if directed {
+        arc
+    } else {
+        (arc.0.min(arc.1), arc.0.max(arc.1))
+    }
 }

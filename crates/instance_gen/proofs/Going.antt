@@ -8,10 +8,11 @@ use Rattle.std.proofs.lemmas.List.{append-nil}
 use Rattle.amounts.proofs.Decimals.{value_decimal}
 use Rattle.st_model.specs.declared.link.Link.{Link}
 use Rattle.st_model.specs.declared.need.Need.{Need}
+use Rattle.stp_reader.specs.declared.mode.Mode.TheVariants.{Plain}
 use Rattle.stp_reader.specs.declared.reason.Reason.{Reason}
 use Rattle.stp_reader.specs.Words.{keyword_of, section_of}
 use Rattle.stp_reader.specs.Forms.{form_of}
-use Rattle.stp_reader.specs.Place.{Graph, Place, nothing, graph, whole, no_roots, at_header, outside, at_nodes, at_edges, at_links, at_count, at_needs, after_end, after, after_all}
+use Rattle.stp_reader.specs.Place.{Graph, undirected, Place, nothing, graph, whole, no_roots, at_header, outside, at_nodes, at_edges, at_links, at_count, at_needs, after_end, after, after_all}
 use Rattle.stp_reader.specs.Reasons.{reasons}
 use Rattle.stp_reader.specs.Reads.{AllRight}
 use Rattle.instance_gen.specs.Text.{header, section_line, number_line, end_line}
@@ -21,11 +22,11 @@ use Rattle.instance_gen.proofs.Said.{count_right, nodes_right}
 
 -- no line has a reason, the last leads to this place, and all are spelled
 pub record Goes (place : Place) (lines : List (List (List ℕ))) (next : Place) : Type 0 where
-  pub right : AllRight place lines
-  pub leads : after_all place lines ≡ next
+  pub right : AllRight Plain place lines
+  pub leads : after_all Plain place lines ≡ next
   pub spelled : are_spelled lines ≡ true
 
-pub one_line : (place next : Place) (line : List (List ℕ)) → reasons place line ≡ [] → after place line ≡ next → is_spelled line ≡ true → Goes place (line ∷ []) next
+pub one_line : (place next : Place) (line : List (List ℕ)) → reasons Plain place line ≡ [] → after Plain place line ≡ next → is_spelled line ≡ true → Goes place (line ∷ []) next
 one_line place next line none to spelled = record { right = (none, tt); leads = to; spelled = and_from (is_spelled line) true spelled refl }
 
 pub no_line : (place : Place) → Goes place [] place
@@ -34,12 +35,12 @@ no_line place = record { right = tt; leads = refl; spelled = refl }
 pub goes_to : {place next other : Place} {lines : List (List (List ℕ))} → Goes place lines next → next ≡ other → Goes place lines other
 goes_to {place} {next} {other} {lines} g e = record { right = g.right; leads = g.leads ∙ e; spelled = g.spelled }
 
-all_go : (place next last : Place) (lines others : List (List (List ℕ))) → AllRight place lines → after_all place lines ≡ next → are_spelled lines ≡ true
+all_go : (place next last : Place) (lines others : List (List (List ℕ))) → AllRight Plain place lines → after_all Plain place lines ≡ next → are_spelled lines ≡ true
     → Goes next others last → Goes place (lines ++ others) last
 all_go place next last [] others right leads spelled g = subst (λ p. Goes p others last) (sym leads) g
 all_go place next last (line ∷ lines) others right leads spelled g =
     let p = and_parts (is_spelled line) (are_spelled lines) spelled in
-    let rest = all_go (after place line) next last lines others right.1 leads p.1 g in
+    let rest = all_go (after Plain place line) next last lines others right.1 leads p.1 g in
     record { right = (right.0, rest.right); leads = rest.leads; spelled = and_from (is_spelled line) (are_spelled (lines ++ others)) p.0 rest.spelled }
 
 infixl 10 ◌onto◌
@@ -84,18 +85,18 @@ count_goes g t few = one_line (at_count g no_roots) (at_needs g t [] no_roots) (
     (ap (λ k. at_needs g k [] no_roots) (value_decimal t (omega arith))) (number_spelled (codes "Terminals") t refl (omega arith))
 
 pub needs_end : (g : Graph) (t : ℕ) (needs : List (ℕ × Need)) → length needs ≡ t → 1 ≤ t
-    → Goes (at_needs g t needs no_roots) (end_line ∷ []) (outside (whole (record { n = g.n; links = g.links; needs = needs })))
+    → Goes (at_needs g t needs no_roots) (end_line ∷ []) (outside (whole (undirected (record { n = g.n; links = g.links; needs = needs }))))
 unfolding keyword_of form_of
 needs_end g t needs all some =
     let same : eqb (length needs) t ≡ true = grind (arith, nat_tests) in
     let above : eqb (length needs) 0 ≡ false = grind (arith, nat_tests) in
-    one_line (at_needs g t needs no_roots) (outside (whole (record { n = g.n; links = g.links; needs = needs }))) end_line (rw (same, above) refl)
-    (ap (λ (es : List (ℕ × Need)). outside (whole (record { n = g.n; links = g.links; needs = es }))) (append-nil needs)) refl
+    one_line (at_needs g t needs no_roots) (outside (whole (undirected (record { n = g.n; links = g.links; needs = needs })))) end_line (rw (same, above) refl)
+    (ap (λ (es : List (ℕ × Need)). outside (whole (undirected (record { n = g.n; links = g.links; needs = es })))) (append-nil needs)) refl
 
 pub text_ends : (n : ℕ) (links : List Link) (needs : List (ℕ × Need))
-    → Goes (outside (whole (record { n = n; links = links; needs = needs }))) ((codes "EOF" ∷ []) ∷ []) (after_end (record { n = n; links = links; needs = needs }))
+    → Goes (outside (whole (undirected (record { n = n; links = links; needs = needs })))) ((codes "EOF" ∷ []) ∷ []) (after_end (undirected (record { n = n; links = links; needs = needs })))
 unfolding keyword_of form_of
-text_ends n links needs = one_line (outside (whole (record { n = n; links = links; needs = needs }))) (after_end (record { n = n; links = links; needs = needs })) (codes "EOF" ∷ []) refl refl refl
+text_ends n links needs = one_line (outside (whole (undirected (record { n = n; links = links; needs = needs })))) (after_end (undirected (record { n = n; links = links; needs = needs }))) (codes "EOF" ∷ []) refl refl refl
 
 -- ---- links
 

@@ -7,8 +7,9 @@ use Rattle.st_model.specs.declared.need.Need.{Need}
 use Rattle.st_model.specs.Network.{Network, IsInstance, IsLinkBetween, is_needed, need_of}
 use Rattle.st_model.specs.Stated.{network_of}
 use Rattle.stp_reader.specs.Lines.{word_lines}
-use Rattle.stp_reader.specs.Place.{File, at_header, outside, graph, whole, after_end}
-use Rattle.stp_reader.specs.Reads.{IsRead, file_at}
+use Rattle.stp_reader.specs.declared.mode.Mode.TheVariants.{Plain}
+use Rattle.stp_reader.specs.Place.{File, undirected, at_header, outside, graph, whole, after_end}
+use Rattle.stp_reader.specs.Reads.{IsRead, contents_at}
 use Rattle.stp_reader.specs.Unit.{link_in, stated_in}
 use Rattle.instance_gen.specs.Laws.{WrittenAreRead}
 use Rattle.instance_gen.specs.Text.{FitsFile, is_paying, those_of, at_least_one, written_needs, need_line, terminal_lines, graph_lines, header, stp_lines, stp_text}
@@ -72,13 +73,13 @@ graph_section I scale i fits =
     onto links onto graph_ends I.n (length I.links) (said_links scale I.links) (length-map I.links (said_link scale))
 
 terminals_section : (I : Network) (scale : Scale) → IsInstance I → FitsFile I scale
-    → Goes (outside (graph (said_graph scale (graph_of I)))) (terminal_lines (written_needs I) scale) (outside (whole (file_of I scale)))
+    → Goes (outside (graph (said_graph scale (graph_of I)))) (terminal_lines (written_needs I) scale) (outside (whole (undirected (file_of I scale))))
 terminals_section I scale i fits =
     terminals_go (said_graph scale (graph_of I)) onto count_goes (said_graph scale (graph_of I)) (length (written_needs I)) (few_needs I i) onto all_needs_go I scale
     (length (written_needs I)) i fits onto needs_end (said_graph scale (graph_of I)) (length (written_needs I)) (said_needs scale (written_needs I))
     (length-map {B = ℕ × Need} (written_needs I) _) (some_written (those_of I is_needed I.n ++ those_of I is_paying I.n))
 
-all_lines_go : (I : Network) (scale : Scale) → IsInstance I → FitsFile I scale → Goes at_header (stp_lines I scale) (after_end (file_of I scale))
+all_lines_go : (I : Network) (scale : Scale) → IsInstance I → FitsFile I scale → Goes at_header (stp_lines I scale) (after_end (undirected (file_of I scale)))
 all_lines_go I scale i fits = graph_section I scale i fits onto (terminals_section I scale i fits onto text_ends I.n (said_links scale I.links) (said_needs scale (written_needs I)))
 
 pub written_are_read : WrittenAreRead
@@ -86,9 +87,9 @@ unfolding stp_text
 written_are_read I scale i fits =
     let goes = all_lines_go I scale i fits in
     let lines : word_lines (stp_text I scale) ≡ stp_lines I scale = words_of_text (stp_lines I scale) goes.spelled in
-    let read : IsRead (stp_lines I scale) (file_of I scale) = record { right = goes.right; file = ap file_at goes.leads } in
+    let read : IsRead Plain (stp_lines I scale) (undirected (file_of I scale)) = record { right = goes.right; contents = ap contents_at goes.leads } in
     let unit = unit_told I scale i fits in
-    (file_of I scale, subst (λ ls. IsRead ls (file_of I scale)) (sym lines) read, same_again ∙ sym (ap network_at unit), sym unit)
+    (file_of I scale, subst (λ ls. IsRead Plain ls (undirected (file_of I scale))) (sym lines) read, same_again ∙ sym (ap network_at unit), sym unit)
   where
     -- the instance of the file, if this is its unit
     network_at : Scale → Network

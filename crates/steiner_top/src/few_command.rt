@@ -32,7 +32,7 @@ fn best_text(
         reading.now.scale text.items) }
 {
     let cost = tree_cost(&reading.instance, tree);
-    solution_text(alloc, words.file, 1, tree, cost, cost, reading.scale)
+    solution_text(alloc, words.file, 1, tree, cost, cost, reading.scale, false)
 }
 
 // How an instance is answered whose best tree is wanted.

@@ -32,7 +32,7 @@ pub fn outcome_text(
             dual,
             scale,
             ..
-        } => solution_text(alloc, file, workers, tree, *dual, *primal, *scale),
+        } => solution_text(alloc, file, workers, tree, *dual, *primal, *scale, false),
         Outcome::NoTree { .. } => Ok(infeasible(alloc)?.into_bytes()),
     }
 }

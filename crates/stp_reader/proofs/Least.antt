@@ -2,7 +2,7 @@
 use Rattle.std.proofs.Common.{◌≡◌, leb, Bool, true, false, cond, List, [], ◌∷◌, ◌++◌, Option, Some, None, Result, Ok, Err, refl, ap, arith}
 use Rattle.std.proofs.lemmas.Bool.Decides.{nat_tests}
 use Rattle.stp_reader.specs.declared.reason.Reason.{Reason}
-use Rattle.stp_reader.specs.declared.reason.Reason.TheVariants.{NoHeader, BadLine, UnknownSection, RepeatedSection, GraphFirst, BadNumber, Fraction, OutOfRange, VertexRange, CountMismatch, RepeatedPrize, RootNotTerminal, Directed, Unclosed, NoGraph, NoTerminals, NoVertices, ScaleRange}
+use Rattle.stp_reader.specs.declared.reason.Reason.TheVariants.{ScaleRange}
 use Rattle.stp_reader.specs.Reason.{code_of, lesser, lesser_of, least, when}
 use Rattle.stp_reader.specs.Judged.{◌>>=◌, both}
 
@@ -52,35 +52,32 @@ pub then_answer : {A B : Type 0} (o : Option Reason) (x : A) (f : A → B) → (
 then_answer None x f = refl
 then_answer (Some r) x f = refl
 
--- ---- the reason that gives way to all others
+-- ---- the reason that gives way to those of words
 
-scale_last : (r : Reason) → lesser r ScaleRange ≡ r
-scale_last NoHeader = refl
-scale_last BadLine = refl
-scale_last UnknownSection = refl
-scale_last RepeatedSection = refl
-scale_last GraphFirst = refl
-scale_last BadNumber = refl
-scale_last Fraction = refl
-scale_last OutOfRange = refl
-scale_last VertexRange = refl
-scale_last CountMismatch = refl
-scale_last RepeatedPrize = refl
-scale_last RootNotTerminal = refl
-scale_last Directed = refl
-scale_last Unclosed = refl
-scale_last NoGraph = refl
-scale_last NoTerminals = refl
-scale_last NoVertices = refl
-scale_last ScaleRange = refl
+-- a least reason that isn't above that of a second prize
+abbrev pub IsLow : Option Reason → Type 0
+IsLow None = Unit {0}
+IsLow (Some r) = leb (code_of r) 11 ≡ true
+
+pub IsLow-lesser : (a b : Option Reason) → IsLow a → IsLow b → IsLow (lesser_of a b)
+IsLow-lesser None b h k = k
+IsLow-lesser (Some r) None h k = h
+IsLow-lesser (Some r) (Some q) h k = by_case (leb (code_of r) (code_of q))
+  where
+    by_case : (test : Bool) → leb (code_of (cond test r q)) 11 ≡ true
+    by_case true = h
+    by_case false = k
+
+scale_last : (r : Reason) → IsLow (Some r) → lesser r ScaleRange ≡ r
+scale_last r low = let below : leb (code_of r) 18 ≡ true = grind (arith, nat_tests, low) in rw below refl
 
 -- what is said where an amount may stand by its scale, and where none of these reasons holds
-pub scaled_answer : {A B : Type 0} (rs : List Reason) (x : A) (test : A → Bool) (f : A → B)
+pub scaled_answer : {A B : Type 0} (rs : List Reason) (x : A) (test : A → Bool) (f : A → B) → IsLow (least rs)
     → (answer (least rs) x >>= λ y. cond (test y) (Err ScaleRange) (Ok (f y))) ≡ answer (least (rs ++ when (test x) ScaleRange)) (f x)
-scaled_answer {A} {B} rs x test f = rw (least-append rs (when (test x) ScaleRange)) (by_case (least rs) (test x) refl)
+scaled_answer {A} {B} rs x test f low = rw (least-append rs (when (test x) ScaleRange)) (by_case (least rs) (test x) refl low)
   where
-    by_case : (o : Option Reason) (b : Bool) → test x ≡ b → (answer o x >>= λ y. cond (test y) (Err ScaleRange) (Ok (f y))) ≡ answer (lesser_of o (least (when b ScaleRange))) (f x)
-    by_case None true is = rw is refl
-    by_case None false is = rw is refl
-    by_case (Some r) true is = rw (scale_last r) refl
-    by_case (Some r) false is = refl
+    by_case : (o : Option Reason) (b : Bool) → test x ≡ b → IsLow o → (answer o x >>= λ y. cond (test y) (Err ScaleRange) (Ok (f y))) ≡ answer (lesser_of o (least (when b ScaleRange))) (f x)
+    by_case None true is low = rw is refl
+    by_case None false is low = rw is refl
+    by_case (Some r) true is low = rw (scale_last r low) refl
+    by_case (Some r) false is low = refl

@@ -8,5 +8,7 @@ pub mod Least
 pub mod WordReasons
 pub mod Agreeing
 pub mod Whole
+pub mod FileKinds
 pub mod OneAnswer
+pub mod Alike
 pub mod WrittenWords

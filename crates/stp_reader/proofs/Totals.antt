@@ -3,6 +3,7 @@ use Rattle.std.proofs.Common.{◌≡◌, ℕ, ◌+◌, ◌*◌, ◌/◌, ◌^◌
 use Rattle.std.specs.Prelude.{All}
 use Rattle.std.specs.List.{AllByRecursion, list_any}
 use Rattle.std.proofs.lemmas.Bool.Decides.{nat_tests}
+use Rattle.std.proofs.lemmas.List.{append-nil}
 use Rattle.std.proofs.lemmas.List.Elements.{All-map, All-weaker, recursion_from_All}
 use Rattle.std.proofs.lemmas.List.Folds.{list_any-append}
 use Rattle.std.proofs.Math.Nat.{div-lt_iff_lt-mul}
@@ -15,7 +16,8 @@ use Rattle.st_model.specs.Lists.{total}
 use Rattle.st_model.specs.Network.{IsVertex, prize}
 use Rattle.stp_reader.specs.declared.seen.Seen.{Seen}
 use Rattle.stp_reader.specs.declared.stage.FilePart.{FilePart}
-use Rattle.stp_reader.specs.Reached.{IsStatedLink, IsStatedNeed, IsSeen, IsFile}
+use Rattle.stp_reader.specs.declared.stage.DiFilePart.{DiFilePart}
+use Rattle.stp_reader.specs.Reached.{IsStatedLink, IsStatedNeed, IsSeen, IsFile, IsDiFile}
 use Rattle.stp_reader.specs.Unit.{is_fractional, is_large, amounts_of, scale_of, in_unit, link_in, need_in, stated_in}
 
 -- an amount that a word may say, and which isn't large where the unit is a millionth
@@ -81,6 +83,15 @@ is_payable f scale fits unit =
     let few_links = fits.graph.few in
     let few_needs = fits.few in
     omega (arith, costs, prizes, few_links, few_needs)
+
+pub are_payable : (f : DiFilePart) (scale : Scale) → IsDiFile f → scale ≡ scale_of (amounts_of f.arcs.items []) → total (λ l. l.cost) (map (link_in scale) f.arcs.items) < 2 ^ 63
+are_payable f scale fits unit =
+    let all : List ℕ = amounts_of f.arcs.items [] in
+    let alone : list_any is_large (amounts_of f.arcs.items []) ≡ list_any is_large (map (λ l. l.cost) f.arcs.items) = ap (list_any is_large) (append-nil (map (λ l. l.cost) f.arcs.items)) in
+    let low : scale ≡ Millionths → list_any is_large (map (λ l. l.cost) f.arcs.items) ≡ false = λ e. sym alone ∙ none_large f.seen all fits.seen (sym unit ∙ e) in
+    let costs = costs_bound scale f.arcs.items (small_costs f.vertices scale f.arcs.items (recursion_from_All (IsStatedLink f.vertices) f.arcs.items fits.graph.are_links.fit) low) in
+    let few = fits.graph.few in
+    omega (arith, costs, few)
 
 -- ---- all ends and needs are of vertices
 

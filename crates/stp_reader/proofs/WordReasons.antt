@@ -6,7 +6,7 @@ use Rattle.st_model.specs.declared.need.Need.{Need}
 use Rattle.st_model.specs.declared.need.Need.TheVariants.{Pays}
 use Rattle.stp_reader.specs.declared.reason.Reason.{Reason}
 use Rattle.stp_reader.specs.declared.reason.Reason.TheVariants.{BadNumber, Fraction, OutOfRange, VertexRange, NoVertices, RepeatedPrize}
-use Rattle.stp_reader.specs.Reason.{code_of, lesser_of, least, when}
+use Rattle.stp_reader.specs.Reason.{lesser_of, least, when}
 use Rattle.plain_text.specs.Numbers.{is_number, value}
 use Rattle.amounts.specs.Amounts.{is_amount, ends_in_time, whole_part, millionths}
 use Rattle.stp_reader.specs.Amounts.{count_reasons, nodes_reasons, vertex_reasons, amount_reasons}
@@ -14,7 +14,7 @@ use Rattle.stp_reader.specs.Judged.{◌>>=◌, both, count, nodes, vertex, amoun
 use Rattle.stp_reader.specs.Judging.{link_of, prize_of}
 use Rattle.stp_reader.specs.Place.{link_said}
 use Rattle.stp_reader.specs.Reasons.{has_prize}
-use Rattle.stp_reader.proofs.Least.{answer, least-append, both_answer, then_answer}
+use Rattle.stp_reader.proofs.Least.{answer, least-append, both_answer, then_answer, IsLow, IsLow-lesser}
 
 pub count_answer : (limit : ℕ) (word : List ℕ) → count limit word ≡ answer (least (count_reasons limit word)) (value word)
 unfolding count
@@ -69,20 +69,7 @@ link_answer n u v c =
     (then_answer (least (vertex_reasons n u ++ (vertex_reasons n v ++ amount_reasons c))) three link_from) in
     judged ∙ ap (λ (rs : List Reason). answer (least rs) (link_from three)) (sym (append_assoc (vertex_reasons n u) (vertex_reasons n v) (amount_reasons c)))
 
--- ---- a second prize is the greatest reason of its line
-
-abbrev IsLow : Option Reason → Type 0
-IsLow None = Unit {0}
-IsLow (Some r) = leb (code_of r) 11 ≡ true
-
-IsLow-lesser : (a b : Option Reason) → IsLow a → IsLow b → IsLow (lesser_of a b)
-IsLow-lesser None b h k = k
-IsLow-lesser (Some r) None h k = h
-IsLow-lesser (Some r) (Some q) h k = by_case (leb (code_of r) (code_of q))
-  where
-    by_case : (test : Bool) → leb (code_of (cond test r q)) 11 ≡ true
-    by_case true = h
-    by_case false = k
+-- ---- the reasons of a line of links or prizes are low, and a second prize is the greatest of them
 
 vertex_low : (n : ℕ) (word : List ℕ) → IsLow (least (vertex_reasons n word))
 vertex_low n word = by_case (is_number word) (leb 1 (value word) && leb (value word) n)
@@ -123,3 +110,18 @@ prize_answer n needs v p =
     let both_say : both (vertex n v) (amount p) ≡ answer (least own) said = rw (vertex_answer n v, amount_answer p) (both_answer (vertex_reasons n v) (amount_reasons p) (value v) (millionths p)) in
     let judged : prize_of n needs v p ≡ answer (lesser_of (least own) (least third)) (prize_from said) = rw both_say (second_prize (least own) said (has_prize needs) (has_prize needs (value v)) low refl) in
     judged ∙ ap (λ (o : Option Reason). answer o (prize_from said)) (sym all)
+
+pub link_low : (n : ℕ) (u v c : List ℕ) → IsLow (least (vertex_reasons n u ++ vertex_reasons n v ++ amount_reasons c))
+link_low n u v c =
+    let ends : IsLow (least (vertex_reasons n u ++ vertex_reasons n v)) = rw (least-append (vertex_reasons n u) (vertex_reasons n v)) (IsLow-lesser (least (vertex_reasons n u)) (least (vertex_reasons n v)) (vertex_low n u) (vertex_low n v)) in
+    rw (least-append (vertex_reasons n u ++ vertex_reasons n v) (amount_reasons c)) (IsLow-lesser (least (vertex_reasons n u ++ vertex_reasons n v)) (least (amount_reasons c)) ends (amount_low c))
+
+second_low : (test : Bool) → IsLow (least (when test RepeatedPrize))
+second_low true = refl
+second_low false = tt
+
+pub prize_low : (n : ℕ) (needs : List (ℕ × Need)) (v p : List ℕ) → IsLow (least (vertex_reasons n v ++ amount_reasons p ++ when (has_prize needs (value v)) RepeatedPrize))
+prize_low n needs v p =
+    let own : IsLow (least (vertex_reasons n v ++ amount_reasons p)) = rw (least-append (vertex_reasons n v) (amount_reasons p)) (IsLow-lesser (least (vertex_reasons n v)) (least (amount_reasons p)) (vertex_low n v) (amount_low p)) in
+    let third = when (has_prize needs (value v)) RepeatedPrize in
+    rw (least-append (vertex_reasons n v ++ amount_reasons p) third) (IsLow-lesser (least (vertex_reasons n v ++ amount_reasons p)) (least third) own (second_low (has_prize needs (value v))))

@@ -1,7 +1,7 @@
 -- What a line is by its words alone, wherever it stands.
 use Rattle.std.specs.Prelude.{ℕ, Bool, true, false, if◌then◌else◌, List, [], ◌∷◌, Option, Some, None, option_map, unwrap_or}
 use Rattle.stp_reader.specs.declared.keyword.Keyword.{Keyword}
-use Rattle.stp_reader.specs.declared.keyword.Keyword.TheVariants.{Section, Eof, End, Nodes, Edges, Edge, Arcs, Count, Terminal, Prize, Root, Pinned, Other}
+use Rattle.stp_reader.specs.declared.keyword.Keyword.TheVariants.{Section, Eof, End, Nodes, Edges, Edge, Arcs, Arc, Count, Terminal, Prize, Root, Pinned, Other}
 use Rattle.stp_reader.specs.Words.{keyword_of}
 
 pub data Form : Type 0 where
@@ -11,19 +11,24 @@ pub data Form : Type 0 where
   -- `EOF` and `END` alone
   eof_line : Form
   end_line : Form
-  -- `Nodes n`, `Edges m`, `E u v c`
+  -- `Nodes n`
   nodes_line : List ℕ → Form
+  -- `Edges m` and `E u v c`, and any other line whose first word is Edges or E
   edges_line : List ℕ → Form
   edge_line : List ℕ → List ℕ → List ℕ → Form
-  -- any line whose first word is Arcs or A
-  arcs_line : Form
+  bad_edges_line : Form
+  -- `Arcs m` and `A u v c`, and any other line whose first word is Arcs, or A
+  arcs_line : List ℕ → Form
+  arc_line : List ℕ → List ℕ → List ℕ → Form
+  bad_arcs_line : Form
+  bad_arc_line : Form
   -- `Terminals t`, `T v`, `TP v p`, `Root r`, `RootP v`
   count_line : List ℕ → Form
   terminal_line : List ℕ → Form
   prize_line : List ℕ → List ℕ → Form
   root_line : List ℕ → Form
   pinned_line : List ℕ → Form
-  -- any other line, also one of these keywords with another number of words
+  -- any other line, also one of the other keywords with another number of words
   other_line : Form
 
 -- the words after a keyword, where there are exactly so many
@@ -49,9 +54,10 @@ form_of Section args = unwrap_or (option_map section_line (one args)) nameless_l
 form_of Eof args = if none args then eof_line else other_line
 form_of End args = if none args then end_line else other_line
 form_of Nodes args = unwrap_or (option_map nodes_line (one args)) other_line
-form_of Edges args = unwrap_or (option_map edges_line (one args)) other_line
-form_of Edge args = unwrap_or (option_map (λ w. edge_line w.0 w.1 w.2) (three args)) other_line
-form_of Arcs args = arcs_line
+form_of Edges args = unwrap_or (option_map edges_line (one args)) bad_edges_line
+form_of Edge args = unwrap_or (option_map (λ w. edge_line w.0 w.1 w.2) (three args)) bad_edges_line
+form_of Arcs args = unwrap_or (option_map arcs_line (one args)) bad_arcs_line
+form_of Arc args = unwrap_or (option_map (λ w. arc_line w.0 w.1 w.2) (three args)) bad_arc_line
 form_of Count args = unwrap_or (option_map count_line (one args)) other_line
 form_of Terminal args = unwrap_or (option_map terminal_line (one args)) other_line
 form_of Prize args = unwrap_or (option_map (λ w. prize_line w.0 w.1) (two args)) other_line

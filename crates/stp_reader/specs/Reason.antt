@@ -1,7 +1,7 @@
 -- The numbers and names of what can be wrong with a line of an STP file, and the least of several.
 use Rattle.std.specs.Prelude.{ℕ, Bool, List, [], ◌∷◌, Option, Some, None, nat_le, if◌then◌else◌, codes}
 use Rattle.stp_reader.specs.declared.reason.Reason.{Reason}
-use Rattle.stp_reader.specs.declared.reason.Reason.TheVariants.{NoHeader, BadLine, UnknownSection, RepeatedSection, GraphFirst, BadNumber, Fraction, OutOfRange, VertexRange, CountMismatch, RepeatedPrize, RootNotTerminal, Directed, Unclosed, NoGraph, NoTerminals, NoVertices, ScaleRange}
+use Rattle.stp_reader.specs.declared.reason.Reason.TheVariants.{NoHeader, BadLine, UnknownSection, RepeatedSection, GraphFirst, BadNumber, Fraction, OutOfRange, VertexRange, CountMismatch, RepeatedPrize, RootNotTerminal, Directed, Unclosed, NoGraph, NoTerminals, NoVertices, ScaleRange, NoRoot}
 
 abbrev pub code_of : Reason → ℕ
 code_of NoHeader = 1
@@ -22,6 +22,7 @@ code_of NoGraph = 15
 code_of NoTerminals = 16
 code_of NoVertices = 17
 code_of ScaleRange = 18
+code_of NoRoot = 19
 
 abbrev pub name_of : Reason → List ℕ
 name_of NoHeader = codes "NoHeader"
@@ -42,6 +43,7 @@ name_of NoGraph = codes "NoGraph"
 name_of NoTerminals = codes "NoTerminals"
 name_of NoVertices = codes "NoVertices"
 name_of ScaleRange = codes "ScaleRange"
+name_of NoRoot = codes "NoRoot"
 
 -- the reason with the lower number
 abbrev pub lesser : Reason → Reason → Reason

@@ -2,7 +2,7 @@
 use Rattle.std.specs.Prelude.{ℕ, ◌||◌, Bool, if◌then◌else◌, List, codes}
 use Rattle.std.specs.Str.{str_eq_ignore_ascii_case}
 use Rattle.stp_reader.specs.declared.keyword.Keyword.{Keyword}
-use Rattle.stp_reader.specs.declared.keyword.Keyword.TheVariants.{Section, Eof, End, Nodes, Edges, Edge, Arcs, Count, Terminal, Prize, Root, Pinned, Other}
+use Rattle.stp_reader.specs.declared.keyword.Keyword.TheVariants.{Section, Eof, End, Nodes, Edges, Edge, Arcs, Arc, Count, Terminal, Prize, Root, Pinned, Other}
 use Rattle.stp_reader.specs.declared.keyword.SectionName.{SectionName}
 use Rattle.stp_reader.specs.declared.keyword.SectionName.TheVariants.{Graph, Terminals, Passed, Unknown}
 
@@ -25,7 +25,8 @@ keyword_of word =
     if is_word word (codes "SECTION") then Section else
     if is_word word (codes "Nodes") then Nodes else
     if is_word word (codes "Edges") then Edges else
-    if is_word word (codes "Arcs") || is_word word (codes "A") then Arcs else
+    if is_word word (codes "Arcs") then Arcs else
+    if is_word word (codes "A") then Arc else
     if is_word word (codes "Terminals") then Count else
     if is_word word (codes "Root") then Root else
     if is_word word (codes "RootP") then Pinned else

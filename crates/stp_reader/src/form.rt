@@ -18,7 +18,14 @@ pub enum Form<'a> {
     Nodes(&'a [u8]),
     Edges(&'a [u8]),
     Edge(&'a [u8], &'a [u8], &'a [u8]),
-    Arcs,
+    /// `Edges` or `E` with another number of words.
+    BadEdges,
+    Arcs(&'a [u8]),
+    Arc(&'a [u8], &'a [u8], &'a [u8]),
+    /// `Arcs` with another number of words.
+    BadArcs,
+    /// `A` with another number of words.
+    BadArc,
     Count(&'a [u8]),
     Terminal(&'a [u8]),
     Prize(&'a [u8], &'a [u8]),
@@ -57,13 +64,20 @@ pub fn form_of<'a>(word: &[u8], args: &'a [u8]) -> Form<'a>
         },
         Keyword::Edges => match one_word(args) {
             Some(count) => Form::Edges(count),
-            None => Form::Other,
+            None => Form::BadEdges,
         },
         Keyword::Edge => match three_words(args) {
             Some((first, second, cost)) => Form::Edge(first, second, cost),
-            None => Form::Other,
+            None => Form::BadEdges,
         },
-        Keyword::Arcs => Form::Arcs,
+        Keyword::Arcs => match one_word(args) {
+            Some(count) => Form::Arcs(count),
+            None => Form::BadArcs,
+        },
+        Keyword::Arc => match three_words(args) {
+            Some((tail, head, cost)) => Form::Arc(tail, head, cost),
+            None => Form::BadArc,
+        },
         Keyword::Count => match one_word(args) {
             Some(count) => Form::Count(count),
             None => Form::Other,

@@ -10,8 +10,10 @@ pub enum Keyword {
     Nodes,
     Edges,
     Edge,
-    /// `Arcs` or `A`, which stand in the file of a directed graph.
+    /// How many arcs there are, in the file of a directed graph.
     Arcs,
+    /// One of these arcs.
+    Arc,
     /// How many terminals there are.
     Count,
     Terminal,
@@ -60,8 +62,10 @@ pub fn keyword_of(word: &[u8]) -> Keyword
         Keyword::Nodes
     } else if is_word(word, b"Edges") {
         Keyword::Edges
-    } else if is_word(word, b"Arcs") || is_word(word, b"A") {
+    } else if is_word(word, b"Arcs") {
         Keyword::Arcs
+    } else if is_word(word, b"A") {
+        Keyword::Arc
     } else if is_word(word, b"Terminals") {
         Keyword::Count
     } else if is_word(word, b"Root") {

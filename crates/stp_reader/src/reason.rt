@@ -29,7 +29,7 @@ pub enum Reason {
     RepeatedPrize,
     /// A root that no line requires.
     RootNotTerminal,
-    /// A line of arcs.
+    /// A line of arcs in a file of links, or of links in a directed file.
     Directed,
     /// A section without its end.
     Unclosed,
@@ -41,10 +41,12 @@ pub enum Reason {
     NoVertices,
     /// An amount has decimals, and one is above a million.
     ScaleRange,
+    /// A directed file without a line `Root`.
+    NoRoot,
 }
 
 impl Reason {
-    /// The reason's number, from 1 to 18. Of several reasons on a line the lowest counts.
+    /// The reason's number, from 1 to 19. Of several reasons on a line the lowest counts.
     pub fn code(self) -> u8
         ensures { result ≡ code_of self }
     {
@@ -67,6 +69,7 @@ impl Reason {
             Reason::NoTerminals => 16,
             Reason::NoVertices => 17,
             Reason::ScaleRange => 18,
+            Reason::NoRoot => 19,
         }
     }
 
@@ -93,6 +96,7 @@ impl Reason {
             Reason::NoTerminals => "NoTerminals",
             Reason::NoVertices => "NoVertices",
             Reason::ScaleRange => "ScaleRange",
+            Reason::NoRoot => "NoRoot",
         }
     }
 

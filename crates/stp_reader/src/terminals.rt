@@ -19,10 +19,10 @@ use st_model::{Need, VertexSet};
 use std::alloc::{AllocError, Global};
 
 /// The greatest number of terminals that a file may state.
-const MAX_TERMINALS: u64 = 2_000_000;
+pub const MAX_TERMINALS: u64 = 2_000_000;
 
-// The vertex of a line `Root r` or `RootP v`, where no such line stood before.
-fn root_of(vertices: u32, root: Option<u32>, word: &[u8]) -> Result<u32, Reason>
+/// The vertex of a line `Root r` or `RootP v`, where no such line stood before.
+pub fn root_of(vertices: u32, root: Option<u32>, word: &[u8]) -> Result<u32, Reason>
     ensures vertex { result ≡ root_of vertices root word.now }
     ensures in_range { IfOk result (IsVertex vertices) }
 {

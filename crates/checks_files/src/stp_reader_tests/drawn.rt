@@ -5,10 +5,10 @@ use amounts::Scale;
 use st_model::{Instance, Need};
 use std::alloc::{AllocError, Global};
 use std::test::Fail;
-use stp_reader::{Reading, read_stp};
+use stp_reader::{File, Reading, read_file, read_stp};
 
 /// The next of some numbers that look random, below a limit.
-fn draw(state: &mut u64, below: u64) -> u64
+pub fn draw(state: &mut u64, below: u64) -> u64
     requires { 0 < below }
     ensures { result < below }
 {
@@ -27,7 +27,7 @@ fn drawn_amount(state: &mut u64, zeros: u64) -> u64 {
 }
 
 /// A vertex from 1 to 5.
-fn drawn_vertex(state: &mut u64) -> u32 {
+pub fn drawn_vertex(state: &mut u64) -> u32 {
     1 + draw(state, 5) as u32
 }
 
@@ -47,7 +47,7 @@ struct Drawn {
 }
 
 /// One to six links.
-fn drawn_links(
+pub fn drawn_links(
     alloc: Global,
     state: &mut u64,
     zeros: u64,
@@ -88,7 +88,7 @@ fn drawn_file(alloc: Global, state: &mut u64) -> Result<Drawn, AllocError> {
 }
 
 /// An amount of at most seven digits with a point before so many of the last, or without one.
-fn shifted(alloc: Global, amount: u64, places: usize) -> Result<String, AllocError> {
+pub fn shifted(alloc: Global, amount: u64, places: usize) -> Result<String, AllocError> {
     if places == 0 {
         return format!(in alloc; "{amount}");
     }
@@ -165,7 +165,7 @@ fn text_of(alloc: Global, drawn: &Drawn, places: usize) -> Result<String, AllocE
 }
 
 /// Whether so many units are no whole, where a unit is so many millionths.
-fn is_fraction(amount: u64, unit: u64) -> bool {
+pub fn is_fraction(amount: u64, unit: u64) -> bool {
     amount.saturating_mul(unit) % 1_000_000 != 0
 }
 
@@ -185,7 +185,7 @@ fn scale_of(drawn: &Drawn, unit: u64) -> Scale {
 }
 
 /// So many units at a scale.
-fn at_scale(amount: u64, unit: u64, scale: Scale) -> u64 {
+pub fn at_scale(amount: u64, unit: u64, scale: Scale) -> u64 {
     let millionths = amount.saturating_mul(unit);
     match scale {
         Scale::Whole => millionths / 1_000_000,
@@ -272,6 +272,38 @@ fn read_scale(
     } else {
         Ok(None)
     }
+}
+
+/// Whether the text of a drawn file is read as that file where directed files are read, too.
+fn is_read_alike(alloc: Global, drawn: &Drawn, places: usize, unit: u64) -> Result<bool, Fail> {
+    let text = text_of(alloc, drawn, places)?;
+    match read_file(alloc, text.as_bytes())? {
+        File::Plain(read) => Ok(is_drawn(&read, drawn, unit)),
+        File::Directed { .. } => Ok(false),
+    }
+}
+
+/// Whether a further drawn file is read so.
+fn next_is_read_alike(
+    alloc: Global,
+    state: &mut u64,
+    places: usize,
+    unit: u64,
+) -> Result<bool, Fail> {
+    let drawn = drawn_file(alloc, state)?;
+    is_read_alike(alloc, &drawn, places, unit)
+}
+
+#[test]
+fn reads_drawn_files_alike(rt: HostRuntime) -> Result<(), Fail> {
+    let mut state = 11;
+    for row in DIVIDED {
+        let (places, unit) = *row;
+        for _file in 0..50 {
+            assert!(rt; next_is_read_alike(rt.alloc(), &mut state, places, unit)?);
+        }
+    }
+    Ok(())
 }
 
 /// How many of 300 drawn files count wholes, divided by so many tens; none where one isn't read as it is meant.

@@ -1,5 +1,5 @@
 use super::{
-    Case, Change, HEADER, SIDES, STAR_NEEDS, changed, is_change_refused, is_instance, is_read,
+    Case, Change, HEADER, SIDES, STAR, STAR_NEEDS, changed, is_change_refused, is_instance, is_read,
 };
 use amounts::Scale;
 use st_model::Need;
@@ -77,7 +77,7 @@ const READ: &[(&str, &[u8], &[Need])] = &[
 
 /// Whether the star's file with this in the place of that is read with these needs.
 fn is_change_read(alloc: Global, from: &str, to: &[u8], needs: &[Need]) -> Result<bool, Fail> {
-    let text = changed(alloc, from, to)?;
+    let text = changed(alloc, STAR, from, to)?;
     let read = read_stp(alloc, &text)?;
     Ok(read.scale == Scale::Whole && is_instance(alloc, &read.instance, SIDES, needs)?)
 }

@@ -6,13 +6,13 @@ use Rattle.stp_reader.proofs.Seeing.{seen_link}
 use Rattle.stp_reader.proofs.graph.add_link.Goals as goal
 
 pub returns-clause-reached : goal.returns-clause-reached
-returns-clause-reached c =
+returns-clause-reached c = λ m before.
     let graph = c.args.graph.now in
     record {
       links = record {
-        count = c.requires.links.count;
-        fit = rw c.in_ok-push.ensures.items (All-append (IsStatedLink graph.vertices) graph.links.items (c.in_ok-link.link ∷ []) c.requires.links.fit (search (rules, c.in_ok-link.ensures.in_range)));
+        count = before.links.count;
+        fit = rw c.in_ok-push.ensures.items (All-append (IsStatedLink graph.vertices) graph.links.items (c.in_ok-link.link ∷ []) before.links.fit (search (rules, c.in_ok-link.ensures.in_range)));
       };
-      seen = rw c.in_ok-push.ensures.items (seen_link c.in_ok-graph.field-0 graph.links.items c.in_ok-link.link (c.in_ok-graph.ensures.seen (amounts_of graph.links.items []) c.requires.seen));
-      few = c.requires.few;
+      seen = rw c.in_ok-push.ensures.items (seen_link c.in_ok-graph.field-0 graph.links.items c.in_ok-link.link (c.in_ok-graph.ensures.seen (amounts_of graph.links.items []) before.seen));
+      few = before.few;
     }
