@@ -8,7 +8,7 @@ use Rattle.arborescence.specs.Problem.{Problem, plain, IsProblem}
 use Rattle.stp_reader.specs.declared.fault.ReadError as file
 use Rattle.stp_reader.specs.declared.fault.ReadError.TheVariants as file_error
 use Rattle.stp_reader.specs.declared.reason.Reason.{Reason}
-use Rattle.stp_reader.specs.Reads.{Reads}
+use Rattle.stp_reader.specs.Reads.{Reads, ReadsFile}
 use Rattle.log_format.specs.Accepts.{AcceptedOfAProblemHolds}
 use Rattle.log_format.specs.Text.{AreWhole, Begins}
 use Rattle.log_format.proofs.WholeLines.{is_text}
@@ -16,7 +16,7 @@ use Rattle.cert_checker.specs.declared.fault.CheckFault.{CheckFault}
 use Rattle.cert_checker.specs.declared.fault.CheckFault.TheVariants.{Stp, Log, NoMemory}
 use Rattle.cert_checker.specs.declared.verdict.Verdict.{Verdict}
 use Rattle.cert_checker.specs.declared.verdict.Checked.{Checked}
-use Rattle.cert_checker.specs.Checking.{IsTextOf, IsAcceptedTextIn, IsWrongTextIn, IsAnswer}
+use Rattle.cert_checker.specs.Checking.{IsTextOf, IsAcceptedTextIn, IsWrongTextIn, IsAnswer, IsFileAnswer}
 use Rattle.cert_checker.specs.Fault.{fault_of_file}
 use Rattle.cert_checker.specs.Hearing.{AreTaken, IsJudgementOf, AreJudged, IsFed}
 use Rattle.cert_checker.specs.Held.{AreHeld, IsHeld}
@@ -92,6 +92,17 @@ pub fed_answers : (stp log : List ℕ) (I : Network) (first fed : Pieces) (resul
 fed_answers stp log I first fed result reads is same unit all answer =
     subst (λ (t : List ℕ). IsAnswer stp t result) all (answers_of stp I fed result (subst (Reads stp I) (sym unit) reads) (same ∙ is) answer)
 
+-- the same of a file of either kind
+file_answers_of : (stp : List ℕ) (p : Pieces) (result : Result Checked CheckFault) → ReadsFile stp p.problem p.scale → IsAnswerTo p result → IsFileAnswer stp p.text result
+file_answers_of stp p (Ok checked) reads answer = (p.problem, subst (ReadsFile stp p.problem) (sym answer.1) reads, answer.0)
+file_answers_of stp p (Err (Log f)) reads answer = (p.problem, p.scale, reads, answer)
+file_answers_of stp p (Err e) reads answer = absurd answer
+
+pub fed_file_answers : (stp log : List ℕ) (first fed : Pieces) (result : Result Checked CheckFault) → ReadsFile stp first.problem first.scale → fed.problem ≡ first.problem → fed.scale ≡ first.scale → fed.text ≡ log → IsAnswerTo fed result → IsFileAnswer stp log result
+fed_file_answers stp log first fed result reads same unit all answer =
+    let of_file : ReadsFile stp fed.problem fed.scale = subst (λ (K : Problem). ReadsFile stp K fed.scale) (sym same) (subst (ReadsFile stp first.problem) (sym unit) reads) in
+    subst (λ (t : List ℕ). IsFileAnswer stp t result) all (file_answers_of stp fed result of_file answer)
+
 -- ---- the verdict and its unit
 
 -- what a check answers
@@ -126,8 +137,16 @@ pieces K scale text = record { problem = K; scale = scale; text = text }
 pub made_of : (I J : Network) (first : Pieces) (scale unit : Scale) → J ≡ I → unit ≡ scale → first ≡ pieces (plain J) unit [] → first ≡ pieces (plain I) scale []
 made_of I J first scale unit same of_it is = is ∙ (λ i. pieces (plain (same i)) (of_it i) [])
 
+-- the same of a file of either kind
+pub made_of_file : (K L : Problem) (first : Pieces) (scale unit : Scale) → L ≡ K → unit ≡ scale → first ≡ pieces L unit [] → first ≡ pieces K scale []
+made_of_file K L first scale unit same of_it is = is ∙ (λ i. pieces (same i) (of_it i) [])
+
+pub concludes_file : (K : Problem) (scale : Scale) (first fed : Pieces) (result : Result Checked CheckFault) → first ≡ pieces K scale [] → fed.problem ≡ first.problem
+    → IfOk result (λ checked. ConcludesIn fed.problem checked.verdict) → IfOk result (λ checked. ConcludesIn K checked.verdict)
+concludes_file K scale first fed result is same concludes =
+    subst (λ (L : Problem). IfOk result (λ checked. ConcludesIn L checked.verdict)) (same ∙ ap (λ (p : Pieces). p.problem) is) concludes
+
 -- what is concluded of the problem of a checker is concluded of the file's instance
 pub concludes_fed : (I : Network) (scale : Scale) (first fed : Pieces) (result : Result Checked CheckFault) → first ≡ pieces (plain I) scale [] → fed.problem ≡ first.problem
     → IfOk result (λ checked. ConcludesIn fed.problem checked.verdict) → IfOk result (λ checked. Concludes I checked.verdict)
-concludes_fed I scale first fed result is same concludes =
-    subst (λ (K : Problem). IfOk result (λ checked. ConcludesIn K checked.verdict)) (same ∙ ap (λ (p : Pieces). p.problem) is) concludes
+concludes_fed I scale first fed result is same concludes = concludes_file (plain I) scale first fed result is same concludes

@@ -3,7 +3,8 @@ use Rattle.std.specs.Prelude.{◌≡◌, ℕ, ◌⊎◌, List, Result, Ok, Err}
 use Rattle.amounts.specs.declared.scale.Scale.{Scale}
 use Rattle.st_model.specs.Network.{Network}
 use Rattle.arborescence.specs.Problem.{Problem, plain}
-use Rattle.stp_reader.specs.Reads.{Reads, Refused}
+use Rattle.stp_reader.specs.Reads.{Reads, ReadsFile, Refused, RefusedFile}
+use Rattle.stp_reader.specs.declared.reason.Reason.{Reason}
 use Rattle.log_format.specs.declared.kind.Kind.{Kind}
 use Rattle.log_format.specs.declared.log.Log as log_type
 use Rattle.log_format.specs.Accepts.{AcceptsIn, RejectsIn}
@@ -41,6 +42,17 @@ IsAnswer stp bytes (Ok checked) = (I : Network) × Reads stp I checked.scale × 
 IsAnswer stp bytes (Err (Stp f)) = Refused stp f.line f.reason
 IsAnswer stp bytes (Err (Log f)) = (I : Network) × (scale : Scale) × Reads stp I scale × IsWrongText I bytes f.line f.kind
 IsAnswer stp bytes (Err NoMemory) = Unit {0}
+
+-- the same where the file is read so as a problem, and refused so
+abbrev pub IsAnswerBy : (Problem → Scale → Type 0) → (ℕ → Reason → Type 0) → List ℕ → Result Checked CheckFault → Type 0
+IsAnswerBy Reading Refusal bytes (Ok checked) = (p : Problem) × Reading p checked.scale × IsAcceptedTextIn p bytes checked.verdict
+IsAnswerBy Reading Refusal bytes (Err (Stp f)) = Refusal f.line f.reason
+IsAnswerBy Reading Refusal bytes (Err (Log f)) = (p : Problem) × (scale : Scale) × Reading p scale × IsWrongTextIn p bytes f.line f.kind
+IsAnswerBy Reading Refusal bytes (Err NoMemory) = Unit {0}
+
+-- why this is answered of a file of either kind
+abbrev pub IsFileAnswer : List ℕ → List ℕ → Result Checked CheckFault → Type 0
+IsFileAnswer file bytes result = IsAnswerBy (ReadsFile file) (RefusedFile file) bytes result
 
 -- this is answered, unless memory ran out
 abbrev pub Answers : Result Checked CheckFault → Result Checked CheckFault → Type 0

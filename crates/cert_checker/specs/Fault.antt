@@ -1,6 +1,6 @@
 -- The faults of a file as those of a check.
 use Rattle.std.specs.Prelude.{ℕ, List}
-use Rattle.stp_reader.specs.Reads.{Refused}
+use Rattle.stp_reader.specs.Reads.{Refused, RefusedFile}
 use Rattle.stp_reader.specs.declared.fault.ReadError as file
 use Rattle.stp_reader.specs.declared.fault.ReadError.TheVariants as file_error
 use Rattle.cert_checker.specs.declared.fault.CheckFault.{CheckFault}
@@ -16,3 +16,9 @@ abbrev pub IsFaultOfFile : List ℕ → CheckFault → Type 0
 IsFaultOfFile stp (Stp f) = Refused stp f.line f.reason
 IsFaultOfFile stp (Log f) = ⊥
 IsFaultOfFile stp NoMemory = Unit {0}
+
+-- the same of a file of either kind
+abbrev pub IsFaultOfAnyFile : List ℕ → CheckFault → Type 0
+IsFaultOfAnyFile file (Stp f) = RefusedFile file f.line f.reason
+IsFaultOfAnyFile file (Log f) = ⊥
+IsFaultOfAnyFile file NoMemory = Unit {0}

@@ -2,13 +2,14 @@ ghost use Rattle.std.specs.Prelude.{◌≡◌, ℕ, ◌+◌, ◌^◌, ◌<◌, [
 ghost use Rattle.plain_text.specs.Pieces.{cut};
 ghost use Rattle.st_model.specs.Network.{Network};
 ghost use Rattle.stp_reader.specs.declared.reason.Reason.{Reason};
-ghost use Rattle.stp_reader.specs.Reads.{Reads, Refused};
+ghost use Rattle.stp_reader.specs.Answer.{problem_read, scale_read};
+ghost use Rattle.stp_reader.specs.Reads.{Reads, ReadsFile, Refused, RefusedFile};
 ghost use Rattle.log_format.specs.declared.kind.Kind.{Kind as LogKind};
 ghost use Rattle.cert_checker.specs.declared.fault.CheckFault.TheVariants.{Stp, Log, NoMemory};
 ghost use Rattle.cert_checker.specs.declared.verdict.Verdict.{Verdict as Conclusion};
-ghost use Rattle.arborescence.specs.Problem.{plain};
+ghost use Rattle.arborescence.specs.Problem.{Problem, plain};
 ghost use Rattle.cert_checker.specs.Checking.{IsAcceptedTextIn, IsWrongTextIn};
-ghost use Rattle.cert_checker.specs.Fault.{IsFaultOfFile};
+ghost use Rattle.cert_checker.specs.Fault.{IsFaultOfAnyFile, IsFaultOfFile};
 ghost use Rattle.cert_checker.specs.Held.{IsHeld};
 ghost use Rattle.cert_checker.specs.Pieces.{IsAnswerTo, IsVerdictOn};
 ghost use Rattle.amounts.specs.declared.scale.Scale.{Scale as FileScale};
@@ -27,7 +28,7 @@ use log_format::{
 use plain_text::cut_at;
 use std::alloc::{AllocError, Global};
 use std::marker::Model;
-use stp_reader::read_stp;
+use stp_reader::{File, Reading, read_file, read_stp};
 
 /// A checker of a log that comes in pieces.
 #[derive(Drop)]
@@ -71,6 +72,40 @@ impl Checker {
         let reading = read_stp(alloc, stp)?;
         let scale = reading.scale;
         Ok(Checker::on(alloc, Posed::Plain(reading.instance), scale))
+    }
+
+    /// A checker of logs on the problem of an STP file, undirected or directed, to which nothing was fed.
+    pub fn begin_file(alloc: Global, stp: &[u8]) -> Result<Checker, CheckFault>
+        // It is of the problem that the file stands for, and its scale.
+        ensures found { IfOk result (λ c. ReadsFile stp.now c.problem c.scale × (c.text ≡ [])) }
+        // The problem that the file stands for is that of the checker, unless memory runs out.
+        ensures only { (p : Problem) (scale : FileScale) → ReadsFile stp.now p scale → MatchResult result
+            (λ c. c ≡ record { problem = p; scale = scale; text = [] }) (λ e. e ≡ NoMemory) }
+        // A fault is the first of the file.
+        ensures fault { IfErr result (IsFaultOfAnyFile stp.now) }
+        // A file that is refused is answered so, unless memory runs out.
+        ensures refused { (line : ℕ) (reason : Reason) → RefusedFile stp.now line reason → IsErrAnd result
+            (λ e. (e ≡ Stp (record { line = line; reason = reason })) ⊎ (e ≡ NoMemory)) }
+    {
+        let file = read_file(alloc, stp)?;
+        Ok(Checker::of_file(alloc, file))
+    }
+
+    // A checker of logs on what a file stands for.
+    fn of_file(alloc: Global, file: File) -> Checker
+        ensures { result ≡ record { problem = problem_read file; scale = scale_read file; text = [] } }
+    {
+        match file {
+            File::Plain(reading) => {
+                let Reading { instance, scale } = reading;
+                Checker::on(alloc, Posed::Plain(instance), scale)
+            }
+            File::Directed { instance, scale } => Checker::on(
+                alloc,
+                Posed::Directed(instance),
+                scale,
+            ),
+        }
     }
 
     /// A checker of logs on this problem, whose numbers count so much, and to which nothing was fed.

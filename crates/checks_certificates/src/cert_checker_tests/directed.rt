@@ -1,14 +1,15 @@
 //! Logs of directed problems.
 ghost use Rattle.std.specs.Prelude.{◌≡◌, length};
 
-use super::{changed, in_wholes};
+use super::{STAR, TRIANGLE, changed, in_wholes};
 use amounts::Scale;
 use arborescence::DiInstance;
-use cert_checker::{CheckFault, Checker, Posed, Verdict};
+use cert_checker::{CheckFault, Checked, Checker, Posed, Verdict, check, check_file};
 use log_format::{Kind, LogFault};
 use st_model::Link;
 use std::alloc::{AllocError, Global};
 use std::test::Fail;
+use stp_reader::{Reason, StpFault};
 
 /// From 1 to 2 at 4, and back at 1, and from 2 to 3 at 3.
 const ARCS: [Link; 3] = [
@@ -236,4 +237,62 @@ fn refuses_what_is_wrong_of_directed_problems(rt: HostRuntime) -> Result<(), Fai
         );
     }
     Ok(())
+}
+
+/// The line from root 1, as a file.
+const FILE: &str = "33D32945 STP File, STP Format Version 1.0\nSECTION Graph\nNodes 3\nArcs 3\n\
+    A 1 2 4\nA 2 1 1\nA 2 3 3\nEND\nSECTION Terminals\nTerminals 2\nRoot 1\nT 1\nT 3\nEND\nEOF\n";
+
+/// Whether a file in which one part is changed and a log are answered so, where files of both kinds are read.
+fn file_answers_as(
+    rt: &impl AllocGlobal,
+    right: &str,
+    wrong: &str,
+    log: &str,
+    wanted: Result<Checked, CheckFault>,
+) -> Result<bool, Fail> {
+    let file = changed(rt, FILE, right, wrong)?;
+    Ok(check_file(rt.alloc(), file.as_bytes(), log.as_bytes()) == wanted)
+}
+
+#[test]
+fn reads_directed_files(rt: HostRuntime) -> Result<(), Fail> {
+    let no_root = StpFault {
+        line: 13,
+        reason: Reason::NoRoot,
+    };
+    let off = LogFault {
+        line: 3,
+        kind: Kind::BadWall,
+    };
+    let rows = [
+        ("EOF", "EOF", ALONG, in_wholes(Ok(Verdict::Optimal(7)))),
+        ("Root 1\n", "", ALONG, Err(CheckFault::Stp(no_root))),
+        ("Root 1", "Root 3", WALL, in_wholes(Ok(Verdict::NoTree))),
+        ("EOF", "EOF", WALL, Err(CheckFault::Log(off))),
+    ];
+    for (right, wrong, log, wanted) in rows {
+        assert!(rt;
+            file_answers_as(&rt, right, wrong, log, wanted)?,
+            "at {wrong}"
+        );
+    }
+    Ok(())
+}
+
+/// Whether a file of links is answered as by `check`, which refuses the directed one.
+fn reads_links_alike(alloc: Global) -> bool {
+    let directed = StpFault {
+        line: 4,
+        reason: Reason::Directed,
+    };
+    let links = check_file(alloc, TRIANGLE.as_bytes(), STAR.as_bytes());
+    links == check(alloc, TRIANGLE.as_bytes(), STAR.as_bytes())
+        && links == in_wholes(Ok(Verdict::Optimal(6)))
+        && check(alloc, FILE.as_bytes(), ALONG.as_bytes()) == Err(CheckFault::Stp(directed))
+}
+
+#[test]
+fn reads_files_of_links_alike(rt: HostRuntime) {
+    assert!(rt; reads_links_alike(rt.alloc()));
 }
