@@ -1,25 +1,22 @@
 -- What is judged over the ground of a directed network, in the words of arborescences.
-use Rattle.std.proofs.Common.{◌≡◌, ◌≢◌, ℕ, ◌≤◌, Bool, true, false, cond, not, ◌&&◌, ◌||◌, ◌⊎◌, List, [], ◌∷◌, ◌↔◌, Option, Some, None, length, get_or, inl, inr, refl, sym, ap, subst, ◌∙◌, arith}
+use Rattle.std.proofs.Common.{◌≡◌, ℕ, ◌≤◌, Bool, true, false, cond, ◌⊎◌, List, [], ◌∷◌, ◌↔◌, Option, Some, None, get_or, inl, inr, refl, sym, ap, subst, ◌∙◌, arith}
 use Rattle.std.specs.Prelude.{◌==◌, IsTrue, IsFalse, IsSome, IfSome, All, MatchOption, unwrap_or}
 use Rattle.std.proofs.lemmas.Bool.{and_from, and_parts, cases_Bool, or_cases, or_from, or_left, or_parts, or_right, eqb-true, eq-eqb, ne_eqb, both_ways, false_from_ne_true, false≢true}
-use Rattle.std.proofs.lemmas.Bool.Decides.{nat_tests}
 use Rattle.std.specs.List.{AllByRecursion}
 use Rattle.std.proofs.lemmas.List.Elements.{All-nil, recursion_from_All}
 use Rattle.st_model.specs.declared.branch.Branch.{Branch}
-use Rattle.st_model.specs.declared.tree.Tree.{Tree}
-use Rattle.st_model.specs.Arborescence.{GrowsIn, IsTreeIn, arc_cost_in, reached, reached_from}
+use Rattle.st_model.specs.Arborescence.{GrowsIn, arc_cost_in}
 use Rattle.st_model.specs.Branch.{IsPlain, certain_in, is_present}
 use Rattle.st_model.specs.Lists.{has, total}
 use Rattle.st_model.specs.Network.{IsVertex}
 use Rattle.st_model.proofs.Branches.{IsVertexSet-member}
 use Rattle.st_model.proofs.ThinGrowth.{has-reached_from}
 use Rattle.cut_packing.specs.declared.cut.Cut.{Cut}
-use Rattle.cut_packing.specs.declared.packing.Packing.{Packing}
-use Rattle.cut_packing.specs.Full.{IsReachedIn, IsFullIn, here}
-use Rattle.cut_packing.specs.Packing.{load, ArcsFitIn, CutFitsIn, IsRootIn, FitsIn}
+use Rattle.cut_packing.specs.Full.{IsReachedIn, here}
+use Rattle.cut_packing.specs.Packing.{load, ArcsFitIn, CutFitsIn, IsRootIn}
 use Rattle.cut_packing.proofs.Rooted.{rooted_duality_lem}
-use Rattle.arborescence.specs.DiNetwork.{DiNetwork, IsDiNetwork, arc_from, away_price, di_ground, is_sought}
-use Rattle.arborescence.specs.Words.{GrowsBy, IsDiTree, IsDiCut, IsDiFit, IsDiFull, IsDiSplit, arc_costs, TreesInWords, CostsInWords, FitsInWords, WeightsInWords, FullInWords, SplitsInWords, NoLinkIsSplit, WallsLeaveNoTree, PackingsBound}
+use Rattle.arborescence.specs.DiNetwork.{DiNetwork, arc_from, away_price, di_ground, is_sought}
+use Rattle.arborescence.specs.Words.{GrowsBy, IsDiCut, IsDiFull, TreesInWords, CostsInWords, FitsInWords, WeightsInWords, FullInWords, SplitsInWords, NoLinkIsSplit, WallsLeaveNoTree, PackingsBound}
 use Rattle.arborescence.proofs.DiTrees.{is_rooted, starts_at_root, wall_bars}
 use Rattle.arborescence.proofs.DiWeights.{certain_prizes, costs_arcs, full_root, weighs_cuts}
 

@@ -1,0 +1,5 @@
+//! The tests of `arborescence`.
+#![tactic(auto)]
+
+#[cfg(test)]
+mod arborescence_tests;
