@@ -4,7 +4,7 @@ ghost use Rattle.std.specs.Prelude.{◌≡◌, length};
 use super::{STAR, TRIANGLE, changed, in_wholes};
 use amounts::Scale;
 use arborescence::DiInstance;
-use cert_checker::{CheckFault, Checked, Checker, Posed, Verdict, check, check_file};
+use cert_checker::{CheckFault, Checker, Posed, Verdict, check, check_file};
 use log_format::{Kind, LogFault};
 use st_model::Link;
 use std::alloc::{AllocError, Global};
@@ -249,34 +249,34 @@ fn file_answers_as(
     right: &str,
     wrong: &str,
     log: &str,
-    wanted: Result<Checked, CheckFault>,
+    wanted: Result<Verdict, CheckFault>,
 ) -> Result<bool, Fail> {
     let file = changed(rt, FILE, right, wrong)?;
-    Ok(check_file(rt.alloc(), file.as_bytes(), log.as_bytes()) == wanted)
+    let answer = check_file(rt.alloc(), file.as_bytes(), log.as_bytes());
+    Ok(answer == in_wholes(wanted))
 }
+
+/// A part of the file and what stands there instead, a log, and the verdict.
+const READ: &[(&str, &str, &str, Verdict)] = &[
+    ("EOF", "EOF", ALONG, Verdict::Optimal(7)),
+    ("A 2 1 1", "A 1 2 9", ALONG, Verdict::Optimal(7)),
+    ("Root 1", "Root 3", WALL, Verdict::NoTree),
+];
 
 #[test]
 fn reads_directed_files(rt: HostRuntime) -> Result<(), Fail> {
-    let no_root = StpFault {
-        line: 13,
-        reason: Reason::NoRoot,
-    };
-    let off = LogFault {
-        line: 3,
-        kind: Kind::BadWall,
-    };
-    let rows = [
-        ("EOF", "EOF", ALONG, in_wholes(Ok(Verdict::Optimal(7)))),
-        ("Root 1\n", "", ALONG, Err(CheckFault::Stp(no_root))),
-        ("Root 1", "Root 3", WALL, in_wholes(Ok(Verdict::NoTree))),
-        ("EOF", "EOF", WALL, Err(CheckFault::Log(off))),
-    ];
-    for (right, wrong, log, wanted) in rows {
+    for row in READ {
+        let (right, wrong, log, verdict) = *row;
         assert!(rt;
-            file_answers_as(&rt, right, wrong, log, wanted)?,
+            file_answers_as(&rt, right, wrong, log, Ok(verdict))?,
             "at {wrong}"
         );
     }
+    let fault = CheckFault::Stp(StpFault {
+        line: 13,
+        reason: Reason::NoRoot,
+    });
+    assert!(rt; file_answers_as(&rt, "Root 1\n", "", ALONG, Err(fault))?);
     Ok(())
 }
 
