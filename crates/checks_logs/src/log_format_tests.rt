@@ -10,7 +10,6 @@ use log_format::{
 };
 use st_model::{Listed, SplitAt};
 use std::alloc::{AllocError, Global};
-use std::ptr;
 use std::test::Fail;
 use std::thread::Threads;
 
@@ -190,35 +189,6 @@ fn reads_star(alloc: Global) -> Result<bool, ReadError> {
 #[test]
 fn reads_what_the_star_says(rt: HostRuntime) -> Result<(), Fail> {
     assert!(rt; reads_star(rt.alloc())?);
-    Ok(())
-}
-
-/// Whether two sets are one in memory.
-fn is_one_set(a: &Cut, b: &Cut) -> bool {
-    match (a.set.as_slice(), b.set.as_slice()) {
-        ([first, ..], [other, ..]) => ptr::eq(first, other),
-        _ => false,
-    }
-}
-
-/// Whether a set that comes twice in a log is kept once, and another one by itself.
-fn keeps_sets_once(alloc: Global) -> Result<bool, ReadError> {
-    let log = read_log(alloc, TWICE.as_bytes())?;
-    let Claim::Found { proof, .. } = &log.claim else {
-        return Ok(false);
-    };
-    let [_, ProofLine::Close(first), ProofLine::Close(second)] = proof.lines() else {
-        return Ok(false);
-    };
-    match (first.cuts.as_slice(), second.cuts.as_slice()) {
-        ([a, b], [c]) => Ok(is_one_set(a, c) && !is_one_set(a, b) && (c.q, c.y) == (3, 4)),
-        _ => Ok(false),
-    }
-}
-
-#[test]
-fn keeps_each_set_once(rt: HostRuntime) -> Result<(), Fail> {
-    assert!(rt; keeps_sets_once(rt.alloc())?);
     Ok(())
 }
 
