@@ -10,7 +10,7 @@ use Rattle.st_model.specs.declared.tree.Tree.{Tree}
 use Rattle.st_model.specs.Arborescence.{GrowsIn, IsTreeIn, reached, reached_from}
 use Rattle.st_model.specs.Branch.{Belongs, IsBranchIn, all_trees, is_present, certain_in}
 use Rattle.st_model.specs.Ground.{Ground}
-use Rattle.st_model.specs.Led.{IsLed, start, along, AreLed}
+use Rattle.st_model.specs.Led.{heads_at, IsLed, start, along, AreLed}
 use Rattle.st_model.specs.Lists.{has}
 use Rattle.st_model.specs.Made.{has_pair, is_between}
 use Rattle.st_model.specs.Network.{IsVertex}
@@ -42,15 +42,26 @@ is_rooted D net = record {
 pub starts_at_root : (D : DiNetwork) (t : Tree) → IsDiNetwork D → IsTreeIn (di_ground D) t → t.start ≡ D.root
 starts_at_root D t net tree = starts_there (di_ground D) D.root t (is_rooted D net) tree
 
+-- only open arcs are listed
+abbrev pub AreAllOpen : Ground → Branch → List (List ℕ) → Type 0
+AreAllOpen G B heads = (u v : ℕ) → IsTrue (has (heads_at heads u) v) → IsOpenIn G B u v
+
+pub all_open : (G : Ground) (B : Branch) (heads : List (List ℕ)) → AreOpenIn G B heads → AreAllOpen G B heads
+all_open G B heads are u v listed = (are.exact u v).0 listed
+
 -- what grows along open arcs grows on the ground
-pub GrowsIn-along : (G : Ground) (B : Branch) (heads : List (List ℕ)) (r : List ℕ) (arcs : List (ℕ × ℕ)) → AreOpenIn G B heads → GrowsAlong heads r arcs → GrowsIn G r arcs
+pub GrowsIn-along : (G : Ground) (B : Branch) (heads : List (List ℕ)) (r : List ℕ) (arcs : List (ℕ × ℕ)) → AreAllOpen G B heads → GrowsAlong heads r arcs → GrowsIn G r arcs
 GrowsIn-along G B heads r [] open_ g = tt
-GrowsIn-along G B heads r (arc ∷ arcs) open_ g = ((open_parts G B arc.0 arc.1 ((open_.exact arc.0 arc.1).0 g.0).price).1, g.1, g.2, GrowsIn-along G B heads (arc.1 ∷ r) arcs open_ g.3)
+GrowsIn-along G B heads r (arc ∷ arcs) open_ g = ((open_parts G B arc.0 arc.1 (open_ arc.0 arc.1 g.0).price).1, g.1, g.2, GrowsIn-along G B heads (arc.1 ∷ r) arcs open_ g.3)
+
+-- what holds of all listed arcs holds of each of them
+pub each_along : (P : ℕ × ℕ → Type 0) (heads : List (List ℕ)) (r : List ℕ) (arcs : List (ℕ × ℕ)) → ((u v : ℕ) → IsTrue (has (heads_at heads u) v) → P (u, v)) → GrowsAlong heads r arcs → AllByRecursion P arcs
+each_along P heads r [] all g = tt
+each_along P heads r (arc ∷ arcs) all g = (all arc.0 arc.1 g.0, each_along P heads (arc.1 ∷ r) arcs all g.3)
 
 -- and has no barred link
-pub unbarred_along : (G : Ground) (B : Branch) (heads : List (List ℕ)) (r : List ℕ) (arcs : List (ℕ × ℕ)) → AreOpenIn G B heads → GrowsAlong heads r arcs → AllByRecursion (λ arc. IsFalse (has_pair B.barred arc.0 arc.1)) arcs
-unbarred_along G B heads r [] open_ g = tt
-unbarred_along G B heads r (arc ∷ arcs) open_ g = ((open_parts G B arc.0 arc.1 ((open_.exact arc.0 arc.1).0 g.0).price).0, unbarred_along G B heads (arc.1 ∷ r) arcs open_ g.3)
+pub unbarred_along : (G : Ground) (B : Branch) (heads : List (List ℕ)) (r : List ℕ) (arcs : List (ℕ × ℕ)) → AreAllOpen G B heads → GrowsAlong heads r arcs → AllByRecursion (λ arc. IsFalse (has_pair B.barred arc.0 arc.1)) arcs
+unbarred_along G B heads r arcs open_ g = each_along (λ arc. IsFalse (has_pair B.barred arc.0 arc.1)) heads r arcs (λ u v listed. (open_parts G B u v (open_ u v listed).price).0) g
 
 -- what holds of what was reached, and of the head of an arc of which the tail has it, holds of all that grows
 pub grown_in : (G : Ground) (P : ℕ → Type 0) (r : List ℕ) (arcs : List (ℕ × ℕ)) → GrowsIn G r arcs → ((v : ℕ) → IsTrue (has r v) → P v) → ((u v : ℕ) → IsSome (G.price u v) → IsTrue (has (reached_from r arcs) v) → IsTrue (has_pair arcs u v) → P u → P v) → (v : ℕ) → IsTrue (has (reached_from r arcs) v) → P v
@@ -70,8 +81,8 @@ grown_in G P r (arc ∷ arcs) g first step v there = grown_in G P (arc.1 ∷ r) 
     ]
 
 -- a closed set that holds the root holds all that a tree of the branch reaches
-pub within_closed : (D : DiNetwork) (B : Branch) (members : List ℕ) (t : Tree) → IsDiNetwork D → ((u v : ℕ) → IsOpenIn (di_ground D) B u v → IsTrue (has members u) → IsTrue (has members v)) → IsTrue (has members D.root) → IsTreeIn (di_ground D) t → Belongs B t → (v : ℕ) → IsTrue (has (reached t) v) → IsTrue (has members v)
-within_closed D B members t net closed root tree belongs v there = both.1
+pub within_closed : (D : DiNetwork) (B : Branch) (S : ℕ → Bool) (t : Tree) → IsDiNetwork D → ((u v : ℕ) → IsOpenIn (di_ground D) B u v → IsTrue (S u) → IsTrue (S v)) → IsTrue (S D.root) → IsTreeIn (di_ground D) t → Belongs B t → (v : ℕ) → IsTrue (has (reached t) v) → IsTrue (S v)
+within_closed D B S t net closed root tree belongs v there = both.1
   where
     present : (w : ℕ) → IsTrue (has (reached t) w) → IsTrue (is_present B w)
     present w held = subst (λ b. IsTrue (not b)) (sym (false_from_ne_true (has B.outside w) (λ out. both_ways (has (reached t) w) (belongs.reaches.outside w out) held))) refl
@@ -79,9 +90,9 @@ within_closed D B members t net closed root tree belongs v there = both.1
     unbarred : (u w : ℕ) → IsTrue (has_pair t.arcs u w) → IsFalse (has_pair B.barred u w)
     unbarred u w pair = false_from_ne_true (has_pair B.barred u w) (λ bar. both_ways (has_pair t.arcs u w) (belongs.uses.barred u w bar) pair)
 
-    both : IsTrue (is_present B v) × IsTrue (has members v)
-    both = grown_in (di_ground D) (λ w. IsTrue (is_present B w) × IsTrue (has members w)) (t.start ∷ []) t.arcs tree.arborescence.grows
-        (λ w h. let same = has-one t.start w h in let at_root = starts_at_root D t net tree in (present w (has-reached_from (t.start ∷ []) t.arcs w h), subst (λ x. IsTrue (has members x)) (sym at_root ∙ same) root))
+    both : IsTrue (is_present B v) × IsTrue (S v)
+    both = grown_in (di_ground D) (λ w. IsTrue (is_present B w) × IsTrue (S w)) (t.start ∷ []) t.arcs tree.arborescence.grows
+        (λ w h. let same = has-one t.start w h in let at_root = starts_at_root D t net tree in (present w (has-reached_from (t.start ∷ []) t.arcs w h), subst (λ x. IsTrue (S x)) (sym at_root ∙ same) root))
         (λ u w some held pair before. (present w held, closed u w (record { tail = before.0; head = present w held; price = rw (unbarred u w pair) some }) before.1)) v there
 
 -- what is listed as open is what a walk leads along
@@ -97,13 +108,13 @@ away_between D u v net some = step (v == D.root) some
     step false h = let ends = arc_between D.n D.arcs u v net.ends h in (ends.0, ends.1)
 
 -- what is led to along open arcs is a present vertex
-led_present : (D : DiNetwork) (B : Branch) (heads : List (List ℕ)) (v : ℕ) → IsDiNetwork D → IsTrue (is_present B D.root) → AreOpenIn (di_ground D) B heads → IsLed heads D.root v → IsVertex D.n v × IsTrue (is_present B v)
+led_present : (D : DiNetwork) (B : Branch) (heads : List (List ℕ)) (v : ℕ) → IsDiNetwork D → IsTrue (is_present B D.root) → AreAllOpen (di_ground D) B heads → IsLed heads D.root v → IsVertex D.n v × IsTrue (is_present B v)
 led_present D B heads v net root open_ start = (net.root, root)
 led_present D B heads v net root open_ (along {u} before listed) =
-    let arc = (open_.exact u v).0 listed in
+    let arc = open_ u v listed in
     ((away_between D u v net (open_parts (di_ground D) B u v arc.price).1).1, arc.head)
 
-pub members_present : (D : DiNetwork) (B : Branch) (heads : List (List ℕ)) (members : List ℕ) → IsDiNetwork D → IsTrue (is_present B D.root) → AreOpenIn (di_ground D) B heads → AreLed heads D.root members → (v : ℕ) → IsTrue (has members v) → IsVertex D.n v × IsTrue (is_present B v)
+pub members_present : (D : DiNetwork) (B : Branch) (heads : List (List ℕ)) (members : List ℕ) → IsDiNetwork D → IsTrue (is_present B D.root) → AreAllOpen (di_ground D) B heads → AreLed heads D.root members → (v : ℕ) → IsTrue (has members v) → IsVertex D.n v × IsTrue (is_present B v)
 members_present D B heads members net root open_ led v held =
     let p = place_of members v held in
     subst (λ w. IsVertex D.n w × IsTrue (is_present B w)) p.2 (led_present D B heads (get_or members p.0 0) net root open_ (led.sound p.0 0 p.1))
@@ -115,7 +126,7 @@ none_barred barred (arc ∷ arcs) u v all bar =
     or_from (is_between arc u v) (has_pair arcs u v) (false_from_ne_true (is_between arc u v) (λ same. both_ways (has_pair barred u v) (apart_from arc (u, v) barred all.0 same) bar)) (none_barred barred arcs u v all.1 bar)
 
 -- the arcs of a walk over open arcs are a tree of the branch, where it reaches all that it has to
-module _ (D : DiNetwork) (B : Branch) (heads : List (List ℕ)) (s : Spread) (net : IsDiNetwork D) (open_ : AreOpenIn (di_ground D) B heads) (led : AreLed heads D.root s.reached.members) (is : IsSpread heads D.root s) (all : (v : ℕ) → IsVertex D.n v → IsTrue (certain_in (di_ground D) B v) → IsTrue (has s.reached.members v)) where
+module _ (D : DiNetwork) (B : Branch) (heads : List (List ℕ)) (s : Spread) (net : IsDiNetwork D) (open_ : AreAllOpen (di_ground D) B heads) (led : AreLed heads D.root s.reached.members) (is : IsSpread heads D.root s) (all : (v : ℕ) → IsVertex D.n v → IsTrue (certain_in (di_ground D) B v) → IsTrue (has s.reached.members v)) where
   abbrev pub walked : Tree
   walked = record { start = D.root; arcs = s.arcs.items }
 
@@ -140,7 +151,7 @@ module _ (D : DiNetwork) (B : Branch) (heads : List (List ℕ)) (s : Spread) (ne
 -- a walk over open arcs that misses what every tree reaches shows that there is none
 pub missed_shows : (D : DiNetwork) (B : Branch) (heads : List (List ℕ)) (members : List ℕ) (v : ℕ) → IsDiNetwork D → AreOpenIn (di_ground D) B heads → AreLed heads D.root members → IsVertex D.n v → IsTrue (certain_in (di_ground D) B v) → IsFalse (has members v) → HasNoTreeIn (di_ground D) B
 missed_shows D B heads members v net open_ led vertex certain away t tree belongs =
-    both_ways (has members v) away (within_closed D B members t net (led_closed (di_ground D) B heads D.root members open_ led) led.root tree belongs v (certain_reached (di_ground D) B t v tree belongs.reaches vertex certain))
+    both_ways (has members v) away (within_closed D B (has members) t net (led_closed (di_ground D) B heads D.root members open_ led) led.root tree belongs v (certain_reached (di_ground D) B t v tree belongs.reaches vertex certain))
 
 -- a root outside does, too
 pub outside_shows : (D : DiNetwork) (B : Branch) → IsDiNetwork D → IsTrue (has B.outside D.root) → HasNoTreeIn (di_ground D) B
@@ -149,7 +160,7 @@ outside_shows D B net out t tree belongs = both_ways (has (reached t) D.root) (b
 -- what a walk from the root over all arcs reaches is a wall, where it misses a terminal
 pub walked_wall : (D : DiNetwork) (heads : List (List ℕ)) (members wall : List ℕ) (v : ℕ) → IsDiNetwork D → AreOpenIn (di_ground D) all_trees heads → AreLed heads D.root members → ((w : ℕ) → has wall w ≡ has members w) → IsTrue (certain_in (di_ground D) all_trees v) → IsFalse (has members v) → IsDiWall D wall
 walked_wall D heads members wall v net open_ led same certain away = record {
-  in_range = λ k d below. (members_present D all_trees heads members net refl open_ led (get_or wall k d) (sym (same (get_or wall k d)) ∙ has_at wall k d below)).0;
+  in_range = λ k d below. (members_present D all_trees heads members net refl (all_open (di_ground D) all_trees heads open_) led (get_or wall k d) (sym (same (get_or wall k d)) ∙ has_at wall k d below)).0;
   root = same D.root ∙ led.root;
   outside = (v, terminal, same v ∙ away);
   unleft = λ u w some held. same w ∙ leads u w some (sym (same u) ∙ held);

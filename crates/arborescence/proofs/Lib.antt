@@ -6,6 +6,15 @@ pub mod Spreads
 pub mod DiTrees
 pub mod DiWeights
 pub mod Used
+pub mod OneCut
 pub mod Raised
 pub mod Ascended
 pub mod InWords
+pub mod OneEntry
+pub mod Listing
+pub mod Pruned
+pub mod ClosedCosts
+pub mod Sources
+pub mod LeastEntering
+pub mod Chosen
+pub mod ClosedTrees

@@ -26,37 +26,8 @@ use Rattle.arborescence.specs.Ascending.{raised_packing, IsRaising, HasRaised}
 use Rattle.arborescence.specs.DiNetwork.{DiNetwork, IsDiNetwork, arc_from, away_price, di_ground, leads}
 use Rattle.arborescence.specs.Gathering.{used_into}
 use Rattle.arborescence.proofs.DiWeights.{certain_prizes}
+use Rattle.arborescence.proofs.OneCut.{cut_laid, fits_more, saturated_kept, set_vertices}
 use Rattle.arborescence.proofs.Used.{used_iff, gathered_vertex}
-
--- arcs that fit bear at most what they cost
-pub all_bear : (D : DiNetwork) (B : Branch) (s : Raising) → IsRaising D B s → All (All (λ arc. arc.load ≤ arc.cost)) s.arcs
-all_bear D B s is = (arcs_fit_iff (di_ground D) B s.cuts.items s.arcs is.loaded).1 is.fits.arcs
-
--- an arc costs no more than all do
-price_most : (ls : List Link) (u v p : ℕ) → arc_from ls u v ≡ Some p → p ≤ total (λ l. l.cost) ls
-price_most [] u v p is = absurd (let clash : ⊥ = cc in clash)
-price_most (l ∷ ls) u v p is = step (leads l u v) is (price_most ls u v p)
-  where
-    step : (b : Bool) → cond b (Some l.cost) (arc_from ls u v) ≡ Some p → (arc_from ls u v ≡ Some p → p ≤ total (λ m. m.cost) ls) → p ≤ l.cost + total (λ m. m.cost) ls
-    step true e rest = let same : l.cost ≡ p = cc in omega arith
-    step false e rest = let less = rest e in omega arith
-
-pub open_most : (D : DiNetwork) (B : Branch) (u v p : ℕ) → open_price (di_ground D) B u v ≡ Some p → p ≤ total (λ l. l.cost) D.arcs
-open_most D B u v p is = step (has_pair B.barred u v) (v == D.root) is
-  where
-    step : (b c : Bool) → cond b None (cond c None (arc_from D.arcs u v)) ≡ Some p → p ≤ total (λ l. l.cost) D.arcs
-    step true c e = absurd (let clash : ⊥ = cc in clash)
-    step false true e = absurd (let clash : ⊥ = cc in clash)
-    step false false e = price_most D.arcs u v p e
-
--- so what more is laid on one is small
-pub room_left : (D : DiNetwork) (B : Branch) (s : Raising) (y v : ℕ) → IsDiNetwork D → IsRaising D B s → y < 2 ^ 64 → All (λ arc. arc.load + y < 2 ^ 128) (arcs_into s.arcs v)
-room_left D B s y v net is small = λ k d below.
-    let one = is.loaded.sound v k d below in
-    let most = open_most D B (get_or (arcs_into s.arcs v) k d).tail v (get_or (arcs_into s.arcs v) k d).cost one.cost in
-    let fit = rw one.cost at (is.fits.arcs (get_or (arcs_into s.arcs v) k d).tail v one.tail one.head) in
-    let all = net.amount in
-    omega (arith, one.load)
 
 -- nothing was raised
 pub HasRaised-none : (D : DiNetwork) (B : Branch) (s : Raising) → IsRaising D B s → HasRaised D B s s
@@ -87,58 +58,27 @@ module _ (D : DiNetwork) (B : Branch) (s t : Raising) (q y : ℕ) (c : Cut) (net
     (pushed : t.cuts.items ≡ s.cuts.items ++ c ∷ []) (long : length t.arcs ≡ length s.arcs)
     (lays : (v : ℕ) → arcs_into t.arcs v ≡ (if has s.set.members v then map (laid s.set.members y) (arcs_into s.arcs v) else arcs_into s.arcs v))
     (room : t.room + y ≡ s.room) (count : t.set.count ≡ s.set.count) where
-  loaded : AreLoadedIn (di_ground D) B (away_price D) t.cuts.items t.arcs
-  loaded = rw pushed (AreLoaded-lay (di_ground D) B (away_price D) s.cuts.items c s.set.members s.arcs t.arcs (λ v below. sym (same v)) long (rw worth lays) is.loaded)
-
   member_vertex : (v : ℕ) → IsTrue (has s.set.members v) → IsVertex D.n v
   member_vertex = gathered_vertex D B (raised_packing D s) s.arcs q s.set.members net is.loaded vertex led
 
+  loaded : AreLoadedIn (di_ground D) B (away_price D) t.cuts.items t.arcs
+  loaded = rw pushed (cut_laid D B s.cuts.items s.arcs is.loaded is.fits t.arcs s.set.members c member_vertex away (rw names led.root) (rw names present) (rw names certain) (rw worth borne) same long (rw worth lays))
+
   vertices : All (IsVertex D.n) c.set
-  vertices = λ k d below. member_vertex (get_or c.set k d) (sym (same (get_or c.set k d)) ∙ has_at c.set k d below)
-
-  cut_fits : CutFitsIn (di_ground D) B c
-  cut_fits = record { in_range = vertices; member = rw names (same q ∙ led.root); present = rw names (and_from (is_present B q) (certain_in (di_ground D) B q) present certain) }
-
-  cuts_fit : All (CutFitsIn (di_ground D) B) (s.cuts.items ++ c ∷ [])
-  cuts_fit = All-push (CutFitsIn (di_ground D) B) s.cuts.items c is.fits.cuts cut_fits
-
-  bears : (v : ℕ) → v < length s.arcs → All (λ arc. arc.load ≤ arc.cost) (arcs_into t.arcs v)
-  bears v below = elim (cases_Bool (has s.set.members v)) [
-    | inl inside ↦ rw (lays v, inside) (All-map (λ arc. arc.load ≤ arc.cost) (laid s.set.members y) (arcs_into s.arcs v) (λ k d within. one (get_or (arcs_into s.arcs v) k d) (borne v inside k d within) (all_bear D B s is v [] below k d within)))
-    | inr outside ↦ rw (lays v, outside) (all_bear D B s is v [] below)
-  ]
-    where
-      one : (a : LoadedArc) → (IsFalse (has s.set.members a.tail) → a.load + y ≤ a.cost) → a.load ≤ a.cost → (laid s.set.members y a).load ≤ (laid s.set.members y a).cost
-      one a fits before = elim (cases_Bool (has s.set.members a.tail)) [
-        | inl inside ↦ rw inside before
-        | inr outside ↦ rw outside (fits outside)
-      ]
+  vertices = set_vertices D B s.cuts.items s.arcs is.loaded is.fits t.arcs s.set.members c member_vertex away (rw names led.root) (rw names present) (rw names certain) (rw worth borne) same long (rw worth lays)
 
   fits : FitsIn (di_ground D) B (raised_packing D t)
-  fits = rw pushed (record {
-    root = record {
-      vertex = is.fits.root.vertex;
-      certain = is.fits.root.certain;
-      same = is.fits.root.same;
-      apart = All-push (λ d. IsFalse (has d.set D.root)) s.cuts.items c is.fits.root.apart (same D.root ∙ away);
-    };
-    cuts = cuts_fit;
-    arcs = (arcs_fit_iff (di_ground D) B (s.cuts.items ++ c ∷ []) t.arcs (rw pushed at loaded)).0 (λ k d below. rw (get_or_default t.arcs k d [] below) (bears k (omega (arith, long))));
-    prizes = certain_prizes D B (s.cuts.items ++ c ∷ []) cuts_fit;
-  })
+  fits = rw pushed (fits_more D B s.cuts.items s.arcs is.loaded is.fits t.arcs s.set.members c member_vertex away (rw names led.root) (rw names present) (rw names certain) (rw worth borne) same long (rw worth lays))
 
   -- no saturated arc is entered, so it stays saturated
   kept : (u v : ℕ) → IsSaturatedIn (di_ground D) B (raised_packing D s) u v → IsSaturatedIn (di_ground D) B (raised_packing D t) u v
-  kept u v used = record { tail = used.tail; head = used.head; used = used.used ∙ ap Some (sym more) }
+  kept u v used = rw pushed (saturated_kept D B s.cuts.items c u v unentered used)
     where
       unentered : has c.set v && not (has c.set u) ≡ false
       unentered = rw (same v, same u) (elim (cases_Bool (has s.set.members v)) [
         | inl inside ↦ rw (inside, led.closed v u inside ((used_iff (di_ground D) B (raised_packing D s) s.arcs u v is.loaded).1 used)) refl
         | inr outside ↦ rw outside refl
       ])
-
-      more : load t.cuts.items (u, v) ≡ load s.cuts.items (u, v)
-      more = rw (pushed, total-append (λ d. if has d.set v && not (has d.set u) then d.y else 0) s.cuts.items (c ∷ []), unentered) (omega arith)
 
   reached : (v : ℕ) → IsReachedIn (di_ground D) B (raised_packing D s) D.root v → IsReachedIn (di_ground D) B (raised_packing D t) D.root v
   reached v here = here

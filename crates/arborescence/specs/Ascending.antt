@@ -24,9 +24,13 @@ abbrev pub IsDiAscent : DiNetwork → Branch → Packing → ℕ → DiAscent �
 IsDiAscent D B P target (Full new) = IsDiExtended D B P new × (weight_in (di_ground D) B new < target) × IsFullIn (di_ground D) B new
 IsDiAscent D B P target (Reached new) = IsDiExtended D B P new × (target ≤ weight_in (di_ground D) B new)
 
+-- cuts, as a packing for the root
+abbrev pub rooted_packing : DiNetwork → List Cut → Packing
+rooted_packing D cuts = record { root = Some D.root; cuts = cuts }
+
 -- the cuts so far, as a packing for the root
 abbrev pub raised_packing : DiNetwork → Raising → Packing
-raised_packing D s = record { root = Some D.root; cuts = s.cuts.items }
+raised_packing D s = rooted_packing D s.cuts.items
 
 -- cuts that fit, with what they lay on the arcs and what the target leaves
 pub record IsRaising (D : DiNetwork) (B : Branch) (s : Raising) : Type 0 where

@@ -8,3 +8,6 @@ pub mod First
 pub mod Gathering
 pub mod Ascending
 pub mod Words
+pub mod Closing
+pub mod Leaves
+pub mod Choosing

@@ -132,7 +132,7 @@ fn least_into(arcs: &[LoadedArc], set: &VertexSet, most: u64) -> u64
 }
 
 // What is left of an arc.
-fn left(arc: &LoadedArc) -> u64
+pub fn left(arc: &LoadedArc) -> u64
     requires { arc.now.load ≤ arc.now.cost }
     ensures { arc.now.load + result ≡ arc.now.cost }
 {

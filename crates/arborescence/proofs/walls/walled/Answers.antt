@@ -1,4 +1,5 @@
-use Rattle.arborescence.proofs.DiTrees.{walked_tree, walked_wall}
+use Rattle.arborescence.proofs.DiTrees.{all_open, walked_tree, walked_wall}
+use Rattle.arborescence.specs.DiNetwork.{di_ground}
 use Rattle.arborescence.proofs.walls.walled.Goals as goal
 
 pub returns-in-None-clause-none : goal.returns-in-None-clause-none
@@ -8,7 +9,7 @@ returns-in-None-clause-none c =
     let s = c.in_ok-spread.spread in
     let led = rw c.root.ensures.root at c.in_ok-spread.ensures.led in
     let spread = rw c.root.ensures.root at c.in_ok-spread.ensures.spread in
-    (record { start = D.root; arcs = s.arcs.items }, walked_tree D c.args.branch.now heads s c.root.ensures.instance c.in_ok-heads.ensures led spread c.in-None.ensures.none)
+    (record { start = D.root; arcs = s.arcs.items }, walked_tree D c.args.branch.now heads s c.root.ensures.instance (all_open (di_ground D) c.args.branch.now heads c.in_ok-heads.ensures) led spread c.in-None.ensures.none)
 
 pub returns-clause-some : goal.returns-clause-some
 returns-clause-some c =
