@@ -1,30 +1,29 @@
 -- A set is raised by what is left of an arc into it, and the arc is chosen.
-use Rattle.std.proofs.Common.{◌≡◌, ℕ, zero, suc, ◌+◌, ◌<◌, ◌≤◌, Bool, true, false, cond, not, ◌&&◌, ◌||◌, List, [], ◌∷◌, ◌++◌, length, get_or, map, set, take, Some, inl, inr, refl, sym, ap, subst, ◌∙◌, arith}
-use Rattle.std.specs.Prelude.{◌==◌, IsTrue, IsFalse, All, if◌then◌else◌}
+use Rattle.std.proofs.Common.{◌≡◌, ℕ, suc, ◌+◌, ◌<◌, ◌≤◌, Bool, true, false, cond, not, ◌&&◌, List, [], ◌∷◌, ◌++◌, length, get_or, map, set, take, Some, inl, inr, refl, sym, ap, subst, ◌∙◌, arith}
+use Rattle.std.specs.Prelude.{◌==◌, IsTrue, IsFalse, if◌then◌else◌}
 use Rattle.std.specs.List.Sorted.{IsStrictlyIncreasing}
-use Rattle.std.proofs.lemmas.Bool.{and_from, and_parts, both_ways, cases_Bool, eqb-true, eq-eqb, false_from_ne_true, false≢true, or_cases, or_left, or_right}
-use Rattle.std.proofs.lemmas.List.{append-nil, length-append, take_all, take-append-le}
-use Rattle.std.proofs.lemmas.List.Elements.{All-nil, All-push, All-weaker}
+use Rattle.std.proofs.lemmas.Bool.{and_from, and_parts, both_ways, eqb-true, eq-eqb, false_from_ne_true, or_cases, or_left, or_right}
+use Rattle.std.proofs.lemmas.List.{length-append, take_all, take-append-le}
+use Rattle.std.proofs.lemmas.List.Elements.{All-push, All-weaker}
 use Rattle.st_model.specs.declared.branch.Branch.{Branch}
-use Rattle.st_model.specs.Branch.{certain_in, is_present, open_price}
+use Rattle.st_model.specs.Branch.{is_present}
 use Rattle.st_model.specs.Led.{heads_at}
 use Rattle.st_model.specs.Lists.{has, sum_to}
 use Rattle.st_model.specs.Network.{IsVertex}
 use Rattle.st_model.specs.VertexSet.{VertexSet}
 use Rattle.st_model.proofs.Sums.{sum_to_le}
-use Rattle.cut_packing.specs.declared.arcs.LoadedArc.{LoadedArc}
 use Rattle.cut_packing.specs.declared.cut.Cut.{Cut}
 use Rattle.cut_packing.specs.Full.{IsSaturatedIn}
-use Rattle.cut_packing.specs.Loads.{arcs_into, laid, AreLoadedIn}
-use Rattle.cut_packing.specs.Packing.{load, FitsIn}
+use Rattle.cut_packing.specs.Loads.{arcs_into, laid}
+use Rattle.cut_packing.specs.Packing.{load}
 use Rattle.arborescence.specs.Ascending.{rooted_packing}
 use Rattle.arborescence.specs.Choosing.{AllCertain, IsClosing, IsEntering, IsRoundStrong, IsSource, IsUnentered, back, leads_by, pairs_apart}
-use Rattle.arborescence.specs.Closing.{AreHeadsOf, IsStrong}
-use Rattle.arborescence.specs.DiNetwork.{DiNetwork, away_price, di_ground}
+use Rattle.arborescence.specs.Closing.{IsStrong}
+use Rattle.arborescence.specs.DiNetwork.{DiNetwork, di_ground}
 use Rattle.arborescence.specs.declared.closing.Closing.{Closing}
 use Rattle.arborescence.specs.declared.entering.Entering.{Entering}
 use Rattle.arborescence.proofs.Listing.{AreHeadsOf-push}
-use Rattle.arborescence.proofs.OneCut.{cut_laid, fits_more, load-push, saturated_kept, set_vertices}
+use Rattle.arborescence.proofs.OneCut.{cut_laid, fits_more, load-push, saturated_kept, set_vertices, within_set}
 use Rattle.arborescence.proofs.Sources.{saturated_ends, sum_to_less}
 
 module _ (D : DiNetwork) (B : Branch) (s : Closing) (is : IsClosing D B s) (set : VertexSet) (e : Entering) (source : IsSource D B s.chosen.items set) (enters : IsEntering D B s.cuts.items s.arcs set.members e) where
@@ -44,11 +43,7 @@ module _ (D : DiNetwork) (B : Branch) (s : Closing) (is : IsClosing D B s) (set 
 
     -- chosen arcs don't enter the set
     unentered : (u v : ℕ) → (IsTrue (has set.members v) → IsTrue (has set.members u)) → IsFalse (has c.set v && not (has c.set u))
-    unentered u v within = rw (same v, same u) (by_case (has set.members v) (has set.members u) within)
-      where
-        by_case : (a b : Bool) → (IsTrue a → IsTrue b) → IsFalse (a && not b)
-        by_case true b h = rw (h refl) refl
-        by_case false b h = refl
+    unentered u v within = rw (same v, same u) (within_set (has set.members v) (has set.members u) within)
 
     new : IsRoundStrong D.n s.chosen.items c
     new = record {

@@ -1,12 +1,8 @@
 -- A tree of which one arc alone enters each cut costs at most what the cuts are worth, where each arc bears what it costs.
-use Rattle.std.proofs.Common.{◌≡◌, ◌≢◌, ℕ, ◌+◌, ◌≤◌, Bool, true, false, cond, not, ◌&&◌, List, [], ◌∷◌, inl, inr, refl, sym, ap, ◌∙◌, arith}
+use Rattle.std.proofs.Common.{◌≡◌, ◌≢◌, ℕ, ◌≤◌, List, [], ◌∷◌, inl, inr, refl, sym, ap, ◌∙◌, arith}
 use Rattle.std.specs.Prelude.{◌==◌, IsTrue, IsFalse, if◌then◌else◌, ⊤}
 use Rattle.std.specs.List.{AllByRecursion}
-use Rattle.std.proofs.lemmas.Bool.{both_ways, cases_Bool, eq-eqb, false≢true, or_left, or_right}
-use Rattle.st_model.specs.declared.branch.Branch.{Branch}
-use Rattle.st_model.specs.Arborescence.{arc_cost_in, reached_from}
-use Rattle.st_model.specs.Branch.{open_price}
-use Rattle.st_model.specs.Ground.{Ground}
+use Rattle.std.proofs.lemmas.Bool.{both_ways, cases_Bool, eq-eqb, or_left, or_right}
 use Rattle.st_model.specs.Lists.{has, total}
 use Rattle.cut_packing.specs.declared.cut.Cut.{Cut}
 use Rattle.cut_packing.specs.Packing.{load}

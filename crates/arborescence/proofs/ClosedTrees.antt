@@ -1,9 +1,9 @@
 -- The tree of chosen arcs that can't be done without costs what the cuts weigh, and a set that no arc enters leaves no tree.
-use Rattle.std.proofs.Common.{◌≡◌, ◌≢◌, ℕ, ◌+◌, ◌<◌, ◌≤◌, Bool, true, false, cond, not, ◌&&◌, List, [], ◌∷◌, length, get_or, take, Option, Some, None, is_some, unwrap_or, inl, inr, refl, sym, ap, subst, ◌∙◌, arith}
+use Rattle.std.proofs.Common.{◌≡◌, ℕ, ◌<◌, ◌≤◌, Bool, true, false, cond, not, ◌&&◌, List, [], ◌∷◌, get_or, take, Option, Some, None, is_some, unwrap_or, inl, inr, refl, sym, ap, subst, ◌∙◌, arith}
 use Rattle.std.specs.Prelude.{◌==◌, IsTrue, IsFalse, IfSome, All, slice_get}
 use Rattle.std.specs.List.Sorted.{IsStrictlyIncreasing}
 use Rattle.std.specs.List.{AllByRecursion, list_any}
-use Rattle.std.proofs.lemmas.Bool.{and_from, and_parts, both_ways, cases_Bool, cases_lt, eq-eqb, eqb-true, false_from_ne_true, false≢true, not-true, or_cases, or_left}
+use Rattle.std.proofs.lemmas.Bool.{and_from, and_parts, both_ways, cases_Bool, cases_lt, eqb-true, false_from_ne_true, false≢true, not-true, or_cases}
 use Rattle.std.proofs.lemmas.List.{get_or-take, length-take}
 use Rattle.std.proofs.lemmas.Option.{slice_get_within, get_or_from_slice_get}
 use Rattle.std.proofs.lemmas.List.Elements.{All-cons, All-nil, All-weaker, recursion_from_All}
@@ -34,18 +34,19 @@ use Rattle.arborescence.specs.declared.closing.Closing.{Closing}
 use Rattle.arborescence.specs.declared.spreading.Spread.{Spread}
 use Rattle.arborescence.specs.Ascending.{rooted_packing}
 use Rattle.arborescence.specs.Choosing.{AllCertain, IsClosing, IsRoundStrong, IsSource, NoneEnters}
-use Rattle.arborescence.specs.Closing.{AreHeadsOf, ArePruned, AreWithin, IsClosed, IsKept, IsNeeded, Spans}
+use Rattle.arborescence.specs.Closing.{AreHeadsOf, ArePruned, AreWithin, IsKept, IsNeeded}
 use Rattle.arborescence.specs.DiNetwork.{DiNetwork, IsDiNetwork, di_ground}
 use Rattle.arborescence.specs.First.{HasNoTreeIn}
-use Rattle.arborescence.specs.Leaves.{IsClosedBy, IsRootedPacking, IsWalledBy}
+use Rattle.arborescence.specs.Leaves.{IsClosedBy, IsWalledBy}
 use Rattle.arborescence.specs.Open.{IsOpenIn, GrowsAlong, IsSpread}
 use Rattle.arborescence.proofs.Ascended.{certain_present}
 use Rattle.arborescence.proofs.ClosedCosts.{EntersOnce, HaveNewHeads, cuts_bear}
-use Rattle.arborescence.proofs.DiTrees.{AreAllOpen, each_along, is_rooted, members_present, walked, walked_belongs, walked_tree, within_closed}
+use Rattle.arborescence.proofs.DiTrees.{AreAllOpen, each_along, is_rooted, members_present, walked_belongs, walked_tree, within_closed}
 use Rattle.arborescence.proofs.DiWeights.{certain_prizes, costs_arcs, weighs_cuts}
 use Rattle.arborescence.proofs.Listing.{at_arc, members_closed}
 use Rattle.arborescence.proofs.OneEntry.{one_entry}
-use Rattle.arborescence.proofs.Sources.{saturated_ends}
+use Rattle.arborescence.proofs.OneCut.{within_set}
+use Rattle.arborescence.proofs.Sources.{not_back, saturated_ends}
 
 -- an open arc costs what it costs in the branch
 open_cost : (G : Ground) (B : Branch) (u v p : ℕ) → open_price G B u v ≡ Some p → G.price u v ≡ Some p
@@ -220,12 +221,8 @@ module _ (D : DiNetwork) (B : Branch) (s : Closing) (set : VertexSet) (target : 
   bears : (u v : ℕ) → IsTrue (is_present B u) → IsTrue (is_present B v) → (o : Option ℕ) → open_price (di_ground D) B u v ≡ o → IfSome o (λ price. load (c ∷ []) (u, v) ≤ price)
   bears u v tail head None is_price = tt
   bears u v tail head (Some p) is_price =
-      let out : IsFalse (has c.set v && not (has c.set u)) = rw (same v, same u) (by_case (has set.members v) (has set.members u) (open_within u v (record { tail = tail; head = head; price = ap is_some is_price }))) in
+      let out : IsFalse (has c.set v && not (has c.set u)) = rw (same v, same u) (within_set (has set.members v) (has set.members u) (open_within u v (record { tail = tail; head = head; price = ap is_some is_price }))) in
       rw out (omega arith)
-    where
-      by_case : (a b : Bool) → (IsTrue a → IsTrue b) → IsFalse (a && not b)
-      by_case true b h = rw (h refl) refl
-      by_case false b h = refl
 
   abbrev W : Packing
   W = rooted_packing D (c ∷ [])
@@ -246,12 +243,8 @@ module _ (D : DiNetwork) (B : Branch) (s : Closing) (set : VertexSet) (target : 
   no_tree : HasNoTreeIn (di_ground D) B
   no_tree t tree belongs =
       let there = certain_reached (di_ground D) B t c.q tree belongs.reaches named_here.0 sure in
-      let away = within_closed D B (λ w. not (has set.members w)) t net (λ u v arc out. turned (has set.members v) (has set.members u) (open_within u v arc) out) (ap not source.root) tree belongs c.q there in
+      let away = within_closed D B (λ w. not (has set.members w)) t net (λ u v arc out. not_back (has set.members v) (has set.members u) (open_within u v arc) out) (ap not source.root) tree belongs c.q there in
       both_ways (has set.members c.q) (not-true (has set.members c.q) away) named
-    where
-      turned : (a b : Bool) → (IsTrue a → IsTrue b) → IsTrue (not b) → IsTrue (not a)
-      turned true b h out = absurd (both_ways b (not-true b out) (h refl))
-      turned false b h out = refl
 
   pub walled_by : IsWalledBy D B target W
   walled_by = record {

@@ -44,6 +44,11 @@ open_most D B u v p is = step (has_pair B.barred u v) (v == D.root) is
 pub load-push : (cuts : List Cut) (c : Cut) (u v : ℕ) → load (cuts ++ c ∷ []) (u, v) ≡ load cuts (u, v) + (if has c.set v && not (has c.set u) then c.y else 0)
 load-push cuts c u v = total-append (λ d. if has d.set v && not (has d.set u) then d.y else 0) cuts (c ∷ []) ∙ omega arith
 
+-- an arc of which the tail is in a set if the head is doesn't enter it
+pub within_set : (head tail : Bool) → (IsTrue head → IsTrue tail) → IsFalse (head && not tail)
+within_set true tail h = rw (h refl) refl
+within_set false tail h = refl
+
 -- an arc that it doesn't enter stays saturated
 pub saturated_kept : (D : DiNetwork) (B : Branch) (cuts : List Cut) (c : Cut) (u v : ℕ) → IsFalse (has c.set v && not (has c.set u)) → IsSaturatedIn (di_ground D) B (rooted_packing D cuts) u v → IsSaturatedIn (di_ground D) B (rooted_packing D (cuts ++ c ∷ [])) u v
 saturated_kept D B cuts c u v out used = record { tail = used.tail; head = used.head; used = used.used ∙ ap Some (sym same) }

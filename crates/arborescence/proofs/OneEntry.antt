@@ -1,7 +1,7 @@
 -- Of arcs none of which can be done without, one alone enters a set that is strong by the arcs before it.
-use Rattle.std.proofs.Common.{◌≡◌, ◌≢◌, ℕ, Bool, true, false, ◌&&◌, List, [], ◌∷◌, get_or, length, inl, inr, refl, sym, subst, ap, ◌∙◌, ◌⊎◌}
-use Rattle.std.specs.Prelude.{◌==◌, IsTrue, IsFalse, All}
-use Rattle.std.proofs.lemmas.Bool.{and_from, and_parts, both_ways, cases_Bool, cases_eq, false_from_ne_true, false≢true}
+use Rattle.std.proofs.Common.{◌≡◌, ◌≢◌, ℕ, Bool, ◌&&◌, List, get_or, inl, inr, sym, subst, ap, ◌∙◌, ◌⊎◌}
+use Rattle.std.specs.Prelude.{IsTrue, IsFalse}
+use Rattle.std.proofs.lemmas.Bool.{and_from, and_parts, both_ways, cases_eq, false_from_ne_true}
 use Rattle.st_model.specs.declared.branch.Branch.{Branch}
 use Rattle.st_model.specs.Branch.{is_present}
 use Rattle.st_model.specs.Lists.{has}

@@ -1,12 +1,12 @@
 -- Chosen arcs that are looked at from the last to the first.
-use Rattle.std.proofs.Common.{◌≡◌, ◌≢◌, ℕ, zero, ◌+◌, ◌-◌, ◌<◌, ◌≤◌, Bool, true, false, Option, Some, None, is_some, List, [], ◌∷◌, ◌++◌, length, get_or, take, inl, inr, refl, sym, ap, subst, ◌∙◌, arith}
+use Rattle.std.proofs.Common.{◌≡◌, ◌≢◌, ℕ, ◌+◌, ◌-◌, ◌<◌, ◌≤◌, Bool, true, false, Option, Some, None, is_some, List, [], ◌∷◌, ◌++◌, length, get_or, take, refl, subst, arith}
 use Rattle.std.specs.Prelude.{IfSome, IfNone, IsTrue, IsFalse, All}
 use Rattle.std.specs.List.{AllByRecursion}
 use Rattle.std.proofs.lemmas.Bool.{both_ways, false_from_ne_true}
 use Rattle.std.proofs.lemmas.List.{append-nil, take_all, take_more, get_or-take, length-take}
 use Rattle.std.proofs.lemmas.List.Elements.{All-nil, All-push, All-append, All-weaker, recursion_from_All, All-from_recursion}
 use Rattle.st_model.specs.declared.branch.Branch.{Branch}
-use Rattle.arborescence.specs.Closing.{IsClosed, Spans, Misses, IsNeeded, IsKept, ArePruned, AreWithin}
+use Rattle.arborescence.specs.Closing.{IsClosed, Spans, Misses, IsKept, ArePruned, AreWithin}
 
 -- an arc that is kept, and was looked at
 pub record IsLate (r : ℕ) (chosen : List (ℕ × ℕ)) (left : ℕ) (kept : List (ℕ × ℕ)) (arc : ℕ × ℕ) : Type 0 where

@@ -1,31 +1,24 @@
 -- One cut more round what leads to a vertex: the packing still fits, and what was reached still is.
-use Rattle.std.proofs.Common.{◌≡◌, ℕ, ◌+◌, ◌^◌, ◌<◌, ◌≤◌, Bool, true, false, not, cond, ◌&&◌, List, [], ◌∷◌, ◌++◌, length, get_or, map, None, Some, refl, sym, ap, ◌∙◌, arith, append_assoc, inl, inr}
-use Rattle.std.specs.Prelude.{◌==◌, IsTrue, IsFalse, All, if◌then◌else◌}
+use Rattle.std.proofs.Common.{◌≡◌, ℕ, ◌+◌, ◌≤◌, false, not, ◌&&◌, [], ◌∷◌, ◌++◌, length, map, refl, sym, ap, ◌∙◌, arith, append_assoc, inl, inr}
+use Rattle.std.specs.Prelude.{IsTrue, IsFalse, All, if◌then◌else◌}
 use Rattle.std.specs.List.Sorted.{IsStrictlyIncreasing}
-use Rattle.std.proofs.lemmas.Bool.{and_from, cases_Bool}
-use Rattle.std.proofs.lemmas.List.{append-nil, get_or_default}
-use Rattle.std.proofs.lemmas.List.Elements.{All-nil, All-cons, All-push, All-append, All-map}
+use Rattle.std.proofs.lemmas.Bool.{cases_Bool}
+use Rattle.std.proofs.lemmas.List.{append-nil}
+use Rattle.std.proofs.lemmas.List.Elements.{All-nil, All-cons, All-append}
 use Rattle.st_model.specs.declared.branch.Branch.{Branch}
-use Rattle.st_model.specs.Branch.{IsVertexSet, certain_in, is_present, open_price}
-use Rattle.st_model.specs.declared.link.Link.{Link}
+use Rattle.st_model.specs.Branch.{IsVertexSet, certain_in, is_present}
 use Rattle.st_model.specs.Led.{AreLed}
-use Rattle.st_model.specs.Lists.{has, total}
-use Rattle.st_model.specs.Made.{has_pair}
+use Rattle.st_model.specs.Lists.{has}
 use Rattle.st_model.specs.Network.{IsVertex}
-use Rattle.st_model.proofs.Marked.{has_at}
 use Rattle.st_model.proofs.Sums.{total-append}
-use Rattle.cut_packing.specs.declared.arcs.LoadedArc.{LoadedArc}
 use Rattle.cut_packing.specs.declared.cut.Cut.{Cut}
 use Rattle.cut_packing.specs.Full.{IsSaturatedIn, IsReachedIn, here, there}
 use Rattle.cut_packing.specs.Loads.{arcs_into, laid, AreLoadedIn}
-use Rattle.cut_packing.specs.Packing.{load, CutFitsIn, FitsIn}
-use Rattle.cut_packing.proofs.Judged.{arcs_fit_iff}
-use Rattle.cut_packing.proofs.Loaded.{AreLoaded-lay}
+use Rattle.cut_packing.specs.Packing.{FitsIn}
 use Rattle.arborescence.specs.declared.raising.Raising.{Raising}
 use Rattle.arborescence.specs.Ascending.{raised_packing, IsRaising, HasRaised}
-use Rattle.arborescence.specs.DiNetwork.{DiNetwork, IsDiNetwork, arc_from, away_price, di_ground, leads}
+use Rattle.arborescence.specs.DiNetwork.{DiNetwork, IsDiNetwork, away_price, di_ground}
 use Rattle.arborescence.specs.Gathering.{used_into}
-use Rattle.arborescence.proofs.DiWeights.{certain_prizes}
 use Rattle.arborescence.proofs.OneCut.{cut_laid, fits_more, saturated_kept, set_vertices}
 use Rattle.arborescence.proofs.Used.{used_iff, gathered_vertex}
 

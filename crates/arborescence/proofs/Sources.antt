@@ -1,12 +1,12 @@
 -- Sets that chosen arcs connect strongly and don't enter, of those that lead to a vertex.
-use Rattle.std.proofs.Common.{◌≡◌, ℕ, zero, suc, ◌+◌, ◌<◌, ◌≤◌, Bool, true, false, cond, not, ◌&&◌, ◌||◌, List, [], ◌∷◌, length, get_or, map, is_some, inl, inr, refl, sym, ap, subst, ◌∙◌, arith}
-use Rattle.std.specs.Prelude.{◌==◌, ◌≢◌, ◌⊎◌, IsTrue, IsFalse, All}
+use Rattle.std.proofs.Common.{◌≡◌, ℕ, zero, suc, ◌+◌, ◌<◌, ◌≤◌, Bool, true, false, cond, not, List, [], ◌∷◌, length, get_or, map, is_some, inl, inr, refl, sym, ap, subst, ◌∙◌, arith}
+use Rattle.std.specs.Prelude.{◌≢◌, ◌⊎◌, IsTrue, IsFalse, All}
 use Rattle.std.specs.List.{AllByRecursion}
-use Rattle.std.proofs.lemmas.Bool.{and_parts, cases_Bool, cases_eq, eqb-true, or_cases, both_ways, not-true, false≢true, false_from_ne_true}
+use Rattle.std.proofs.lemmas.Bool.{cases_Bool, cases_eq, both_ways, not-true, false≢true, false_from_ne_true}
 use Rattle.std.proofs.lemmas.List.Elements.{All-map, recursion_from_All, All-from_recursion}
 use Rattle.st_model.specs.declared.branch.Branch.{Branch}
 use Rattle.st_model.specs.Branch.{is_present}
-use Rattle.st_model.specs.Led.{heads_at, IsLed, start, along, AreLed}
+use Rattle.st_model.specs.Led.{IsLed, start, along, AreLed}
 use Rattle.st_model.specs.Lists.{has, sum_to}
 use Rattle.st_model.specs.Network.{IsVertex}
 use Rattle.st_model.specs.VertexSet.{VertexSet}
@@ -37,13 +37,14 @@ saturated_ends D B P u v net is =
     let ends = away_between D u v net (open_parts (di_ground D) B u v (ap is_some is.used)).1 in
     ((ends.0, is.tail), (ends.1, is.head))
 
+-- what follows, turned round
+pub not_back : (a b : Bool) → (IsTrue a → IsTrue b) → IsTrue (not b) → IsTrue (not a)
+not_back true b h out = absurd (both_ways b (not-true b out) (h refl))
+not_back false b h out = refl
+
 -- what a set that is closed under the arcs doesn't hold is closed under them backwards
 closed_back : (arcs : List (ℕ × ℕ)) (S : ℕ → Bool) → IsClosed arcs S → IsClosed (map back arcs) (λ v. not (S v))
-closed_back arcs S closed = All-map (λ arc. IsTrue (not (S arc.0)) → IsTrue (not (S arc.1))) back arcs (λ k d below. λ out. turned (S (get_or arcs k d).0) (S (get_or arcs k d).1) (closed k d below) out)
-  where
-    turned : (a b : Bool) → (IsTrue a → IsTrue b) → IsTrue (not b) → IsTrue (not a)
-    turned true b h out = absurd (both_ways b (not-true b out) (h refl))
-    turned false b h out = refl
+closed_back arcs S closed = All-map (λ arc. IsTrue (not (S arc.0)) → IsTrue (not (S arc.1))) back arcs (λ k d below. λ out. not_back (S (get_or arcs k d).0) (S (get_or arcs k d).1) (closed k d below) out)
 
 unmapped : (P : ℕ × ℕ → Type 0) (arcs : List (ℕ × ℕ)) → AllByRecursion P (map back arcs) → AllByRecursion (λ arc. P (back arc)) arcs
 unmapped P [] all = tt

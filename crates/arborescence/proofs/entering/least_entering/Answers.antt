@@ -1,4 +1,4 @@
-use Rattle.std.proofs.Common.{None, sym, ◌∙◌}
+use Rattle.std.proofs.Common.{None}
 use Rattle.arborescence.proofs.LeastEntering.{least_over_more}
 use Rattle.arborescence.proofs.entering.least_entering.Goals as goal
 

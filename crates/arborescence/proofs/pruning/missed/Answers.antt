@@ -1,6 +1,4 @@
-use Rattle.std.proofs.Common.{◌++◌, ◌<◌, length, sym, arith}
-use Rattle.std.specs.Prelude.{All}
-use Rattle.arborescence.specs.Closing.{AreHeadsOf}
+use Rattle.std.proofs.Common.{◌++◌}
 use Rattle.arborescence.proofs.Listing.{walk_misses, walk_spans, some_weaker, none_weaker}
 use Rattle.arborescence.proofs.pruning.missed.Goals as goal
 

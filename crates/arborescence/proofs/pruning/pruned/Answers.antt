@@ -1,4 +1,4 @@
-use Rattle.std.proofs.Common.{◌≤◌, sym, ◌∙◌, arith}
+use Rattle.std.proofs.Common.{sym, ◌∙◌}
 use Rattle.arborescence.proofs.Pruned.{pruning_start, pruning_some, pruning_none, pruning_done}
 use Rattle.arborescence.proofs.pruning.pruned.Goals as goal
 

@@ -1,4 +1,3 @@
-use Rattle.std.proofs.Common.{◌++◌, ◌≤◌, length, take}
 use Rattle.arborescence.proofs.Pruned.{IsPruning}
 use Rattle.arborescence.proofs.pruning.pruned.Given as goal
 

@@ -1,4 +1,4 @@
-use Rattle.std.proofs.Common.{refl, sym, ◌∙◌, arith}
+use Rattle.std.proofs.Common.{refl, arith}
 use Rattle.arborescence.specs.Ascending.{rooted_packing}
 use Rattle.arborescence.proofs.Chosen.{chosen_closing, fewer_apart}
 use Rattle.arborescence.proofs.Sources.{saturated_ends}

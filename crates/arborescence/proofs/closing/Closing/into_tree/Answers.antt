@@ -1,4 +1,3 @@
-use Rattle.std.proofs.Common.{refl}
 use Rattle.std.proofs.lemmas.List.{append-nil}
 use Rattle.arborescence.proofs.ClosedTrees.{chosen_within, closed_by, kept_within}
 use Rattle.arborescence.proofs.closing.Closing.into_tree.Goals as goal
