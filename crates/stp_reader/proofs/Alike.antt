@@ -224,28 +224,33 @@ all_alike number p (line ∷ lines) k h = by_case (decides_kind p line) refl h (
         told (inl e) = inr (all_settled (suc number) (after Plain p line) lines (tells_arcs (form line)) e)
         told (inr r) = inl r
 
--- ---- a directed file states arcs, where directed files are read
+-- ---- a directed file states arcs, or nothing
 
-pub all_directed : (number : ℕ) (p : Place) (lines : List (List (List ℕ))) (c : Contents) → kind_at p ≡ None → begins_directed p lines ≡ true → stated_from Any number p lines ≡ Ok c → kind_of_contents c ≡ Some true
-all_directed number p [] c k h e = absurd cc
-all_directed number p (line ∷ lines) c k h e = by_case (decides_kind p line) refl h (all_directed (suc number) (after Plain p line) lines c)
+-- where it doesn't say that the file is directed, a line is judged as where directed files aren't read
+as_plain : (mode : Mode) (p : Place) (line : List (List ℕ)) → (decides_kind p line ≡ true → tells_arcs (form line) ≡ false) → judge mode p line ≡ judge Plain p line
+as_plain Plain p line h = refl
+as_plain Any p line h = sym (line_alike p line h)
+
+pub all_directed : (mode : Mode) (number : ℕ) (p : Place) (lines : List (List (List ℕ))) (c : Contents) → kind_at p ≡ None → begins_directed p lines ≡ true → stated_from mode number p lines ≡ Ok c → kind_of_contents c ≡ Some true
+all_directed mode number p [] c k h e = absurd cc
+all_directed mode number p (line ∷ lines) c k h e = by_case (decides_kind p line) refl h (all_directed mode (suc number) (after Plain p line) lines c)
   where
-    stops : (r : Reason) → judge Any p line ≡ Err r → kind_of_contents c ≡ Some true
+    stops : (r : Reason) → judge mode p line ≡ Err r → kind_of_contents c ≡ Some true
     stops r refused =
         let at_once : refuse number r ≡ Ok c = rw refused at e in
         absurd cc
 
     by_case : (b : Bool) → decides_kind p line ≡ b → cond b (tells_arcs (form line)) (begins_directed (after Plain p line) lines) ≡ true
-        → (kind_at (after Plain p line) ≡ None → begins_directed (after Plain p line) lines ≡ true → stated_from Any (suc number) (after Plain p line) lines ≡ Ok c → kind_of_contents c ≡ Some true)
+        → (kind_at (after Plain p line) ≡ None → begins_directed (after Plain p line) lines ≡ true → stated_from mode (suc number) (after Plain p line) lines ≡ Ok c → kind_of_contents c ≡ Some true)
         → kind_of_contents c ≡ Some true
-    by_case false d h again = on (least (reasons Plain p line)) (sym (line_alike p line (λ e. absurd cc)) ∙ judge_answer Plain p line)
+    by_case false d h again = on (least (reasons Plain p line)) (as_plain mode p line (λ e. absurd cc) ∙ judge_answer Plain p line)
       where
-        on : (o : Option Reason) → judge Any p line ≡ answer o (after Plain p line) → kind_of_contents c ≡ Some true
+        on : (o : Option Reason) → judge mode p line ≡ answer o (after Plain p line) → kind_of_contents c ≡ Some true
         on None is = again (line_open p line k d) h (rw is at e)
         on (Some r) is = stops r is
-    by_case true d h again = on (least (reasons Any p line)) (judge_answer Any p line) (line_decides Any p line k d)
+    by_case true d h again = on (least (reasons mode p line)) (judge_answer mode p line) (line_decides mode p line k d)
       where
-        on : (o : Option Reason) → judge Any p line ≡ answer o (after Any p line) → (kind_at (after Any p line) ≡ Some (tells_arcs (form line))) ⊎ ((r : Reason) × (judge Any p line ≡ Err r)) → kind_of_contents c ≡ Some true
+        on : (o : Option Reason) → judge mode p line ≡ answer o (after mode p line) → (kind_at (after mode p line) ≡ Some (tells_arcs (form line))) ⊎ ((r : Reason) × (judge mode p line ≡ Err r)) → kind_of_contents c ≡ Some true
         on (Some r) is told = stops r is
         on None is (inr r) = stops r.0 r.1
-        on None is (inl known) = kind_stays Any (suc number) (after Any p line) lines true c (known ∙ ap (λ (b : Bool). Some b) h) (rw is at e)
+        on None is (inl known) = kind_stays mode (suc number) (after mode p line) lines true c (known ∙ ap (λ (b : Bool). Some b) h) (rw is at e)

@@ -121,9 +121,9 @@ alike : (bytes : List ℕ) → is_directed bytes ≡ false → stated Plain byte
 unfolding stated
 alike bytes h = all_alike 1 at_header (word_lines bytes) refl h
 
-told : (bytes : List ℕ) (c : Contents) → is_directed bytes ≡ true → stated Any bytes ≡ Ok c → kind_of_contents c ≡ Some true
+told : (mode : Mode) (bytes : List ℕ) (c : Contents) → is_directed bytes ≡ true → stated mode bytes ≡ Ok c → kind_of_contents c ≡ Some true
 unfolding stated
-told bytes c h e = all_directed 1 at_header (word_lines bytes) c refl h e
+told mode bytes c h e = all_directed mode 1 at_header (word_lines bytes) c refl h e
 
 -- an instance that is read in one mode, where the other states the same
 in_other : (mode other : Mode) (bytes : List ℕ) (P : problem.Problem) (scale : Scale) → stated other bytes ≡ stated mode bytes → ReadsIn mode bytes P scale → ReadsIn other bytes P scale
@@ -138,12 +138,12 @@ plain_kind : (I : Network) (c : Contents) → problem.plain I ≡ problem_in c �
 plain_kind I (undirected f) same k = cc
 plain_kind I (directed f) same k = cc
 
-plain_file : (bytes : List ℕ) (I : Network) (scale : Scale) → ReadsFile bytes (problem.plain I) scale → is_directed bytes ≡ false
-plain_file bytes I scale reads = by_case (is_directed bytes) refl (stated_reads Any bytes (problem.plain I) scale reads)
+plain_file : (mode : Mode) (bytes : List ℕ) (I : Network) (scale : Scale) → ReadsIn mode bytes (problem.plain I) scale → is_directed bytes ≡ false
+plain_file mode bytes I scale reads = by_case (is_directed bytes) refl (stated_reads mode bytes (problem.plain I) scale reads)
   where
-    by_case : (b : Bool) → is_directed bytes ≡ b → (c : Contents) × (stated Any bytes ≡ Ok c) × (problem.plain I ≡ problem_in c) × (scale ≡ scale_in c) → b ≡ false
+    by_case : (b : Bool) → is_directed bytes ≡ b → (c : Contents) × (stated mode bytes ≡ Ok c) × (problem.plain I ≡ problem_in c) × (scale ≡ scale_in c) → b ≡ false
     by_case false h s = refl
-    by_case true h s = absurd (plain_kind I s.0 s.2 (told bytes s.0 h s.1))
+    by_case true h s = absurd (plain_kind I s.0 s.2 (told mode bytes s.0 h s.1))
 
 directed_kind : (bytes : List ℕ) (D : DiNetwork) (c : Contents) → problem.directed D ≡ problem_in c → stated Plain bytes ≡ Ok c → ⊥
 directed_kind bytes D (undirected f) same e = cc
@@ -164,7 +164,8 @@ reads_alike_lem bytes = record {
   );
   refused = λ h line reason.
       (refused_in_other Any Plain bytes line reason (alike bytes h), refused_in_other Plain Any bytes line reason (sym (alike bytes h)));
-  plain_file = plain_file bytes;
+  plain_file = plain_file Any bytes;
+  links_file = λ I scale reads. plain_file Plain bytes I scale (as_problem bytes I scale reads);
   directed_file = directed_file bytes;
 }
 

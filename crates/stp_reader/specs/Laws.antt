@@ -32,4 +32,5 @@ pub record ReadsAlike (bytes : List ℕ) : Type 0 where
   pub reads : is_directed bytes ≡ false → (I : Network) (scale : Scale) → ReadsFile bytes (plain I) scale ↔ Reads bytes I scale
   pub refused : is_directed bytes ≡ false → (line : ℕ) (reason : Reason) → RefusedFile bytes line reason ↔ Refused bytes line reason
   pub plain_file : (I : Network) (scale : Scale) → ReadsFile bytes (plain I) scale → is_directed bytes ≡ false
+  pub links_file : (I : Network) (scale : Scale) → Reads bytes I scale → is_directed bytes ≡ false
   pub directed_file : (D : DiNetwork) (scale : Scale) → ReadsFile bytes (directed D) scale → is_directed bytes ≡ true
