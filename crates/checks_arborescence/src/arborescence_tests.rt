@@ -1,12 +1,14 @@
-ghost use Rattle.std.specs.Prelude.{◌≡◌, IfOk};
-ghost use Rattle.st_model.specs.Branch.{all_trees};
+ghost use Rattle.std.specs.Prelude.{◌≡◌, ℕ, [], IfOk, IsTrue};
+ghost use Rattle.st_model.specs.Branch.{IsBranchIn, LeavesRequiredIn, all_trees, certain_in, is_present};
 ghost use Rattle.st_model.specs.Network.{IsVertex};
+ghost use Rattle.arborescence.specs.DiNetwork.{di_ground};
 
 mod drawn;
 
 use arborescence::{
-    DiAscent, DiInstance, di_ascend, di_cost, di_first_tree, di_fits, di_is_full, di_is_tree,
-    di_wall, di_weight, directed_words, packings_bound, walls_leave_no_tree,
+    DiAscent, DiInstance, DiLeaf, di_ascend, di_close_all, di_cost, di_first_tree, di_fits,
+    di_is_full, di_is_tree, di_wall, di_weight, directed_words, packings_bound,
+    walls_leave_no_tree,
 };
 use cut_packing::{Cut, Packing, SharedSet};
 use st_model::{Branch, Link, Listed, Sides, Tree};
@@ -141,7 +143,7 @@ fn weighed(
     packing: &Packing,
     is_full: bool,
 ) -> Result<Option<u128>, AllocError>
-    requires { branch.now ≡ all_trees }
+    requires { branch.now.must ≡ [] }
 {
     if !di_fits(alloc, instance, branch, packing)? {
         return Ok(None);
@@ -150,6 +152,48 @@ fn weighed(
         return Ok(None);
     }
     Ok(Some(di_weight(instance, branch.branch(), packing)))
+}
+
+// Whether a branch is closed by a tree that costs this, and a packing of that weight; or by a packing of
+// the target's weight, where there is no cost.
+fn is_closed_at(
+    alloc: Global,
+    instance: &DiInstance,
+    branch: &Sides,
+    least: Option<u64>,
+) -> Result<bool, AllocError>
+    requires branch { IsBranchIn (di_ground instance.now) branch.now }
+    requires required { LeavesRequiredIn (di_ground instance.now) branch.now }
+    requires no_must { branch.now.must ≡ [] }
+    requires certain { (v : ℕ) → IsVertex instance.now.n v → IsTrue (is_present branch.now v)
+        → IsTrue (certain_in (di_ground instance.now) branch.now v) }
+{
+    let leaf = di_close_all(alloc, instance, branch, 1000)?;
+    let answer = leaf_is(alloc, instance, branch, &leaf, least)?;
+    Ok(answer)
+}
+
+// Whether a leaf is a tree that costs this with a packing of that weight, or a wall where there is no cost.
+fn leaf_is(
+    alloc: Global,
+    instance: &DiInstance,
+    branch: &Sides,
+    leaf: &DiLeaf,
+    least: Option<u64>,
+) -> Result<bool, AllocError>
+    requires { branch.now.must ≡ [] }
+{
+    match leaf {
+        DiLeaf::Tree(tree, packing) => {
+            let weight = weighed(alloc, instance, branch, packing, false)?;
+            let cost = cost(alloc, instance, tree)?;
+            Ok(least.is_some() && cost == least && weight == least.map(u128::from))
+        }
+        DiLeaf::Wall(packing) => {
+            let weight = weighed(alloc, instance, branch, packing, false)?;
+            Ok(least.is_none() && weight == Some(1000))
+        }
+    }
 }
 
 // Whether the two cuts fit, and whether they are full.
@@ -207,6 +251,27 @@ fn bound_from(alloc: Global, root: u32, target: u64) -> Result<Option<u128>, All
     let instance = three(alloc, root)?;
     let weight = ascended(alloc, &instance, target)?;
     Ok(weight)
+}
+
+// Whether one vertex is closed by a tree without arcs.
+fn closes_one(alloc: Global) -> Result<bool, AllocError> {
+    let instance = DiInstance::build(alloc, 1, 1, &[], &[])?;
+    let branch = everything(alloc)?;
+    let answer = is_closed_at(alloc, &instance, &branch, Some(0))?;
+    Ok(answer)
+}
+
+// Whether two vertices with an arc to the root alone are closed by a wall.
+fn closes_two(alloc: Global) -> Result<bool, AllocError> {
+    let arcs = [Link {
+        a: 2,
+        b: 1,
+        cost: 3,
+    }];
+    let instance = DiInstance::build(alloc, 2, 1, &arcs, &[2])?;
+    let branch = everything(alloc)?;
+    let answer = is_closed_at(alloc, &instance, &branch, None)?;
+    Ok(answer)
 }
 
 // Whether the instance has a tree that is found, and no wall.
@@ -382,6 +447,13 @@ fn ascends_to_the_target_or_until_full(rt: HostRuntime) -> Result<(), Fail> {
     assert_eq!(rt; bound_from(alloc, 1, 7)?, Some(7));
     assert_eq!(rt; bound_from(alloc, 1, 100)?, Some(7));
     assert_eq!(rt; bound_from(alloc, 2, 100)?, Some(4));
+    Ok(())
+}
+
+#[test]
+fn closes_where_all_is_decided(rt: HostRuntime) -> Result<(), Fail> {
+    assert!(rt; closes_one(rt.alloc())?, "a lone root");
+    assert!(rt; closes_two(rt.alloc())?, "a wall");
     Ok(())
 }
 

@@ -1,6 +1,9 @@
-use super::{ascended, cost, first};
+ghost use Rattle.std.specs.Prelude.{◌≡◌, [], ◌∷◌, IfOk};
+ghost use Rattle.st_model.specs.Branch.{deciding};
+
+use super::{ascended, cost, first, is_closed_at};
 use arborescence::{DiInstance, di_wall};
-use st_model::Link;
+use st_model::{Branch, Link, Listed, Sides};
 use std::alloc::{AllocError, Global};
 use std::test::Fail;
 use test_instances::Draws;
@@ -54,10 +57,10 @@ fn hangs(way: u32, vertex: u32) -> bool {
     false
 }
 
-// Whether a vertex is on the way from a terminal to the root.
-fn is_used(instance: &DiInstance, way: u32, vertex: u32) -> bool {
-    for terminal in instance.terminals() {
-        let mut here = *terminal;
+// Whether a vertex is on the way from one that is sought to the root.
+fn is_used(sought: &[u32], way: u32, vertex: u32) -> bool {
+    for start in sought {
+        let mut here = *start;
         for _step in 0..5 {
             if here == vertex {
                 return true;
@@ -68,11 +71,11 @@ fn is_used(instance: &DiInstance, way: u32, vertex: u32) -> bool {
     false
 }
 
-// What the arcs cost by which the terminals hang on the root; none where one is missing.
-fn cost_of(instance: &DiInstance, way: u32) -> Option<u64> {
+// What the arcs cost by which those that are sought hang on the root; none where one is missing.
+fn cost_of(instance: &DiInstance, sought: &[u32], way: u32) -> Option<u64> {
     let mut cost: u64 = 0;
     for vertex in HANGING {
-        if is_used(instance, way, vertex) {
+        if is_used(sought, way, vertex) {
             if !hangs(way, vertex) {
                 return None;
             }
@@ -82,11 +85,11 @@ fn cost_of(instance: &DiInstance, way: u32) -> Option<u64> {
     Some(cost)
 }
 
-// What the cheapest arborescence costs, of all ways.
-fn least(instance: &DiInstance) -> Option<u64> {
+// What the cheapest arborescence costs that reaches those that are sought, of all ways.
+fn least(instance: &DiInstance, sought: &[u32]) -> Option<u64> {
     let mut least: Option<u64> = None;
     for way in 0..WAYS {
-        if let Some(cost) = cost_of(instance, way) {
+        if let Some(cost) = cost_of(instance, sought, way) {
             least = Some(least.map_or(cost, |other| other.min(cost)));
         }
     }
@@ -96,7 +99,7 @@ fn least(instance: &DiInstance) -> Option<u64> {
 // Whether what is found agrees with all ways: a wall where there is none, and else a tree that costs no
 // less, and a full packing that weighs no more.
 fn agrees(alloc: Global, instance: &DiInstance) -> Result<bool, AllocError> {
-    let Some(least) = least(instance) else {
+    let Some(least) = least(instance, instance.terminals()) else {
         return Ok(di_wall(alloc, instance)?.is_some() && first(alloc, instance)?.is_none());
     };
     let Some(tree) = first(alloc, instance)? else {
@@ -108,6 +111,35 @@ fn agrees(alloc: Global, instance: &DiInstance) -> Result<bool, AllocError> {
         dear.is_some_and(|dear| least <= dear)
             && bound.is_some_and(|bound| bound <= u128::from(least)),
     )
+}
+
+// The branch of the trees that reach all vertices but the last.
+fn all_but_the_last(alloc: Global) -> Result<Sides, AllocError>
+    ensures { IfOk result (λ sides. sides ≡ deciding (2 ∷ 3 ∷ 4 ∷ 5 ∷ []) (6 ∷ [])) }
+{
+    let inside = Listed::of(Vec::from_slice(alloc, &HANGING)?);
+    let outside = Listed::of(Vec::from_slice(alloc, &[6])?);
+    Sides::of(alloc, Branch::of(alloc, inside, outside))
+}
+
+// Whether that branch is closed as all ways say.
+fn closes(alloc: Global, instance: &DiInstance) -> Result<bool, AllocError> {
+    if instance.vertices() != 6 || instance.root() != 1 || instance.is_terminal(6) {
+        return Ok(false);
+    }
+    let branch = all_but_the_last(alloc)?;
+    let answer = is_closed_at(alloc, instance, &branch, least(instance, &HANGING))?;
+    Ok(answer)
+}
+
+#[test]
+fn drawn_digraphs_are_closed_as_all_ways_say(rt: HostRuntime) -> Result<(), Fail> {
+    let mut draws = Draws { state: 26 };
+    for _round in 0..12 {
+        let instance = digraph(&mut draws, rt.alloc())?;
+        assert!(rt; closes(rt.alloc(), &instance)?);
+    }
+    Ok(())
 }
 
 #[test]
