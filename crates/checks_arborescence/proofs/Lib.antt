@@ -1,1 +1,2 @@
 pub mod AllTrees
+pub mod FirstFive
