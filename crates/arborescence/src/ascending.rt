@@ -11,6 +11,7 @@ use crate::ascent::DiAscent;
 use crate::fitting::is_certain;
 use crate::loads::di_loads;
 use crate::raising::Raising;
+use crate::smallest::raise_smallest;
 use crate::weighing::values;
 use cut_packing::Packing;
 use st_model::{Listed, Sides, VertexSet};
@@ -18,7 +19,8 @@ use std::alloc::{AllocError, Global};
 
 /// Adds cuts to a packing until it weighs at least the target, or until the root reaches each terminal and
 /// each vertex inside over arcs that bear just what they cost. Each cut is round all that reaches such a
-/// vertex over these arcs, and is raised by the least that is left of the arcs into it (Wong 1984).
+/// vertex over these arcs, and is raised by the least that is left of the arcs into it; the smallest set comes
+/// first (Wong 1984).
 pub fn di_ascend(
     alloc: Global,
     instance: &DiInstance,
@@ -82,7 +84,8 @@ fn begun(
     })
 }
 
-// Raises cuts for each vertex that has to be reached, one after another, while there is room.
+// Raises cuts round the smallest sets first, and then for each vertex that has to be reached and isn't yet, one
+// after another, while there is room.
 fn reach_certain(
     alloc: Global,
     instance: &DiInstance,
@@ -98,6 +101,7 @@ fn reach_certain(
         → IsReachedIn (di_ground instance.now) branch.now (raised_packing instance.now raising.new)
         instance.now.root v)) }
 {
+    raise_smallest(alloc, instance, branch, raising)?;
     for before in 0..instance.vertices() {
         let vertex = before + 1;
         if is_certain(instance, branch, vertex) {

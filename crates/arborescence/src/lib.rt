@@ -23,6 +23,7 @@ mod leaf;
 mod loads;
 mod pruning;
 mod raising;
+mod smallest;
 mod spreading;
 mod walls;
 mod weighing;

@@ -4,6 +4,7 @@ ghost use Rattle.st_model.specs.Lists.{has};
 ghost use Rattle.cut_packing.specs.Loads.{arcs_into};
 
 use crate::DiInstance;
+use crate::fitting::is_certain;
 use crate::gathering::gather;
 use cut_packing::{Cut, LoadedArc, LoadedArcs, Packing, SharedSet, lay};
 use st_model::{Listed, Sides, VertexSet};
@@ -22,7 +23,7 @@ pub struct Raising {
 }
 
 impl Raising {
-    ghost use Rattle.st_model.specs.Branch.{certain_in, is_present};
+    ghost use Rattle.st_model.specs.Branch.{IsBranchIn, LeavesRequiredIn, certain_in, is_present};
     ghost use Rattle.st_model.specs.Network.{IsVertex};
     ghost use Rattle.st_model.specs.Led.{AreLed};
     ghost use Rattle.cut_packing.specs.Full.{IsReachedIn};
@@ -55,6 +56,38 @@ impl Raising {
             self.raise(alloc, instance, branch, vertex)?;
         }
         Ok(())
+    }
+
+    // Looks at a vertex: raises a cut for it, if at most so many lead to it. How many do; none where it needs no
+    // cut, since no room is left, the root reaches it, or it doesn't have to be reached.
+    pub fn look(
+        &mut self,
+        alloc: Global,
+        instance: &DiInstance,
+        branch: &Sides,
+        vertex: u32,
+        most: usize,
+    ) -> Result<Option<usize>, AllocError>
+        requires branch { IsBranchIn (di_ground instance.now) branch.now }
+        requires required { LeavesRequiredIn (di_ground instance.now) branch.now }
+        requires raising { IsRaising instance.now branch.now self.old }
+        ensures { OnOk result (HasRaised instance.now branch.now self.old self.new) }
+    {
+        if self.room == 0 || vertex < 1 || instance.vertices() < vertex {
+            return Ok(None);
+        }
+        if !is_certain(instance, branch, vertex) {
+            return Ok(None);
+        }
+        gather(&self.arcs, &mut self.set, vertex)?;
+        if self.set.contains(instance.root()) {
+            return Ok(None);
+        }
+        let size = self.set.members().len();
+        if size <= most {
+            self.raise(alloc, instance, branch, vertex)?;
+        }
+        Ok(Some(size))
     }
 
     // Raises a cut round what leads to a vertex, by the least that is left of the arcs that enter it.

@@ -1,11 +1,11 @@
 use Rattle.std.proofs.Common.{◌+◌, inr, sym, ◌∙◌, arith}
 use Rattle.arborescence.proofs.Ascended.{certain_present, all_reached, reached_more, reached_past}
-use Rattle.arborescence.proofs.Raised.{HasRaised-none, HasRaised-more}
+use Rattle.arborescence.proofs.Raised.{HasRaised-more}
 use Rattle.arborescence.proofs.ascending.reach_certain.Goals as goal
 use Rattle.arborescence.proofs.ascending.reach_certain.Goals.{then-is_certain+in_ok-reach, else-is_certain}
 
 pub loop-before-init : goal.loop-before-init
-loop-before-init c = record { raised = HasRaised-none c.args.instance.now c.args.branch.now c.args.raising.now c.requires.raising; reached = inr (λ v low high certain. absurd (omega arith)) }
+loop-before-init c = record { raised = c.in_ok-raise_smallest.ensures; reached = inr (λ v low high certain. absurd (omega arith)) }
 
 pub reach-requires-clause-present : goal.reach-requires-clause-present
 reach-requires-clause-present c = certain_present c.args.instance.now c.args.branch.now (c.loop-before.before + 1) c.requires.branch c.requires.required (sym c.is_certain.ensures ∙ c.if-is_certain.true)
