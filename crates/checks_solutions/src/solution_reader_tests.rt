@@ -2,7 +2,7 @@ use amounts::Scale;
 use dimacs_writer::solution_text;
 use solution_reader::{
     Claimed, SolError, SolReason, VerifyFault, read_solution, solutions_refused_exactly,
-    stated_has_no_fault, verify,
+    stated_has_no_fault, verify, written_pairs_are_read, written_solutions_are_read,
 };
 use st_model::{Instance, Listed, Need, Tree};
 use std::alloc::{AllocError, Global};
@@ -224,6 +224,8 @@ fn reasons_have_numbers_and_names(rt: HostRuntime) -> Result<(), Fail> {
     assert!(rt; VerifyFault::NotConnected.name() == "NotConnected");
     solutions_refused_exactly();
     stated_has_no_fault();
+    written_solutions_are_read();
+    written_pairs_are_read();
     Ok(())
 }
 
@@ -337,11 +339,10 @@ fn judges_vertices_alone(rt: HostRuntime) -> Result<(), Fail> {
     Ok(())
 }
 
-// The tree of the three arcs from the centre of a star.
-fn star_tree(alloc: Global) -> Result<Tree, AllocError> {
-    let arcs = Vec::from_slice(alloc, &[(4, 1), (4, 2), (4, 3)])?;
+fn tree_of(alloc: Global, start: u32, arcs: &[(u32, u32)]) -> Result<Tree, AllocError> {
+    let arcs = Vec::from_slice(alloc, arcs)?;
     Ok(Tree {
-        start: 4,
+        start,
         arcs: Listed::of(arcs),
     })
 }
@@ -355,7 +356,7 @@ fn comes_back(
     scale: Scale,
     other: Scale,
 ) -> Result<bool, AllocError> {
-    let tree = star_tree(alloc)?;
+    let tree = tree_of(alloc, 4, &[(4, 1), (4, 2), (4, 3)])?;
     let text = solution_text(alloc, "row1.stp", 1, &tree, cost, cost, scale, false)?;
     Ok(
         answer(alloc, instance, scale, &text) == Ok(cost)
@@ -377,5 +378,87 @@ fn judges_what_is_written(rt: HostRuntime) -> Result<(), Fail> {
             Scale::Whole
         )?
     );
+    Ok(())
+}
+
+/// A tree and whether its arcs are written as they go, and the claim that is read of what is written.
+#[derive(Clone, Copy)]
+struct Written {
+    directed: bool,
+    start: u32,
+    arcs: &'static [(u32, u32)],
+    vertices: &'static [u32],
+    edges: &'static [(u32, u32)],
+}
+
+const WRITTEN: &[Written] = &[
+    Written {
+        directed: true,
+        start: 2,
+        arcs: &[(2, 1), (1, 30), (30, 4)],
+        vertices: &[1, 2, 4, 30],
+        edges: &[(1, 30), (2, 1), (30, 4)],
+    },
+    Written {
+        directed: false,
+        start: 2,
+        arcs: &[(2, 1), (1, 30), (30, 4)],
+        vertices: &[1, 2, 4, 30],
+        edges: &[(1, 2), (1, 30), (4, 30)],
+    },
+    // Two arcs between two vertices, one each way.
+    Written {
+        directed: true,
+        start: 3,
+        arcs: &[(3, 1), (1, 3)],
+        vertices: &[1, 3],
+        edges: &[(1, 3), (3, 1)],
+    },
+    Written {
+        directed: false,
+        start: 3,
+        arcs: &[(3, 1), (1, 3)],
+        vertices: &[1, 3],
+        edges: &[(1, 3)],
+    },
+    // One vertex.
+    Written {
+        directed: true,
+        start: 1_000_000,
+        arcs: &[],
+        vertices: &[1_000_000],
+        edges: &[],
+    },
+];
+
+// Whether what is written of this tree at a cost of 5.5 is read as that claim.
+fn is_read(alloc: Global, row: &Written) -> Result<bool, AllocError> {
+    let tree = tree_of(alloc, row.start, row.arcs)?;
+    let cost = 5_500_000;
+    let text = solution_text(
+        alloc,
+        "a.stp",
+        2,
+        &tree,
+        4,
+        cost,
+        Scale::Millionths,
+        row.directed,
+    )?;
+    match read_solution(alloc, &text) {
+        Ok(claimed) => Ok(
+            claimed.vertices() == row.vertices
+                && claimed.edges() == row.edges
+                && claimed.primal() == Some(u128::from(cost)),
+        ),
+        Err(_) => Ok(false),
+    }
+}
+
+#[test]
+fn reads_arcs_as_they_were_written(rt: HostRuntime) -> Result<(), Fail> {
+    for row in WRITTEN {
+        assert!(rt; is_read(rt.alloc(), row)?);
+    }
     Ok(())
 }

@@ -10,9 +10,9 @@ use Rattle.std.proofs.lemmas.List.{map-append, nil_from_length}
 use Rattle.std.proofs.lemmas.List.Sorted.{IsPermutation-refl, IsPermutation-trans, IsPermutation-cons, IsPermutation-middle}
 use Rattle.st_model.specs.Lists.{has, total}
 use Rattle.st_model.specs.Made.{is_between, has_pair}
-use Rattle.st_model.specs.Network.{Network}
+use Rattle.st_model.specs.Ground.{Ground}
 use Rattle.st_model.specs.Regrown.{unordered}
-use Rattle.st_model.specs.Arborescence.{Grows}
+use Rattle.st_model.specs.Arborescence.{GrowsIn}
 use Rattle.st_model.proofs.Distinct.{between-ends, has-cons_head, has-cons_tail}
 use Rattle.st_model.proofs.RegrowAlike.{total-IsPermutation}
 use Rattle.solution_reader.specs.Stated.{repeats}
@@ -121,11 +121,11 @@ repeats-IsPermutation xs ys h once = at_most_once ys (λ u v.
 -- ---- arcs that grow
 
 -- no arc that grows leads to what is reached
-not_again : (I : Network) (r : List ℕ) (arcs : List (ℕ × ℕ)) (u v : ℕ) → Grows I r arcs → has r u ≡ true → has r v ≡ true → has_pair arcs u v ≡ false
-not_again I r [] u v g first second = refl
-not_again I r (arc ∷ arcs) u v g first second =
+pub not_again : (G : Ground) (r : List ℕ) (arcs : List (ℕ × ℕ)) (u v : ℕ) → GrowsIn G r arcs → has r u ≡ true → has r v ≡ true → has_pair arcs u v ≡ false
+not_again G r [] u v g first second = refl
+not_again G r (arc ∷ arcs) u v g first second =
     or_from (is_between arc u v) (has_pair arcs u v) (false_from_ne_true (is_between arc u v) never)
-    (not_again I (arc.1 ∷ r) arcs u v g.3 (has-cons_tail r arc.1 u first) (has-cons_tail r arc.1 v second))
+    (not_again G (arc.1 ∷ r) arcs u v g.3 (has-cons_tail r arc.1 u first) (has-cons_tail r arc.1 v second))
   where
     never : is_between arc u v ≡ true → ⊥
     never h = elim (between-ends arc u v h) [
@@ -134,12 +134,12 @@ not_again I r (arc ∷ arcs) u v g first second =
     ]
 
 -- so no link is used twice
-pub grows_once : (I : Network) (r : List ℕ) (arcs : List (ℕ × ℕ)) → Grows I r arcs → repeats arcs ≡ false
-grows_once I r [] g = refl
-grows_once I r (arc ∷ arcs) g =
+pub grows_once : (G : Ground) (r : List ℕ) (arcs : List (ℕ × ℕ)) → GrowsIn G r arcs → repeats arcs ≡ false
+grows_once G r [] g = refl
+grows_once G r (arc ∷ arcs) g =
     or_from (has_pair arcs arc.0 arc.1) (repeats arcs)
-    (not_again I (arc.1 ∷ r) arcs arc.0 arc.1 g.3 (has-cons_tail r arc.1 arc.0 g.1) (has-cons_head r arc.1 arc.1 refl))
-    (grows_once I (arc.1 ∷ r) arcs g.3)
+    (not_again G (arc.1 ∷ r) arcs arc.0 arc.1 g.3 (has-cons_tail r arc.1 arc.0 g.1) (has-cons_head r arc.1 arc.1 refl))
+    (grows_once G (arc.1 ∷ r) arcs g.3)
 
 -- ---- different pairs that are among no more pairs are all of them
 
@@ -189,17 +189,3 @@ all_of_them (x ∷ xs) ys once among few =
     let joined = map-append unordered s.before s.later in
     let same = between-unordered x s.pair s.is in
     rw (s.split, map-append unordered s.before (s.pair ∷ s.later)) (IsPermutation-trans _ _ _ moved (rw (same, ← joined) (IsPermutation-cons (unordered x) _ _ rest)))
-
--- different pairs that are among others are no more than they
-pub no_more : (xs ys : List (ℕ × ℕ)) → repeats xs ≡ false → AllByRecursion (λ e. IsTrue (has_pair ys e.0 e.1)) xs → length xs ≤ length ys
-no_more [] ys once among = omega arith
-no_more (x ∷ xs) ys once among =
-    let p = or_parts (has_pair xs x.0 x.1) (repeats xs) once in
-    let s = stands ys x.0 x.1 among.0 in
-    let there : AllByRecursion (λ e. IsTrue (has_pair (s.before ++ s.pair ∷ s.later) e.0 e.1)) xs = subst (λ (zs : List (ℕ × ℕ)). AllByRecursion (λ e. IsTrue
-    (has_pair zs e.0 e.1)) xs) s.split among.1 in
-    let long = ap length s.split in
-    let long_split = length-append s.before (s.pair ∷ s.later) in
-    let long_left = length-append s.before s.later in
-    let rest = no_more xs (s.before ++ s.later) p.1 (all_still_there x s.before s.pair s.later xs s.is p.0 there) in
-    omega (arith, long, long_split, long_left, rest)

@@ -4,9 +4,9 @@ use Rattle.std.specs.Prelude.{◌==◌}
 use Rattle.std.specs.List.Sorted.{IsStrictlyIncreasing}
 use Rattle.std.proofs.lemmas.Bool.{or_parts}
 use Rattle.std.proofs.lemmas.Bool.Decides.{nat_tests}
-use Rattle.st_model.specs.Arborescence.{Grows, reached_from}
+use Rattle.st_model.specs.Arborescence.{GrowsIn, reached_from}
+use Rattle.st_model.specs.Ground.{Ground}
 use Rattle.st_model.specs.Lists.{has}
-use Rattle.st_model.specs.Network.{Network}
 use Rattle.st_model.specs.VertexSet.{AllApart}
 use Rattle.solution_reader.proofs.Claims.{insert, sorted, has-sorted, sorted_ascending, same_ascending}
 
@@ -15,9 +15,9 @@ pub length-reached : (r : List ℕ) (arcs : List (ℕ × ℕ)) → length (reach
 length-reached r [] = omega arith
 length-reached r (arc ∷ arcs) = let rest = length-reached (arc.1 ∷ r) arcs in omega (arith, rest)
 
-pub apart-reached : (I : Network) (r : List ℕ) (arcs : List (ℕ × ℕ)) → Grows I r arcs → AllApart r → AllApart (reached_from r arcs)
-apart-reached I r [] g apart = apart
-apart-reached I r (arc ∷ arcs) g apart = apart-reached I (arc.1 ∷ r) arcs g.3 (g.2, apart)
+pub apart-reached : (G : Ground) (r : List ℕ) (arcs : List (ℕ × ℕ)) → GrowsIn G r arcs → AllApart r → AllApart (reached_from r arcs)
+apart-reached G r [] g apart = apart
+apart-reached G r (arc ∷ arcs) g apart = apart-reached G (arc.1 ∷ r) arcs g.3 (g.2, apart)
 
 length-insert : (v : ℕ) (xs : List ℕ) → has xs v ≡ false → length (insert v xs) ≡ suc (length xs)
 length-insert v [] h = refl

@@ -12,4 +12,5 @@ pub mod FirstFault
 pub mod Testing
 pub mod WrittenWords
 pub mod WrittenLines
+pub mod OneOrder
 pub mod WrittenTrees

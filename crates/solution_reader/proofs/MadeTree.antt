@@ -7,6 +7,7 @@ use Rattle.std.proofs.lemmas.List.{get_or_default}
 use Rattle.std.proofs.lemmas.List.Elements.{recursion_from_All}
 use Rattle.st_model.specs.declared.tree.Tree.{Tree}
 use Rattle.st_model.specs.Arborescence.{IsArborescence, reached}
+use Rattle.st_model.specs.Ground.{ground}
 use Rattle.st_model.specs.Lists.{has}
 use Rattle.st_model.specs.Made.{is_between, has_pair, IsMadeOf, AreConnectedFrom}
 use Rattle.st_model.specs.Network.{Network, IsVertex, link, is_required}
@@ -86,13 +87,13 @@ module _ (I : Network) (claim : Claim) (start : ℕ) (t : Tree) (is : IsClaim cl
   pub is_claimed_tree : IsTrue (has (reached t) t.start) → IsClaimedTree I claim t
   is_claimed_tree first =
       let vertices = same_vertices first in
-      let long = same_length claim.vertices (reached t) is.ascending (apart-reached I (t.start ∷ []) t.arcs tree.grows (refl, tt)) vertices in
+      let long = same_length claim.vertices (reached t) is.ascending (apart-reached (ground I) (t.start ∷ []) t.arcs tree.grows (refl, tt)) vertices in
       let reached_are = length-reached (t.start ∷ []) t.arcs in
       let few = f.few in
       record {
         tree = record { arborescence = tree; required = λ v vertex needed. required v vertex needed (has claim.vertices v) refl };
         vertices = vertices;
-        edges = all_of_them t.arcs claim.edges (grows_once I (t.start ∷ []) t.arcs tree.grows) (recursion_from_All (λ arc. IsTrue (has_pair claim.edges arc.0 arc.1)) t.arcs made) (omega
+        edges = all_of_them t.arcs claim.edges (grows_once (ground I) (t.start ∷ []) t.arcs tree.grows) (recursion_from_All (λ arc. IsTrue (has_pair claim.edges arc.0 arc.1)) t.arcs made) (omega
             (arith, long, reached_are, few));
       }
     where

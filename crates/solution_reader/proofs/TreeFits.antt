@@ -9,6 +9,7 @@ use Rattle.std.proofs.lemmas.List.Elements.{recursion_from_All, All-from_recursi
 use Rattle.std.proofs.lemmas.List.Sorted.{All-permutation, IsPermutation-sym, length_permutation}
 use Rattle.st_model.specs.declared.tree.Tree.{Tree}
 use Rattle.st_model.specs.Arborescence.{Grows, arc_cost, cost, reached, reached_from}
+use Rattle.st_model.specs.Ground.{ground}
 use Rattle.st_model.specs.Lists.{has, total}
 use Rattle.st_model.specs.Network.{Network, IsInstance, link}
 use Rattle.st_model.specs.Regrown.{unordered}
@@ -114,12 +115,12 @@ not_empty I claim t k none = false≢true (ap (λ (vs : List ℕ). has vs t.star
 -- ---- edges
 
 pub not_repeated : (I : Network) (claim : Claim) (t : Tree) → IsClaimedTree I claim t → repeats claim.edges ≡ false
-not_repeated I claim t k = repeats-IsPermutation t.arcs claim.edges (IsPermutation-sym _ _ k.edges) (grows_once I (t.start ∷ []) t.arcs k.tree.arborescence.grows)
+not_repeated I claim t k = repeats-IsPermutation t.arcs claim.edges (IsPermutation-sym _ _ k.edges) (grows_once (ground I) (t.start ∷ []) t.arcs k.tree.arborescence.grows)
 
 -- a tree has one vertex more than links
 pub not_cycle : (I : Network) (claim : Claim) (t : Tree) → IsClaim claim → IsClaimedTree I claim t → length claim.vertices ≤ length claim.edges → ⊥
 not_cycle I claim t is k few =
-    let vertices = same_length claim.vertices (reached t) is.ascending (apart-reached I (t.start ∷ []) t.arcs k.tree.arborescence.grows (refl, tt)) k.vertices in
+    let vertices = same_length claim.vertices (reached t) is.ascending (apart-reached (ground I) (t.start ∷ []) t.arcs k.tree.arborescence.grows (refl, tt)) k.vertices in
     let reached_are = length-reached (t.start ∷ []) t.arcs in
     let moved = length_permutation (map unordered claim.edges) (map unordered t.arcs) k.edges in
     let edges = length-map claim.edges unordered in

@@ -32,7 +32,10 @@ use amounts::Scale;
 pub use claimed::Claimed;
 pub use fault::{SolError, SolFault};
 use judge::judged;
-pub use law::{solutions_refused_exactly, stated_has_no_fault, written_solutions_are_read};
+pub use law::{
+    solutions_refused_exactly, stated_has_no_fault, written_pairs_are_read,
+    written_solutions_are_read,
+};
 use read::whole_in;
 pub use reason::SolReason;
 use st_model::Instance;
