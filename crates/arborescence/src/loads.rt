@@ -28,7 +28,8 @@ pub fn di_loads(
     lay_cuts(alloc, arcs, cuts)
 }
 
-// The same arcs with nothing on them.
+/// The arcs between present vertices that aren't barred and don't lead to the root, with nothing on them, listed
+/// at their heads.
 pub fn free_arcs(
     alloc: Global,
     instance: &DiInstance,

@@ -172,7 +172,7 @@ pub fn left(arc: &LoadedArc) -> u64
     arc.cost - arc.load as u64
 }
 
-// A cut round the members of a set.
+// A cut of value `y` round the members of a set, which names `q`.
 pub fn cut_round(alloc: Global, set: &VertexSet, q: u32, y: u64) -> Result<Cut, AllocError>
     ensures q { IfOk result (λ c. c.q ≡ q) }
     ensures y { IfOk result (λ c. c.y ≡ y) }
