@@ -1,0 +1,5 @@
+pub mod Counting
+pub mod Halving
+pub mod Going
+pub mod Done
+pub mod Answered
