@@ -39,6 +39,5 @@ pub use judge::{di_cost, di_is_tree};
 pub use law::{directed_words, packings_bound, walls_leave_no_tree};
 pub use leaf::DiLeaf;
 pub use loads::free_arcs;
-pub use spreading::Spread;
 pub use walls::di_wall;
 pub use weighing::di_weight;

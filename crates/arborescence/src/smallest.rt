@@ -41,7 +41,11 @@ pub fn raise_smallest(
 }
 
 // All vertices that have to be reached.
-fn all_waiting(alloc: Global, instance: &DiInstance, branch: &Sides) -> Result<Waiting, AllocError> {
+fn all_waiting(
+    alloc: Global,
+    instance: &DiInstance,
+    branch: &Sides,
+) -> Result<Waiting, AllocError> {
     let mut waiting = BinaryHeap::new(alloc);
     for before in 0..instance.vertices() {
         let vertex = before + 1;

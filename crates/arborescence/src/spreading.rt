@@ -6,7 +6,7 @@ ghost use Rattle.st_model.specs.VertexSet.{Extends};
 use st_model::{VertexLists, VertexSet};
 use std::alloc::{AllocError, Global};
 
-/// What a walk reaches from a root, with the arc by which each vertex was reached first.
+// What a walk reaches from a root, with the arc by which each vertex was reached first.
 #[derive(Drop)]
 pub struct Spread {
     pub reached: VertexSet,
@@ -16,7 +16,7 @@ pub struct Spread {
 impl Spread {
     ghost use Rattle.arborescence.specs.Open.{IsSpread};
 
-    /// All that heads, listed at their tails, lead to from a root, breadth first.
+    // All that heads, listed at their tails, lead to from a root, breadth first.
     pub fn over(alloc: Global, heads: &VertexLists<u32>, root: u32) -> Result<Spread, AllocError>
         requires root { root < length heads.now }
         requires in_range { (u : ℕ) → All (λ v. v < length heads.now) (heads_at heads.now u) }

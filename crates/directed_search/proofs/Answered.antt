@@ -28,7 +28,7 @@ use Rattle.log_format.specs.Text.{IsAnyVertex, IsWritableStep, IsWritableTree}
 use Rattle.log_format.proofs.AllTrees.{belongs_to_all}
 use Rattle.directed_search.specs.Found.{IsDiFound, IsDiWithoutTree}
 use Rattle.directed_search.specs.State.{State}
-use Rattle.directed_search.specs.Searching.{IsSearching, Weighs}
+use Rattle.directed_search.specs.Searching.{HasLines, IsSearching, Weighs}
 use Rattle.directed_search.proofs.Going.{any_vertex, writable_set}
 
 -- each close of a proof tree weighs what it proves
@@ -63,8 +63,8 @@ one_proof D s h = let proved = h.goes_on 0 (omega arith) [] refl in (proved.0, s
 proved : (D : DiNetwork) (s : State) → IsSearching D s 0 [] → ProvesOfIn (di_ground D) all_trees s.least s.lines
 proved D s h = let done = h.goes_on s.least (omega arith) [] refl in (done.0, sym (append-nil s.lines) ∙ done.1, done.2)
 
-is_found_so : (D : DiNetwork) (s : State) (log : Log) → IsDiNetwork D → length s.best.arcs < 2 ^ 64 → IsSearching D s 0 [] → log.version ≡ Two → log.claim ≡ claim.Found s.primal s.least s.best [] s.lines → IsDiFound s.budget D s.best s.primal s.least s.expanded log
-is_found_so D s log net few h version claims = record {
+is_found_so : (D : DiNetwork) (s : State) (log : Log) → IsDiNetwork D → length s.best.arcs < 2 ^ 64 → IsSearching D s 0 [] → HasLines s 0 → log.version ≡ Two → log.claim ≡ claim.Found s.primal s.least s.best [] s.lines → IsDiFound s.budget D s.best s.primal s.least s.expanded log
+is_found_so D s log net few h worked version claims = record {
   is_tree = h.is_tree;
   is_cost = h.is_cost;
   is_bound = λ t tree. let all = proved D s h in rooted_proof_tree_bounds_lem (di_ground D) D.root all_trees s.least all.0 t (is_rooted D net) refl all.2 tree (belongs_to_all t);
@@ -75,6 +75,7 @@ is_found_so D s log net few h version claims = record {
   claims = claims;
   greatest = λ x low proves. let (none, (p, written, tree)) = proves in h.greatest x low (subst (All (Weighs x)) (sym written) (All-from_recursion (Weighs x) (preorder p) (weighs_each D x p all_trees refl tree)));
   all_spent = λ less. let before = h.spent less in let within = h.within in omega arith;
+  worked = omega (arith, worked);
   is_log = record {
     in_range = rw (version, claims) (record {
       primal_fits = small;
@@ -103,11 +104,11 @@ is_found_so D s log net few h version claims = record {
         omega (arith, h.is_cost, costs_arcs D s.best, most, all, net.amount)
 
 -- the same, by other names of the tree and of the budget
-pub is_found : (D : DiNetwork) (s : State) (budget : ℕ) (tree : Tree) (log : Log) → IsDiNetwork D → s.budget ≡ budget → tree ≡ s.best → length s.best.arcs < 2 ^ 64 → IsSearching D s 0 [] → log.version ≡ Two → log.claim ≡ claim.Found s.primal s.least s.best [] s.lines
+pub is_found : (D : DiNetwork) (s : State) (budget : ℕ) (tree : Tree) (log : Log) → IsDiNetwork D → s.budget ≡ budget → tree ≡ s.best → length s.best.arcs < 2 ^ 64 → IsSearching D s 0 [] → HasLines s 0 → log.version ≡ Two → log.claim ≡ claim.Found s.primal s.least s.best [] s.lines
     → IsDiFound budget D tree s.primal s.least s.expanded log
-is_found D s budget tree log net same is few h version claims =
+is_found D s budget tree log net same is few h worked version claims =
     subst (λ (b : ℕ). IsDiFound b D tree s.primal s.least s.expanded log) same
-    (subst (λ (t : Tree). IsDiFound s.budget D t s.primal s.least s.expanded log) (sym is) (is_found_so D s log net few h version claims))
+    (subst (λ (t : Tree). IsDiFound s.budget D t s.primal s.least s.expanded log) (sym is) (is_found_so D s log net few h worked version claims))
 
 pub is_without_tree : (D : DiNetwork) (wall : List ℕ) (log : Log) → IsDiNetwork D → IsDiWall D wall → IsVertexSet D.n wall → log.version ≡ Two → log.claim ≡ claim.NoTree wall → IsDiWithoutTree D log
 is_without_tree D wall log net bars set version claims = record {

@@ -15,10 +15,11 @@ use Rattle.arborescence.specs.DiNetwork.{DiNetwork, IsDiNetwork, di_ground, is_s
 use Rattle.arborescence.proofs.DiWeights.{certain_prizes, weighs_cuts}
 use Rattle.arborescence.specs.Leaves.{IsRootedPacking}
 use Rattle.directed_search.specs.declared.open_node.OpenNode.{OpenNode}
-use Rattle.directed_search.specs.State.{State, IsImproved, closed_by, split_at}
+use Rattle.directed_search.specs.State.{State, IsImproved, closed_by, split_at, worth}
 use Rattle.directed_search.specs.Searching.{IsAt, IsDiBranch, IsDiPacking, IsDone, IsInHand, IsOpen, branches, free_count, nodes_below, nodes_left}
 use Rattle.directed_search.proofs.Counting.{fewer_inside, fewer_outside, halves_below}
 use Rattle.directed_search.proofs.Halving.{branch_inside, branch_outside, packing_inside, packing_outside}
+use Rattle.directed_search.proofs.Worked.{lines_closed, lines_heavy, lines_improved, lines_split}
 use Rattle.directed_search.proofs.Going.{any_vertex, closes, improves, splits, writable_packing}
 
 -- a node is closed since no budget is left
@@ -27,6 +28,7 @@ spent_closed D s t N waiting net at none small few is = rw is (record {
   at = record {
     each = All-tail (IsOpen D) N waiting at.each;
     searching = closes D s (nodes_left D (branches (N ∷ waiting))) (nodes_left D (branches waiting)) N.branch (branches waiting) N.packing at.searching node.branch node.packing.fits (writable_packing D N.branch N.packing net node.packing small few) (omega arith) (inr (none, omega arith));
+    worked = lines_closed s N.packing at.worked;
   };
   fewer = omega arith;
   budget = refl;
@@ -40,11 +42,15 @@ pub heavy_closed : (D : DiNetwork) (s t : State) (B : Branch) (P : Packing) (wai
 heavy_closed D s t B P waiting net hand packing small few heavy is = rw is (record {
   at = record {
     each = hand.each;
-    searching = closes D s (nodes_below (free_count D B) + nodes_left D (branches waiting)) (nodes_left D (branches waiting)) B (branches waiting) P hand.searching hand.branch packing.fits (writable_packing D B P net packing small few) (omega arith) (inl (let weighs = weighs_cuts D B P hand.branch.no_must in omega arith));
+    searching = closes D s (nodes_below (free_count D B) + nodes_left D (branches waiting)) (nodes_left D (branches waiting)) B (branches waiting) P hand.searching hand.branch packing.fits (writable_packing D B P net packing small few) (omega arith) (inl dear);
+    worked = lines_heavy s P dear hand.worked;
   };
   fewer = omega arith;
   budget = refl;
 })
+  where
+    dear : s.primal ≤ worth P
+    dear = let weighs = weighs_cuts D B P hand.branch.no_must in omega arith
 
 -- the node in hand is split
 pub node_split : (D : DiNetwork) (s t : State) (B : Branch) (P : Packing) (v : ℕ) (waiting new : List OpenNode) → IsDiNetwork D → IsInHand D s B waiting → IsDiPacking D B P → IsSplitIn (di_ground D) B v → t ≡ split_at s v
@@ -54,6 +60,7 @@ node_split D s t B P v waiting new net hand packing may is left = rw (is, left) 
     each = All-cons (IsOpen D) (record { branch = with_inside B v; packing = P }) (record { branch = with_outside B v; packing = P } ∷ waiting) (record { branch = branch_inside D B v may hand.branch; packing = packing_inside D B v may P packing })
         (All-cons (IsOpen D) (record { branch = with_outside B v; packing = P }) waiting (record { branch = branch_outside D B v may hand.branch; packing = packing_outside D B v may P packing }) hand.each);
     searching = splits D s (nodes_below (free_count D B) + nodes_left D (branches waiting)) (nodes_left D (with_inside B v ∷ with_outside B v ∷ branches waiting)) B (branches waiting) v hand.searching may (any_vertex D v net may.vertex) fewer;
+    worked = lines_split s v hand.worked;
   };
   fewer = fewer;
   budget = refl;
@@ -66,7 +73,7 @@ node_split D s t B P v waiting new net hand packing may is left = rw (is, left) 
 
 -- a better tree changes nothing of what waits
 pub hand_improves : (D : DiNetwork) (s t : State) (B : Branch) (waiting : List OpenNode) → IsInHand D s B waiting → IsImproved D s t → IsInHand D t B waiting
-hand_improves D s t B waiting hand better = record { branch = hand.branch; each = hand.each; searching = improves D s t (nodes_below (free_count D B) + nodes_left D (branches waiting)) (B ∷ branches waiting) hand.searching better }
+hand_improves D s t B waiting hand better = record { branch = hand.branch; each = hand.each; searching = improves D s t (nodes_below (free_count D B) + nodes_left D (branches waiting)) (B ∷ branches waiting) hand.searching better; worked = lines_improved D s t 1 better hand.worked }
 
 pub done_since : (D : DiNetwork) (r s t : State) (B : Branch) (old new : List OpenNode) → r.budget ≡ s.budget → IsDone D B s old t new → IsDone D B r old t new
 done_since D r s t B old new same done = record { at = done.at; fewer = done.fewer; budget = done.budget ∙ sym same }

@@ -29,6 +29,7 @@ use Rattle.directed_search.specs.Found.{di_free_vertices}
 use Rattle.directed_search.specs.State.{State, IsImproved, begun, closed_by, counted, split_at, worth}
 use Rattle.directed_search.specs.Searching.{IsAt, IsDiBranch, IsDiPacking, IsInHand, IsOpen, IsSearching, ProveEach, Weighs, nodes_left}
 use Rattle.directed_search.proofs.Counting.{all_nodes}
+use Rattle.directed_search.proofs.Worked.{lines_counted}
 
 -- a vertex of the instance can be written
 pub any_vertex : (D : DiNetwork) (v : ℕ) → IsDiNetwork D → IsVertex D.n v → IsAnyVertex v
@@ -112,6 +113,7 @@ taken D s N waiting room at = record {
     writable = at.searching.writable;
     enough = λ budget. let before = at.searching.enough budget in (omega (arith, before.0), before.1);
   };
+  worked = lines_counted s at.worked;
 }
 
 -- a close is heavy, or no budget is left and a node is

@@ -1,5 +1,5 @@
 -- What holds of a search at each node. Helpers' clauses cite this, and no public one.
-use Rattle.std.specs.Prelude.{◌≡◌, ℕ, zero, suc, ◌+◌, ◌^◌, ◌<◌, ◌≤◌, if◌then◌else◌, List, [], ◌∷◌, ◌++◌, map, All, ⊤, IsTrue}
+use Rattle.std.specs.Prelude.{◌≡◌, ℕ, zero, suc, ◌+◌, ◌^◌, ◌<◌, ◌≤◌, if◌then◌else◌, List, [], ◌∷◌, ◌++◌, map, All, ⊤, IsTrue, length}
 use Rattle.st_model.specs.declared.branch.Branch.{Branch}
 use Rattle.st_model.specs.Arborescence.{IsTreeIn, cost_in}
 use Rattle.st_model.specs.Branch.{IsBranchIn, IsVertexSet, LeavesRequiredIn, all_trees, certain_in, free_in, is_present}
@@ -16,7 +16,7 @@ use Rattle.log_format.specs.Accepts.{ProvesOfIn}
 use Rattle.log_format.specs.Preorder.{preorder}
 use Rattle.log_format.specs.Text.{IsWritableLine}
 use Rattle.directed_search.specs.declared.open_node.OpenNode.{OpenNode}
-use Rattle.directed_search.specs.Found.{di_free_vertices}
+use Rattle.directed_search.specs.Found.{di_free_vertices, light_closes}
 use Rattle.directed_search.specs.State.{State, worth}
 
 -- how many vertices a branch may still be split at
@@ -76,16 +76,22 @@ pub record IsSearching (D : DiNetwork) (s : State) (nodes : ℕ) (left : List Br
   -- a budget that suffices
   pub enough : 2 ^ (di_free_vertices D + 1) ≤ s.budget → (s.expanded + nodes ≤ s.budget) × (s.least ≡ s.primal)
 
+-- each node that was expanded has a line, but for so many in hand, and so has each light close
+abbrev pub HasLines : State → ℕ → Type 0
+HasLines s hand = s.expanded + light_closes s.primal s.lines ≤ length s.lines + hand
+
 -- these nodes wait
 pub record IsAt (D : DiNetwork) (s : State) (waiting : List OpenNode) : Type 0 where
   pub each : All (IsOpen D) waiting
   pub searching : IsSearching D s (nodes_left D (branches waiting)) (branches waiting)
+  pub worked : HasLines s 0
 
 -- a node of this branch was counted and is worked on, while others wait
 pub record IsInHand (D : DiNetwork) (s : State) (B : Branch) (waiting : List OpenNode) : Type 0 where
   pub branch : IsDiBranch D B
   pub each : All (IsOpen D) waiting
   pub searching : IsSearching D s (nodes_below (free_count D B) + nodes_left D (branches waiting)) (B ∷ branches waiting)
+  pub worked : HasLines s 1
 
 -- the node of this branch is done: what waits now may have no more nodes than were below it and left by what waited
 pub record IsDone (D : DiNetwork) (B : Branch) (s : State) (old : List OpenNode) (t : State) (new : List OpenNode) : Type 0 where

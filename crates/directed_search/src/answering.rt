@@ -33,11 +33,7 @@ pub fn without_tree(instance: &DiInstance, wall: Vec<u32>) -> DiOutcome
 }
 
 // What a search finds where there is a tree.
-pub fn found(
-    alloc: Global,
-    instance: &DiInstance,
-    budget: u64,
-) -> Result<DiOutcome, AllocError>
+pub fn found(alloc: Global, instance: &DiInstance, budget: u64) -> Result<DiOutcome, AllocError>
     requires some { (t : TreeSpec) × IsTreeIn (di_ground instance.now) t }
     ensures { IfOk result (IsDiOutcome budget instance.now) }
 {

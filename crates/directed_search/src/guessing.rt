@@ -2,12 +2,13 @@ ghost use Rattle.std.specs.Prelude.{IfOk};
 ghost use Rattle.cut_packing.specs.Saturated.{AreSaturatedIn};
 ghost use Rattle.arborescence.specs.DiNetwork.{di_ground};
 
-use arborescence::{DiInstance, Spread, free_arcs};
+use crate::joining::nearest_ways;
+use arborescence::{DiInstance, free_arcs};
 use cut_packing::{Packing, heads_of, lay_cuts};
 use st_model::{Listed, Sides, Tree, VertexLists};
 use std::alloc::{AllocError, Global};
 
-// What is maybe a tree: over arcs whose whole cost the cuts take, without what leads to no terminal.
+// What is maybe a tree: shortest ways to the terminals over arcs whose whole cost the cuts take.
 pub fn guessed(
     alloc: Global,
     instance: &DiInstance,
@@ -15,8 +16,8 @@ pub fn guessed(
     packing: &Packing,
 ) -> Result<Tree, AllocError> {
     let heads = saturated(alloc, instance, branch, packing)?;
-    let spread = Spread::over(alloc, &heads, instance.root())?;
-    pruned(alloc, instance, &spread.arcs)
+    let arcs = nearest_ways(alloc, instance, &heads)?;
+    pruned(alloc, instance, &arcs)
 }
 
 // What is maybe a tree: of arcs that grow from the root those that lead to a terminal.

@@ -14,6 +14,7 @@ mod answering;
 mod choosing;
 mod expanding;
 mod guessing;
+mod joining;
 mod open_node;
 mod outcome;
 mod progress;

@@ -2,7 +2,7 @@ ghost use Rattle.std.specs.Prelude.{◌≡◌, ◌≤◌, ◌<◌, ◌^◌, ◌�
 ghost use Rattle.st_model.specs.Arborescence.{IsTreeIn, cost_in};
 ghost use Rattle.arborescence.specs.DiNetwork.{di_ground};
 ghost use Rattle.directed_search.specs.Found.{IsDiOutcome};
-ghost use Rattle.directed_search.specs.Searching.{IsSearching};
+ghost use Rattle.directed_search.specs.Searching.{HasLines, IsSearching};
 
 use crate::outcome::DiOutcome;
 use crate::weighing::worth;
@@ -131,7 +131,8 @@ impl Progress {
 
     // What was found, where no node waits any more.
     pub fn into_outcome(self, alloc: Global, instance: &DiInstance) -> Result<DiOutcome, AllocError>
-        requires { IsSearching instance.now self 0 [] }
+        requires searching { IsSearching instance.now self 0 [] }
+        requires worked { HasLines self 0 }
         ensures { IfOk result (IsDiOutcome self.budget instance.now) }
     {
         prove!(instance.vertices() <= 1_000_000);

@@ -1,6 +1,6 @@
 ghost use Rattle.std.specs.Prelude.{◌≡◌, [], ◌∷◌, OnOk};
 ghost use Rattle.st_model.specs.Branch.{all_trees};
-ghost use Rattle.directed_search.specs.Searching.{IsOpen, IsSearching, nodes_left};
+ghost use Rattle.directed_search.specs.Searching.{HasLines, IsOpen, IsSearching, nodes_left};
 
 use crate::expanding::work;
 use crate::open_node::OpenNode;
@@ -12,13 +12,11 @@ use st_model::{Branch, Listed};
 use std::alloc::{AllocError, Global};
 
 // Works on one node after another until none waits.
-pub fn run(
-    alloc: Global,
-    instance: &DiInstance,
-    progress: &mut Progress,
-) -> Result<(), AllocError>
-    requires { IsSearching instance.now progress.old (nodes_left instance.now (all_trees ∷ [])) (all_trees ∷ []) }
+pub fn run(alloc: Global, instance: &DiInstance, progress: &mut Progress) -> Result<(), AllocError>
+    requires searching { IsSearching instance.now progress.old (nodes_left instance.now (all_trees ∷ [])) (all_trees ∷ []) }
+    requires worked { HasLines progress.old 0 }
     ensures searching { OnOk result (IsSearching instance.now progress.new 0 []) }
+    ensures worked { OnOk result (HasLines progress.new 0) }
     ensures budget { OnOk result (progress.new.budget ≡ progress.old.budget) }
 {
     let mut waiting = Stack::new(alloc);
