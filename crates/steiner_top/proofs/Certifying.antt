@@ -23,10 +23,11 @@ use Rattle.search_core.specs.FreeVertices.{free_count}
 use Rattle.search_core.specs.ReadOff.{least_weight}
 use Rattle.certificate_log.specs.Assembled.{IsAssembled}
 use Rattle.certificate_log.specs.Spent.{IsSpent}
+use Rattle.arborescence.specs.Problem.{plain}
 use Rattle.twice_tree.specs.Twice.{IsWithinTwice}
 use Rattle.steiner_top.specs.declared.best.Best.{Best}
 use Rattle.steiner_top.specs.declared.outcome.Outcome.{Outcome}
-use Rattle.steiner_top.specs.declared.outcome.Outcome.TheVariants.{Found, NoTree}
+use Rattle.steiner_top.specs.declared.outcome.Outcome.TheVariants.{Found, Directed, NoTree}
 use Rattle.steiner_top.specs.Left.{IsBestOf, IsClaimOf, IsShownBy}
 use Rattle.steiner_top.specs.Outcome.{AreSteps, IsCertificate, IsFound, IsGreatestBound, IsOutcome, IsWithoutTree, free_vertices}
 use Rattle.steiner_top.proofs.FewerLinks.{few_links_to_split}
@@ -137,10 +138,11 @@ module _ (nodes : ℕ) (plain links : Bool) (I : Network) (steps : List Step) (s
   pub shown_outcome : (unit : Scale) (o : Outcome) → AcceptedHolds → IsShownBy b.search.gathered.claimed (b.search ∷ []) log unit o → IsOutcome nodes plain links I unit o
   shown_outcome unit (Found tree primal dual expanded searches certificate scale) holds (claims, expanded_is, searches_is, certificate_is, scale_is) =
       (rw (expanded_is, searches_is, certificate_is) (claimed_found tree primal dual holds claims), scale_is)
+  shown_outcome unit (Directed tree primal dual expanded certificate scale) holds none = absurd none
   shown_outcome unit (NoTree certificate) holds none = absurd none
 
 -- a wall says that there is no tree
-pub without_tree : (I : Network) (wall : List ℕ) → AcceptedHolds → IsInstance I → IsWritableSet wall → IsWall I wall → IsWithoutTree I (record { version = Two; claim = claim.NoTree wall })
+pub without_tree : (I : Network) (wall : List ℕ) → AcceptedHolds → IsInstance I → IsWritableSet wall → IsWall I wall → IsWithoutTree (plain I) (record { version = Two; claim = claim.NoTree wall })
 without_tree I wall holds instance set h = record {
   wall = wall;
   none = holds I (record { version = Two; claim = claim.NoTree wall }) instance h;

@@ -1,8 +1,14 @@
 -- Where nothing fails, the words and the texts decide how a run ends.
-use Rattle.cert_checker.specs.Checking.{IsAnswer}
+use Rattle.arborescence.specs.DiNetwork.{DiNetwork}
+use Rattle.arborescence.specs.Problem.{Problem, plain, directed, ground_of}
+use Rattle.cert_checker.specs.Checking.{IsFileAnswer}
 use Rattle.cert_checker.specs.Verdict.{verdict_of}
-use Rattle.log_format.specs.Text.{log_text}
+use Rattle.lift_back.specs.declared.step.Step.{Step}
 use Rattle.log_format.specs.declared.log.Log.{Log}
+use Rattle.log_format.specs.declared.log.Claim.TheVariants as claim
+use Rattle.log_format.specs.declared.proof_line.ProofLine.{ProofLine}
+use Rattle.log_format.specs.Accepts.{AcceptsIn}
+use Rattle.log_format.specs.Text.{IsLog, log_text}
 use Rattle.search_core.specs.declared.gathered.Searched.{Searched}
 use Rattle.std.proofs.Common.{◌≡◌, ◌≢◌, ◌⊎◌, ◌↔◌, inl, inr, ℕ, ◌^◌, ◌<◌, ◌≤◌, List, [], length, Result, Ok, Err, Option, Some, None, refl, sym, subst, ap, ◌∙◌, arith, cond, eqb}
 use Rattle.std.specs.Prelude.{IfSome}
@@ -10,8 +16,10 @@ use Rattle.std.specs.Io.KnownBytes.{append_known}
 use Rattle.st_edge.specs.Faults.{Rose}
 use Rattle.amounts.specs.declared.scale.Scale.{Scale}
 use Rattle.st_model.specs.declared.tree.Tree.{Tree}
-use Rattle.st_model.specs.Arborescence.{IsTree}
-use Rattle.stp_reader.specs.Laws.{RefusedExactly}
+use Rattle.st_model.specs.Network.{Network}
+use Rattle.st_model.specs.Arborescence.{IsTreeIn}
+use Rattle.stp_reader.specs.Reads.{ReadsFile}
+use Rattle.stp_reader.specs.Laws.{FileRefusedExactly}
 use Rattle.solution_reader.specs.Laws.{RefusedExactly as SolutionsRefusedExactly}
 use Rattle.cert_checker.specs.declared.fault.CheckFault.{CheckFault}
 use Rattle.cert_checker.specs.declared.fault.CheckFault.TheVariants as fault
@@ -20,124 +28,191 @@ use Rattle.cert_checker.specs.declared.verdict.Verdict.{Verdict}
 use Rattle.cert_checker.specs.declared.verdict.Verdict.TheVariants as verdict
 use Rattle.command_line.specs.Words.{Command, SolveWords, CheckWords, GenWords, TrialWords, solve, check, gen, trial, few, verify, resume}
 use Rattle.steiner_top.specs.declared.outcome.Outcome.{Outcome}
-use Rattle.steiner_top.specs.declared.outcome.Outcome.TheVariants.{Found, NoTree}
+use Rattle.steiner_top.specs.declared.outcome.Outcome.TheVariants.{Found, Directed, NoTree}
 use Rattle.steiner_top.specs.declared.status.Status.{Status}
 use Rattle.steiner_top.specs.declared.status.Status.TheVariants.{Optimal, Usage, Budget, Infeasible, RefusedFile, RefusedLog, ReadFault, WriteFault, NoMemory, TooLong, NotFew, NotTree, RefusedSolution}
-use Rattle.steiner_top.specs.Outcome.{IsFound}
-use Rattle.steiner_top.specs.Answer.{IsSolution, SolveAnswer, CheckAnswer, IsLineOf}
+use Rattle.steiner_top.specs.Answer.{IsSolution, IsDirectedSolution, IsInfeasible, IsFileRefusal, SolveAnswer, CheckAnswer, IsLineOf}
 use Rattle.steiner_top.specs.Causes.{Texts, EndsWith, IsSaved, IsStopped}
 use Rattle.steiner_top.specs.Drawn.{IsDrawn, IsTried}
 use Rattle.steiner_top.specs.Checked.{ChecksExactly, ChecksBothWays}
-use Rattle.steiner_top.specs.Headline.{Headline, NothingFails, IsSolved, SolvesFile, ChecksLog, Sends}
+use Rattle.steiner_top.specs.Headline.{Faults, Headline, NothingFails, IsSolved, IsDirectedSolved, SolvesFile, ChecksLog, Sends}
 use Rattle.steiner_top.specs.Output.{status_of_verdict}
+use Rattle.steiner_top.proofs.Files.{FilesAreExact}
 use Rattle.steiner_top.proofs.Loaded.{known_loaded}
 use Rattle.steiner_top.proofs.Counting.{counts_file}
 use Rattle.steiner_top.proofs.Resuming.{LogsAreExact, resumes_log}
 use Rattle.steiner_top.proofs.Verifying.{verifies_solution}
 
--- a check accepts the certificate of a solution
-certificate_checks : (w : SolveWords) (bytes : List ℕ) (tree : Tree) (primal dual expanded : ℕ) (searches : List Searched) (log : Log) (scale : Scale) (sent : List ℕ) → IsSolution w bytes tree primal dual expanded searches log scale sent → IsAnswer bytes (log_text log) (Ok (record { verdict = cond (eqb dual primal) (verdict.Optimal primal) (verdict.Bound dual primal); scale = scale }))
-certificate_checks w bytes tree primal dual expanded searches log scale sent s =
-    let c = s.found.certified in
-    (s.instance, s.reads, (log, record { is_log = c.is_log; text = refl }, c.accepted, sym (ap verdict_of c.claims)))
+-- a check accepts a log that claims a tree and a bound
+log_checks : (bytes : List ℕ) (p : Problem) (scale : Scale) (tree : Tree) (primal dual : ℕ) (steps : List Step) (proof : List ProofLine) (log : Log) → ReadsFile bytes p scale → IsLog log → AcceptsIn p log → log.claim ≡ claim.Found primal dual tree steps proof
+    → IsFileAnswer bytes (log_text log) (Ok (record { verdict = cond (eqb dual primal) (verdict.Optimal primal) (verdict.Bound dual primal); scale = scale }))
+log_checks bytes p scale tree primal dual steps proof log reads is_log accepted claims = (p, reads, (log, record { is_log = is_log; text = refl }, accepted, sym (ap verdict_of claims)))
+
+-- how a file is answered whose problem has a tree, by a status that tells of one
+module _ (w : SolveWords) (bytes : List ℕ) (status : Status) (primal dual : ℕ) (ends : ((status ≡ Optimal) × (dual ≡ primal)) ⊎ ((status ≡ Budget) × (dual < primal)))
+    (files : FileRefusedExactly bytes) (short : length bytes ≤ 2 ^ 34) (p : Problem) (scale : Scale) (reads : ReadsFile bytes p scale) (tree : Tree) (is_tree : IsTreeIn (ground_of p) tree) where
+  never : (other : Status) → Optimal ≢ other → Budget ≢ other → status ≡ other → ⊥
+  never other optimal budget is = elim ends [ inl h ↦ optimal (sym h.0 ∙ is) | inr h ↦ budget (sym h.0 ∙ is) ]
+
+  answered_tree : (outcome : Option Outcome) (texts : Texts) (taken now : Option (List ℕ))
+      → ((I : Network) (unit : Scale) → p ≡ plain I → scale ≡ unit → IsSolved w bytes I unit status outcome texts taken now)
+      → ((D : DiNetwork) (unit : Scale) → p ≡ directed D → scale ≡ unit → IsDirectedSolved w bytes D unit status outcome texts taken now)
+      → SolvesFile w bytes status outcome texts taken now
+  answered_tree outcome texts taken now of_links of_arcs = record {
+    too_long = ((λ e. absurd (never TooLong (λ same. cc) (λ same. cc) e)), (λ long. absurd (omega (arith, short, long))));
+    refused = λ _. ((λ e. absurd (never RefusedFile (λ same. cc) (λ same. cc) e)), (λ r. absurd (files.not_both p scale r.0 r.1 reads r.2)));
+    infeasible = λ q unit others _. ((λ e. absurd (never Infeasible (λ same. cc) (λ same. cc) e)), (λ none. absurd (subst (λ (r : Problem). IsTreeIn (ground_of r) tree → ⊥) (files.one_instance q p unit scale others reads).0 (none tree) is_tree)));
+    solved = λ I unit t others _ _. let one = files.one_instance p (plain I) scale unit reads others in of_links I unit one.0 one.1;
+    solved_directed = λ D unit t others _ _. let one = files.one_instance p (directed D) scale unit reads others in of_arcs D unit one.0 one.1;
+  }
+
+-- two instances that are the same problem
+same_links : (I J : Network) → plain I ≡ plain J → I ≡ J
+same_links I J e = cc
+
+same_arcs : (D E : DiNetwork) → directed D ≡ directed E → D ≡ E
+same_arcs D E e = cc
 
 -- a file whose solution is given is answered by that tree, and by no refusal
 answered_found : (w : SolveWords) (bytes : List ℕ) (status : Status) (tree : Tree) (primal dual expanded : ℕ) (searches : List Searched) (log : Log) (scale : Scale) (texts : Texts) (taken now : Option (List ℕ)) (sent : List ℕ)
-    → RefusedExactly bytes → length bytes ≤ 2 ^ 34 → IsSolution w bytes tree primal dual expanded searches log scale sent → ((status ≡ Optimal) × (dual ≡ primal)) ⊎ ((status ≡ Budget) × (dual < primal)) → now ≡ append_known taken sent → IsSaved (Some (solve w)) texts (Some (Found tree primal dual expanded searches log scale))
+    → FileRefusedExactly bytes → length bytes ≤ 2 ^ 34 → IsSolution w bytes tree primal dual expanded searches log scale sent → ((status ≡ Optimal) × (dual ≡ primal)) ⊎ ((status ≡ Budget) × (dual < primal)) → now ≡ append_known taken sent → IsSaved (Some (solve w)) texts (Some (Found tree primal dual expanded searches log scale))
     → SolvesFile w bytes status (Some (Found tree primal dual expanded searches log scale)) texts taken now
-answered_found w bytes status tree primal dual expanded searches log scale texts taken now sent law short s ends took saved = record {
-  too_long = ((λ e. absurd (never TooLong (λ same. cc) (λ same. cc) e)), (λ long. absurd (omega (arith, short, long))));
-  refused = λ _. ((λ e. absurd (never RefusedFile (λ same. cc) (λ same. cc) e)), (λ r. absurd (law.not_both s.instance scale r.0 r.1 s.reads r.2)));
-  infeasible = λ I unit reads _. ((λ e. absurd (never Infeasible (λ same. cc) (λ same. cc) e)), (λ none. absurd (subst (λ J. IsTree J tree → ⊥) (law.one_instance I s.instance unit scale reads s.reads).0 (none tree) s.found.is_tree)));
-  solved = λ I unit t reads _ _. subst (λ q. IsSolved w bytes I q status (Some (Found tree primal dual expanded searches log scale)) texts taken now) (law.one_instance s.instance I scale unit s.reads reads).1 (record {
-    tree = tree;
-    primal = primal;
-    dual = dual;
-    expanded = expanded;
-    searches = searches;
-    certificate = log;
-    sent = sent;
-    given = refl;
-    found = subst (λ J. IsFound w.nodes w.plain w.links J tree primal dual expanded searches log) (law.one_instance s.instance I scale unit s.reads reads).0 s.found;
-    text = s.text;
-    took = took;
-    ends = ends;
-    checks = certificate_checks w bytes tree primal dual expanded searches log scale sent s;
-    log = saved;
-  });
+answered_found w bytes status tree primal dual expanded searches log scale texts taken now sent files short s ends took saved = answered_tree w bytes status primal dual ends files short (plain s.instance) scale s.reads tree s.found.is_tree (Some (Found tree primal dual expanded searches log scale)) texts taken now of_links (λ D unit is. absurd cc)
+  where
+    solved : IsSolved w bytes s.instance scale status (Some (Found tree primal dual expanded searches log scale)) texts taken now
+    solved =
+        let c = s.found.certified in
+        record {
+          tree = tree;
+          primal = primal;
+          dual = dual;
+          expanded = expanded;
+          searches = searches;
+          certificate = log;
+          sent = sent;
+          given = refl;
+          found = s.found;
+          text = s.text;
+          took = took;
+          ends = ends;
+          checks = log_checks bytes (plain s.instance) scale tree primal dual c.steps c.proof log s.reads c.is_log c.accepted c.claims;
+          log = saved;
+        }
+
+    of_links : (I : Network) (unit : Scale) → plain s.instance ≡ plain I → scale ≡ unit → IsSolved w bytes I unit status (Some (Found tree primal dual expanded searches log scale)) texts taken now
+    of_links I unit same one = subst (λ q. IsSolved w bytes I q status (Some (Found tree primal dual expanded searches log scale)) texts taken now) one (subst (λ J. IsSolved w bytes J scale status (Some (Found tree primal dual expanded searches log scale)) texts taken now) (same_links s.instance I same) solved)
+
+-- and so is a directed one
+answered_arcs : (w : SolveWords) (bytes : List ℕ) (status : Status) (tree : Tree) (primal dual expanded : ℕ) (log : Log) (scale : Scale) (texts : Texts) (taken now : Option (List ℕ)) (sent : List ℕ)
+    → FileRefusedExactly bytes → length bytes ≤ 2 ^ 34 → IsDirectedSolution w bytes tree primal dual expanded log scale sent → ((status ≡ Optimal) × (dual ≡ primal)) ⊎ ((status ≡ Budget) × (dual < primal)) → now ≡ append_known taken sent → IsSaved (Some (solve w)) texts (Some (Directed tree primal dual expanded log scale))
+    → SolvesFile w bytes status (Some (Directed tree primal dual expanded log scale)) texts taken now
+answered_arcs w bytes status tree primal dual expanded log scale texts taken now sent files short s ends took saved = answered_tree w bytes status primal dual ends files short (directed s.instance) scale s.reads tree s.found.is_tree (Some (Directed tree primal dual expanded log scale)) texts taken now (λ I unit is. absurd cc) of_arcs
+  where
+    solved : IsDirectedSolved w bytes s.instance scale status (Some (Directed tree primal dual expanded log scale)) texts taken now
+    solved = record {
+      tree = tree;
+      primal = primal;
+      dual = dual;
+      expanded = expanded;
+      certificate = log;
+      sent = sent;
+      given = refl;
+      found = s.found;
+      text = s.text;
+      took = took;
+      ends = ends;
+      checks = log_checks bytes (directed s.instance) scale tree primal dual [] s.found.proof log s.reads s.found.is_log s.found.accepted s.found.claims;
+      log = saved;
+    }
+
+    of_arcs : (D : DiNetwork) (unit : Scale) → directed s.instance ≡ directed D → scale ≡ unit → IsDirectedSolved w bytes D unit status (Some (Directed tree primal dual expanded log scale)) texts taken now
+    of_arcs D unit same one = subst (λ q. IsDirectedSolved w bytes D q status (Some (Directed tree primal dual expanded log scale)) texts taken now) one (subst (λ E. IsDirectedSolved w bytes E scale status (Some (Directed tree primal dual expanded log scale)) texts taken now) (same_arcs s.instance D same) solved)
+
+-- a file whose problem has no tree
+answered_nowhere : (w : SolveWords) (bytes : List ℕ) (log : Log) (texts : Texts) (taken now : Option (List ℕ)) (sent : List ℕ) → FileRefusedExactly bytes → length bytes ≤ 2 ^ 34 → IsInfeasible bytes log sent → SolvesFile w bytes Infeasible (Some (NoTree log)) texts taken now
+answered_nowhere w bytes log texts taken now sent files short s = record {
+  too_long = ((λ e. absurd cc), (λ long. absurd (omega (arith, short, long))));
+  refused = λ _. ((λ e. absurd cc), (λ r. absurd (files.not_both s.problem s.scale r.0 r.1 s.reads r.2)));
+  infeasible = λ q unit others _. ((λ e. none q unit others), (λ _. refl));
+  solved = λ I unit t others _ is. absurd (none (plain I) unit others t is);
+  solved_directed = λ D unit t others _ is. absurd (none (directed D) unit others t is);
 }
   where
-    never : (other : Status) → Optimal ≢ other → Budget ≢ other → status ≡ other → ⊥
-    never other optimal budget is = elim ends [ inl h ↦ optimal (sym h.0 ∙ is) | inr h ↦ budget (sym h.0 ∙ is) ]
+    none : (q : Problem) (unit : Scale) → ReadsFile bytes q unit → (t : Tree) → IsTreeIn (ground_of q) t → ⊥
+    none q unit others = subst (λ (r : Problem). (t : Tree) → IsTreeIn (ground_of r) t → ⊥) (files.one_instance s.problem q s.scale unit s.reads others).0 s.without_tree.none
+
+-- a file that is refused
+answered_refused : (w : SolveWords) (bytes : List ℕ) (texts : Texts) (taken now : Option (List ℕ)) (sent : List ℕ) → FileRefusedExactly bytes → length bytes ≤ 2 ^ 34 → IsFileRefusal bytes sent → SolvesFile w bytes RefusedFile None texts taken now
+answered_refused w bytes texts taken now sent files short s = record {
+  too_long = ((λ e. absurd cc), (λ long. absurd (omega (arith, short, long))));
+  refused = λ _. ((λ e. (s.line, s.reason, s.refused)), (λ r. refl));
+  infeasible = λ q unit others _. absurd (files.not_both q unit s.line s.reason others s.refused);
+  solved = λ I unit t others _ _. absurd (files.not_both (plain I) unit s.line s.reason others s.refused);
+  solved_directed = λ D unit t others _ _. absurd (files.not_both (directed D) unit s.line s.reason others s.refused);
+}
 
 -- how a file that was loaded whole is answered decides the status
 answered_file : (w : SolveWords) (bytes : List ℕ) (status : Status) (outcome : Option Outcome) (texts : Texts) (taken now : Option (List ℕ)) (sent : List ℕ)
-    → RefusedExactly bytes → length bytes ≤ 2 ^ 34 → SolveAnswer w bytes status outcome sent → now ≡ append_known taken sent → IsSaved (Some (solve w)) texts outcome
+    → FileRefusedExactly bytes → length bytes ≤ 2 ^ 34 → SolveAnswer w bytes status outcome sent → now ≡ append_known taken sent → IsSaved (Some (solve w)) texts outcome
     → SolvesFile w bytes status outcome texts taken now
-answered_file w bytes Optimal (Some (Found tree primal dual expanded searches log scale)) texts taken now sent law short (s, same) took saved = answered_found w bytes Optimal tree primal dual expanded searches log scale texts taken now sent law short s (inl (refl, same)) took saved
-answered_file w bytes Budget (Some (Found tree primal dual expanded searches log scale)) texts taken now sent law short (s, below) took saved = answered_found w bytes Budget tree primal dual expanded searches log scale texts taken now sent law short s (inr (refl, below)) took saved
-answered_file w bytes Infeasible (Some (NoTree log)) texts taken now sent law short s took saved = record {
-  too_long = ((λ e. absurd cc), (λ long. absurd (omega (arith, short, long))));
-  refused = λ _. ((λ e. absurd cc), (λ r. absurd (law.not_both s.instance s.scale r.0 r.1 s.reads r.2)));
-  infeasible = λ I scale reads _. ((λ e. subst (λ J. (t : Tree) → IsTree J t → ⊥) (law.one_instance s.instance I s.scale scale s.reads reads).0 s.without_tree.none), (λ none. refl));
-  solved = λ I scale t reads _ is. absurd (s.without_tree.none t (subst (λ J. IsTree J t) (law.one_instance I s.instance scale s.scale reads s.reads).0 is));
-}
-answered_file w bytes RefusedFile None texts taken now sent law short s took saved = record {
-  too_long = ((λ e. absurd cc), (λ long. absurd (omega (arith, short, long))));
-  refused = λ _. ((λ e. (s.line, s.reason, s.refused)), (λ r. refl));
-  infeasible = λ I scale reads _. absurd (law.not_both I scale s.line s.reason reads s.refused);
-  solved = λ I scale t reads _ _. absurd (law.not_both I scale s.line s.reason reads s.refused);
-}
-answered_file w bytes Budget (Some (NoTree log)) texts taken now sent law short s took saved = absurd s
-answered_file w bytes Budget None texts taken now sent law short s took saved = absurd s
-answered_file w bytes Infeasible (Some (Found tree primal dual expanded searches log scale)) texts taken now sent law short s took saved = absurd s
-answered_file w bytes Infeasible None texts taken now sent law short s took saved = absurd s
-answered_file w bytes NoMemory outcome texts taken now sent law short s took saved = absurd s
-answered_file w bytes Optimal (Some (NoTree log)) texts taken now sent law short s took saved = absurd s
-answered_file w bytes Optimal None texts taken now sent law short s took saved = absurd s
-answered_file w bytes ReadFault outcome texts taken now sent law short s took saved = absurd s
-answered_file w bytes RefusedFile (Some _) texts taken now sent law short s took saved = absurd s
-answered_file w bytes RefusedLog outcome texts taken now sent law short s took saved = absurd s
-answered_file w bytes TooLong outcome texts taken now sent law short s took saved = absurd s
-answered_file w bytes Usage outcome texts taken now sent law short s took saved = absurd s
-answered_file w bytes WriteFault outcome texts taken now sent law short s took saved = absurd s
-answered_file w bytes NotFew outcome texts taken now sent law short s took saved = absurd s
-answered_file w bytes NotTree outcome texts taken now sent law short s took saved = absurd s
-answered_file w bytes RefusedSolution outcome texts taken now sent law short s took saved = absurd s
+answered_file w bytes Optimal (Some (Found tree primal dual expanded searches log scale)) texts taken now sent files short (s, same) took saved = answered_found w bytes Optimal tree primal dual expanded searches log scale texts taken now sent files short s (inl (refl, same)) took saved
+answered_file w bytes Budget (Some (Found tree primal dual expanded searches log scale)) texts taken now sent files short (s, below) took saved = answered_found w bytes Budget tree primal dual expanded searches log scale texts taken now sent files short s (inr (refl, below)) took saved
+answered_file w bytes Optimal (Some (Directed tree primal dual expanded log scale)) texts taken now sent files short (s, same) took saved = answered_arcs w bytes Optimal tree primal dual expanded log scale texts taken now sent files short s (inl (refl, same)) took saved
+answered_file w bytes Budget (Some (Directed tree primal dual expanded log scale)) texts taken now sent files short (s, below) took saved = answered_arcs w bytes Budget tree primal dual expanded log scale texts taken now sent files short s (inr (refl, below)) took saved
+answered_file w bytes Infeasible (Some (NoTree log)) texts taken now sent files short s took saved = answered_nowhere w bytes log texts taken now sent files short s
+answered_file w bytes RefusedFile None texts taken now sent files short s took saved = answered_refused w bytes texts taken now sent files short s
+answered_file w bytes Budget (Some (NoTree log)) texts taken now sent files short s took saved = absurd s
+answered_file w bytes Budget None texts taken now sent files short s took saved = absurd s
+answered_file w bytes Infeasible (Some (Found tree primal dual expanded searches log scale)) texts taken now sent files short s took saved = absurd s
+answered_file w bytes Infeasible (Some (Directed tree primal dual expanded log scale)) texts taken now sent files short s took saved = absurd s
+answered_file w bytes Infeasible None texts taken now sent files short s took saved = absurd s
+answered_file w bytes NoMemory outcome texts taken now sent files short s took saved = absurd s
+answered_file w bytes Optimal (Some (NoTree log)) texts taken now sent files short s took saved = absurd s
+answered_file w bytes Optimal None texts taken now sent files short s took saved = absurd s
+answered_file w bytes ReadFault outcome texts taken now sent files short s took saved = absurd s
+answered_file w bytes RefusedFile (Some _) texts taken now sent files short s took saved = absurd s
+answered_file w bytes RefusedLog outcome texts taken now sent files short s took saved = absurd s
+answered_file w bytes TooLong outcome texts taken now sent files short s took saved = absurd s
+answered_file w bytes Usage outcome texts taken now sent files short s took saved = absurd s
+answered_file w bytes WriteFault outcome texts taken now sent files short s took saved = absurd s
+answered_file w bytes NotFew outcome texts taken now sent files short s took saved = absurd s
+answered_file w bytes NotTree outcome texts taken now sent files short s took saved = absurd s
+answered_file w bytes RefusedSolution outcome texts taken now sent files short s took saved = absurd s
 
 -- a file whose text is too long isn't answered
 long_file : (w : SolveWords) (bytes : List ℕ) (outcome : Option Outcome) (texts : Texts) (taken now : Option (List ℕ)) → 2 ^ 34 < length bytes → SolvesFile w bytes TooLong outcome texts taken now
 long_file w bytes outcome texts taken now long = record {
   too_long = ((λ _. long), (λ _. refl));
   refused = λ short. absurd (omega (arith, short, long));
-  infeasible = λ I scale reads short. absurd (omega (arith, short, long));
+  infeasible = λ p scale reads short. absurd (omega (arith, short, long));
   solved = λ I scale t reads short is. absurd (omega (arith, short, long));
+  solved_directed = λ D scale t reads short is. absurd (omega (arith, short, long));
 }
 
 -- how a run ends decides how a file is answered, where nothing fails
 pub solves_file : (w : SolveWords) (bytes : List ℕ) (old new : Texts) (status : Status) (outcome : Option Outcome) (taken now : Option (List ℕ)) (sent : List ℕ)
-    → RefusedExactly bytes → old w.file ≡ Some bytes → (status ≡ ReadFault → ⊥) → (status ≡ NoMemory → ⊥)
+    → FileRefusedExactly bytes → old w.file ≡ Some bytes → (status ≡ ReadFault → ⊥) → (status ≡ NoMemory → ⊥)
     → EndsWith (Some (solve w)) old status outcome sent → now ≡ append_known taken sent → IsSaved (Some (solve w)) new outcome
     → SolvesFile w bytes status outcome new taken now
-solves_file w bytes old new status outcome taken now sent law known read memory (inl h) took saved =
+solves_file w bytes old new status outcome taken now sent files known read memory (inl h) took saved =
     let same = known_loaded (old w.file) h.0 bytes known h.1 in
-    answered_file w bytes status outcome new taken now sent law same.1 (subst (λ b. SolveAnswer w b status outcome sent) same.0 h.2) took saved
-solves_file w bytes old new TooLong outcome taken now sent law known read memory (inr h) took saved = elim h.0 [
+    answered_file w bytes status outcome new taken now sent files same.1 (subst (λ b. SolveAnswer w b status outcome sent) same.0 h.2) took saved
+solves_file w bytes old new TooLong outcome taken now sent files known read memory (inr h) took saved = elim h.0 [
   | inl long ↦ long_file w bytes outcome new taken now (subst (λ o. IfSome o (λ text. 2 ^ 34 < length text)) known long)
   | inr none ↦ absurd none
 ]
-solves_file w bytes old new ReadFault outcome taken now sent law known read memory (inr h) took saved = absurd (read refl)
-solves_file w bytes old new NoMemory outcome taken now sent law known read memory (inr h) took saved = absurd (memory refl)
-solves_file w bytes old new Optimal outcome taken now sent law known read memory (inr h) took saved = absurd h.0
-solves_file w bytes old new Usage outcome taken now sent law known read memory (inr h) took saved = absurd h.0
-solves_file w bytes old new Budget outcome taken now sent law known read memory (inr h) took saved = absurd h.0
-solves_file w bytes old new Infeasible outcome taken now sent law known read memory (inr h) took saved = absurd h.0
-solves_file w bytes old new RefusedFile outcome taken now sent law known read memory (inr h) took saved = absurd h.0
-solves_file w bytes old new RefusedLog outcome taken now sent law known read memory (inr h) took saved = absurd h.0
-solves_file w bytes old new WriteFault outcome taken now sent law known read memory (inr h) took saved = absurd h.0
-solves_file w bytes old new NotFew outcome taken now sent law known read memory (inr h) took saved = absurd h.0
-solves_file w bytes old new NotTree outcome taken now sent law known read memory (inr h) took saved = absurd h.0
-solves_file w bytes old new RefusedSolution outcome taken now sent law known read memory (inr h) took saved = absurd h.0
+solves_file w bytes old new ReadFault outcome taken now sent files known read memory (inr h) took saved = absurd (read refl)
+solves_file w bytes old new NoMemory outcome taken now sent files known read memory (inr h) took saved = absurd (memory refl)
+solves_file w bytes old new Optimal outcome taken now sent files known read memory (inr h) took saved = absurd h.0
+solves_file w bytes old new Usage outcome taken now sent files known read memory (inr h) took saved = absurd h.0
+solves_file w bytes old new Budget outcome taken now sent files known read memory (inr h) took saved = absurd h.0
+solves_file w bytes old new Infeasible outcome taken now sent files known read memory (inr h) took saved = absurd h.0
+solves_file w bytes old new RefusedFile outcome taken now sent files known read memory (inr h) took saved = absurd h.0
+solves_file w bytes old new RefusedLog outcome taken now sent files known read memory (inr h) took saved = absurd h.0
+solves_file w bytes old new WriteFault outcome taken now sent files known read memory (inr h) took saved = absurd h.0
+solves_file w bytes old new NotFew outcome taken now sent files known read memory (inr h) took saved = absurd h.0
+solves_file w bytes old new NotTree outcome taken now sent files known read memory (inr h) took saved = absurd h.0
+solves_file w bytes old new RefusedSolution outcome taken now sent files known read memory (inr h) took saved = absurd h.0
 
 -- a verdict ends no run as too long, or with the usage line
 verdict_ends : (v : Verdict) → (status_of_verdict v ≡ TooLong → ⊥) × (status_of_verdict v ≡ Usage → ⊥)
@@ -289,40 +364,40 @@ usage_ends (Some command) texts status outcome sent memory h =
     ((λ e. absurd (no_usage command texts outcome sent (subst (λ s. EndsWith (Some command) texts s outcome sent) e h))), (λ e. absurd cc))
 
 -- the words and the texts decide, where nothing fails
-pub decides : (command : Option Command) (old new : Texts) (reads reads_now saves saves_now writes writes_now : ℕ) (status : Status) (outcome : Option Outcome) (taken now : Option (List ℕ))
-    → ((bytes : List ℕ) → RefusedExactly bytes)
+pub decides : (command : Option Command) (old new : Texts) (before after : Faults) (status : Status) (outcome : Option Outcome) (taken now : Option (List ℕ))
+    → ((bytes : List ℕ) → FilesAreExact bytes)
     → ((bytes : List ℕ) → SolutionsRefusedExactly bytes)
     → LogsAreExact
     → (status ≢ WriteFault → (sent : List ℕ) × EndsWith command old status outcome sent × (now ≡ append_known taken sent))
     → IsSaved command new outcome
-    → (status ≡ ReadFault → Rose reads reads_now)
-    → (status ≡ WriteFault → Rose saves saves_now ⊎ Rose writes writes_now)
-    → Headline command old new reads reads_now saves saves_now writes writes_now status outcome taken now
-decides command old new reads reads_now saves saves_now writes writes_now status outcome taken now law law_of_solutions law_of_logs sent saved read write = record {
+    → (status ≡ ReadFault → Rose before.reads after.reads)
+    → (status ≡ WriteFault → Rose before.saves after.saves ⊎ Rose before.writes after.writes)
+    → Headline command old new before after status outcome taken now
+decides command old new before after status outcome taken now files law_of_solutions law_of_logs sent saved read write = record {
   usage = λ fine. let e = ended fine in usage_ends command old status outcome e.0 fine.memory e.1;
-  solves = λ w bytes is known fine. let e = ended fine in solves_file w bytes old new status outcome taken now e.0 (law bytes) known (λ r. fine.loaded (read r)) fine.memory (subst (λ c. EndsWith c old status outcome e.0) is e.1) e.2 (subst (λ c. IsSaved c new outcome) is saved);
+  solves = λ w bytes is known fine. let e = ended fine in solves_file w bytes old new status outcome taken now e.0 (files bytes).of_both known (λ r. fine.loaded (read r)) fine.memory (subst (λ c. EndsWith c old status outcome e.0) is e.1) e.2 (subst (λ c. IsSaved c new outcome) is saved);
   checks = λ w stp log is known known' fine. let e = ended fine in checks_log w stp log old status outcome taken now e.0 known known' (λ r. fine.loaded (read r)) fine.memory (subst (λ c. EndsWith c old status outcome e.0) is e.1) e.2;
   draws = λ w is fine. let e = ended fine in sends_drawn w old status outcome taken now e.0 fine.memory (subst (λ c. EndsWith c old status outcome e.0) is e.1) e.2;
   tries = λ w is fine. let e = ended fine in sends_tried w old status outcome taken now e.0 fine.memory (subst (λ c. EndsWith c old status outcome e.0) is e.1) e.2;
-  verifies = λ w stp solution is known known' fine. let e = ended fine in verifies_solution w stp solution old status outcome taken now e.0 (law stp) (law_of_solutions solution) known known' (λ r. fine.loaded (read r)) fine.memory (subst (λ c. EndsWith c old status outcome e.0) is e.1) e.2;
-  counts = λ w bytes is known fine. let e = ended fine in counts_file w bytes old status outcome taken now e.0 (law bytes) known (λ r. fine.loaded (read r)) fine.memory (subst (λ c. EndsWith c old status outcome e.0) is e.1) e.2;
-  resumes = λ w stp log is known known' fine. let e = ended fine in resumes_log w stp log old new status outcome taken now e.0 (law stp) law_of_logs known known' (λ r. fine.loaded (read r)) fine.memory (subst (λ c. EndsWith c old status outcome e.0) is e.1) e.2 (subst (λ c. IsSaved c new outcome) is saved);
+  verifies = λ w stp solution is known known' fine. let e = ended fine in verifies_solution w stp solution old status outcome taken now e.0 (files stp).of_links (law_of_solutions solution) known known' (λ r. fine.loaded (read r)) fine.memory (subst (λ c. EndsWith c old status outcome e.0) is e.1) e.2;
+  counts = λ w bytes is known fine. let e = ended fine in counts_file w bytes old status outcome taken now e.0 (files bytes).of_links known (λ r. fine.loaded (read r)) fine.memory (subst (λ c. EndsWith c old status outcome e.0) is e.1) e.2;
+  resumes = λ w stp log is known known' fine. let e = ended fine in resumes_log w stp log old new status outcome taken now e.0 (files stp) law_of_logs known known' (λ r. fine.loaded (read r)) fine.memory (subst (λ c. EndsWith c old status outcome e.0) is e.1) e.2 (subst (λ c. IsSaved c new outcome) is saved);
 } where
-  no_write : NothingFails reads reads_now saves saves_now writes writes_now status → status ≢ WriteFault
+  no_write : NothingFails before after status → status ≢ WriteFault
   no_write fine failed = elim (write failed) [
     | inl rose ↦ fine.saved rose
     | inr rose ↦ fine.sent rose
   ]
 
-  ended : NothingFails reads reads_now saves saves_now writes writes_now status → (bytes : List ℕ) × EndsWith command old status outcome bytes × (now ≡ append_known taken bytes)
+  ended : NothingFails before after status → (bytes : List ℕ) × EndsWith command old status outcome bytes × (now ≡ append_known taken bytes)
   ended fine = sent (no_write fine)
 
 -- so too with the one answer of a check
-pub decides_checks : (command : Option Command) (old : Texts) (reads reads_now saves saves_now writes writes_now : ℕ) (status : Status) (outcome : Option Outcome) (taken now : Option (List ℕ))
+pub decides_checks : (command : Option Command) (old : Texts) (before after : Faults) (status : Status) (outcome : Option Outcome) (taken now : Option (List ℕ))
     → (status ≢ WriteFault → (sent : List ℕ) × EndsWith command old status outcome sent × (now ≡ append_known taken sent))
-    → (status ≡ ReadFault → Rose reads reads_now)
-    → (status ≡ WriteFault → Rose saves saves_now ⊎ Rose writes writes_now)
-    → NothingFails reads reads_now saves saves_now writes writes_now status → ChecksBothWays command old status taken now
-decides_checks command old reads reads_now saves saves_now writes writes_now status outcome taken now sent read write fine w stp log is known known' short short' =
+    → (status ≡ ReadFault → Rose before.reads after.reads)
+    → (status ≡ WriteFault → Rose before.saves after.saves ⊎ Rose before.writes after.writes)
+    → NothingFails before after status → ChecksBothWays command old status taken now
+decides_checks command old before after status outcome taken now sent read write fine w stp log is known known' short short' =
     let e = sent (λ failed. elim (write failed) [ inl rose ↦ fine.saved rose | inr rose ↦ fine.sent rose ]) in
     checks_exactly w stp log old status outcome taken now e.0 known known' (λ r. fine.loaded (read r)) fine.memory short short' (subst (λ c. EndsWith c old status outcome e.0) is e.1) e.2

@@ -1,3 +1,4 @@
+mod Files
 mod Asking
 mod Reasons
 mod Remaining

@@ -3,18 +3,18 @@ use Rattle.std.proofs.Common.{◌≡◌, ◌≢◌, ◌⊎◌, inl, inr, ℕ, Bo
 use Rattle.std.specs.Prelude.{IfOk}
 use Rattle.st_edge.specs.Shelf.{SameTexts}
 use Rattle.amounts.specs.declared.scale.Scale.{Scale}
-use Rattle.st_model.specs.Network.{Network}
 use Rattle.stp_reader.specs.declared.reason.Reason.{Reason}
-use Rattle.stp_reader.specs.Reads.{Reads, Refused}
-use Rattle.stp_reader.specs.Laws.{RefusedExactly}
+use Rattle.arborescence.specs.Problem.{Problem}
+use Rattle.stp_reader.specs.Reads.{ReadsFile, RefusedFile as FileRefused}
+use Rattle.stp_reader.specs.Laws.{FileRefusedExactly}
 use Rattle.log_format.specs.declared.kind.Kind.{Kind}
 use Rattle.cert_checker.specs.declared.fault.CheckFault.{CheckFault}
 use Rattle.cert_checker.specs.declared.fault.CheckFault.TheVariants as check_fault
 use Rattle.cert_checker.specs.declared.verdict.Checked.{Checked}
 use Rattle.cert_checker.specs.declared.verdict.Verdict.{Verdict}
 use Rattle.cert_checker.specs.declared.verdict.Verdict.TheVariants as verdict
-use Rattle.cert_checker.specs.Checking.{Answers, IsAnswer, IsAcceptedText, IsWrongText}
-use Rattle.cert_checker.specs.Verdict.{Concludes}
+use Rattle.cert_checker.specs.Checking.{Answers, IsFileAnswer, IsAcceptedTextIn, IsWrongTextIn}
+use Rattle.cert_checker.specs.Verdict.{ConcludesIn}
 use Rattle.steiner_top.specs.Answer.{CheckAnswer, IsLineOf}
 use Rattle.steiner_top.specs.declared.outcome.Outcome.{Outcome}
 use Rattle.steiner_top.specs.declared.outcome.SolveFault.{SolveFault}
@@ -28,7 +28,7 @@ use Rattle.steiner_top.specs.Output.{line_of, status_of_verdict}
 use Rattle.steiner_top.specs.Causes.{Texts, IsAnswered, IsCutShort, IsSaved, IsStopped, IsUnanswered, StopsAtLoad}
 
 -- bytes that are refused are answered so
-pub refused_answer : (nodes : ℕ) (plain links : Bool) (bytes : List ℕ) (result : Result Outcome SolveFault) → RefusedExactly bytes → Solves nodes plain links bytes result → (line : ℕ) (reason : Reason) → Refused bytes line reason → (result ≡ Err (Stp (record { line = line; reason = reason }))) ⊎ (result ≡ Err NoMemory)
+pub refused_answer : (nodes : ℕ) (plain links : Bool) (bytes : List ℕ) (result : Result Outcome SolveFault) → FileRefusedExactly bytes → Solves nodes plain links bytes result → (line : ℕ) (reason : Reason) → FileRefused bytes line reason → (result ≡ Err (Stp (record { line = line; reason = reason }))) ⊎ (result ≡ Err NoMemory)
 refused_answer nodes plain links bytes (Ok outcome) law h line reason r = absurd (law.not_both h.0 h.1 line reason h.2 r)
 refused_answer nodes plain links bytes (Err (Stp f)) law h line reason r =
     let one = law.one_fault f.line line f.reason reason h r in
@@ -72,11 +72,11 @@ second_stops a b old new RefusedSolution same h = h
 
 -- what a check found is the answer to the file and the log, and the only one
 pub check_answered : (stp log : List ℕ) (found : Result Checked CheckFault) (status : Status) (sent : List ℕ)
-    → ((I : Network) (scale : Scale) → Reads stp I scale → IfOk found (λ checked. Concludes I checked.verdict))
-    → IsAnswer stp log found
-    → ((I : Network) (scale : Scale) (verdict : Verdict) → Reads stp I scale → IsAcceptedText I log verdict → Answers found (Ok (record { verdict = verdict; scale = scale })))
-    → ((line : ℕ) (reason : Reason) → Refused stp line reason → Answers found (Err (check_fault.Stp (record { line = line; reason = reason }))))
-    → ((I : Network) (scale : Scale) (line : ℕ) (kind : Kind) → Reads stp I scale → IsWrongText I log line kind → Answers found (Err (check_fault.Log (record { line = line; kind = kind }))))
+    → ((p : Problem) (scale : Scale) → ReadsFile stp p scale → IfOk found (λ checked. ConcludesIn p checked.verdict))
+    → IsFileAnswer stp log found
+    → ((p : Problem) (scale : Scale) (verdict : Verdict) → ReadsFile stp p scale → IsAcceptedTextIn p log verdict → Answers found (Ok (record { verdict = verdict; scale = scale })))
+    → ((line : ℕ) (reason : Reason) → FileRefused stp line reason → Answers found (Err (check_fault.Stp (record { line = line; reason = reason }))))
+    → ((p : Problem) (scale : Scale) (line : ℕ) (kind : Kind) → ReadsFile stp p scale → IsWrongTextIn p log line kind → Answers found (Err (check_fault.Log (record { line = line; kind = kind }))))
     → IsLineOf found status sent → CheckAnswer stp log status sent
 check_answered stp log found status sent concludes exact accepted file text line = record {
   answer = found;
@@ -91,7 +91,7 @@ check_answered stp log found status sent concludes exact accepted file text line
     | inr memory ↦ absurd (subst (λ f. IsLineOf f status sent) memory line)
   ]
 
-  only : (other : Result Checked CheckFault) → IsAnswer stp log other → other ≢ Err check_fault.NoMemory → found ≡ other
+  only : (other : Result Checked CheckFault) → IsFileAnswer stp log other → other ≢ Err check_fault.NoMemory → found ≡ other
   only (Ok checked) h other = settled (Ok checked) (accepted h.0 checked.scale checked.verdict h.1 h.2)
   only (Err (check_fault.Stp f)) h other = settled (Err (check_fault.Stp f)) (file f.line f.reason h)
   only (Err (check_fault.Log f)) h other = settled (Err (check_fault.Log f)) (text h.0 h.1 f.line f.kind h.2 h.3)

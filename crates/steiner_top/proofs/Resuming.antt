@@ -9,6 +9,7 @@ use Rattle.amounts.specs.declared.scale.Scale.{Scale}
 use Rattle.st_model.specs.declared.tree.Tree.{Tree}
 use Rattle.st_model.specs.Arborescence.{IsTree, IsBound, cost}
 use Rattle.st_model.specs.Network.{Network, IsInstance}
+use Rattle.arborescence.specs.Problem as problem
 use Rattle.stp_reader.specs.Reads.{Reads}
 use Rattle.stp_reader.specs.Laws.{RefusedExactly}
 use Rattle.log_format.specs.declared.kind.Kind.{Kind}
@@ -25,17 +26,18 @@ use Rattle.cert_checker.specs.declared.verdict.Checked.{Checked}
 use Rattle.cert_checker.specs.declared.verdict.Verdict.TheVariants as verdict
 use Rattle.cert_checker.specs.Checking.{Answers, IsAnswer, IsTextOf, IsWrongText}
 use Rattle.cert_checker.specs.Verdict.{verdict_of}
-use Rattle.resuming.specs.Resumed.{ClaimsTree, IsResumed, claimed_dual, claimed_primal, dual_of, expanded_by, primal_of}
+use Rattle.resuming.specs.Resumed.{ClaimsTree, IsResumed, claimed_dual, claimed_primal, expanded_by}
 use Rattle.resuming.proofs.Falling.{one_more_claimed}
 use Rattle.command_line.specs.Words.{ResumeWords, resume}
 use Rattle.steiner_top.specs.declared.outcome.Outcome.{Outcome}
-use Rattle.steiner_top.specs.declared.outcome.Outcome.TheVariants.{Found, NoTree}
+use Rattle.steiner_top.specs.declared.outcome.Outcome.TheVariants.{Found, Directed, NoTree}
 use Rattle.steiner_top.specs.declared.status.Status.{Status}
 use Rattle.steiner_top.specs.declared.status.Status.TheVariants.{Optimal, Usage, Budget, Infeasible, RefusedFile, RefusedLog, ReadFault, WriteFault, NoMemory, TooLong, NotFew, NotTree, RefusedSolution}
 use Rattle.steiner_top.specs.Answer.{IsOutcomeText, IsRefusal, status_of_outcome}
 use Rattle.steiner_top.specs.Causes.{EndsWith, IsSaved, Texts}
 use Rattle.steiner_top.specs.Left.{IsClaimOf, IsShownBy}
 use Rattle.steiner_top.specs.Resumed.{AreLoadable, IsContinuation, IsGoodLog, IsKept, IsKeptLog, IsLogRefusal, IsResumption, ResumeAnswer, Resumes, ResumesLog, SendsContinuation}
+use Rattle.steiner_top.proofs.Files.{FilesAreExact, as_file}
 use Rattle.steiner_top.proofs.Loaded.{known_loaded}
 
 -- one more search is counted
@@ -84,6 +86,7 @@ resumption_shown nodes I unit old found new expanded (Found tree primal dual wor
       },
       scale_is,
     )
+resumption_shown nodes I unit old found new expanded (Directed tree primal dual worked log scale) holds instance tree_claimed h counted none = absurd none
 resumption_shown nodes I unit old found new expanded (NoTree log) holds instance tree_claimed h counted none = absurd none
 
 -- and it fits what all of them count
@@ -138,6 +141,7 @@ resumption_answers w stp bytes (Found tree primal dual expanded searches log sca
     at : (equal : Bool) → (dual == primal) ≡ equal → ResumeAnswer w stp bytes (cond equal Optimal Budget) (Some (Found tree primal dual expanded searches log scale)) sent
     at true is = (all, eqb-true dual primal is)
     at false is = (all, (let below = continued.is_below in grind (arith, nat_tests)))
+resumption_answers w stp bytes (Directed tree primal dual expanded log scale) status sent (I, unit, old, good, none) ends text = absurd none
 resumption_answers w stp bytes (NoTree log) status sent (I, unit, old, good, kept) ends text = rw ends (record { instance = I; scale = unit; old = old; good = good; kept = kept; text = text })
 
 -- a log has one text, bytes are refused as a log exactly, and a log is rejected exactly
@@ -146,7 +150,10 @@ pub record LogsAreExact : Type 0 where
   pub refused : (bytes : List ℕ) → LogRefusedExactly bytes
   pub rejected : (I : Network) (log : Log) → RejectedExactly I log
 
-module _ (stp bytes : List ℕ) (law : RefusedExactly stp) (logs : LogsAreExact) where
+module _ (stp bytes : List ℕ) (files : FilesAreExact stp) (logs : LogsAreExact) where
+  abbrev law : RefusedExactly stp
+  law = files.of_links
+
   -- the bytes are the text of one log
   one_log : (a b : Log) → IsTextOf bytes a → IsTextOf bytes b → a ≡ b
   one_log a b h k = logs.spelling a b h.is_log k.is_log (sym h.text ∙ k.text)
@@ -198,7 +205,7 @@ module _ (stp bytes : List ℕ) (law : RefusedExactly stp) (logs : LogsAreExact)
         text = s.text;
         took = took;
         ends = ends;
-        checks = (s.instance, s.good.reads, (log, record { is_log = s.continued.is_log; text = refl }, s.continued.accepted, concluded));
+        checks = (problem.plain s.instance, as_file stp s.instance scale files.alike s.good.reads, (log, record { is_log = s.continued.is_log; text = refl }, s.continued.accepted, concluded));
         log = saved;
       });
     }
@@ -263,11 +270,14 @@ module _ (stp bytes : List ℕ) (law : RefusedExactly stp) (logs : LogsAreExact)
     answered_log Infeasible (Some (NoTree log)) sent s took saved = gone_nowhere log sent s took saved
     answered_log RefusedFile None sent s took saved = no_file None sent s
     answered_log RefusedLog None sent s took saved = no_log None sent s
+    answered_log Optimal (Some (Directed tree primal dual expanded log scale)) sent s took saved = absurd s
     answered_log Optimal (Some (NoTree log)) sent s took saved = absurd s
     answered_log Optimal None sent s took saved = absurd s
+    answered_log Budget (Some (Directed tree primal dual expanded log scale)) sent s took saved = absurd s
     answered_log Budget (Some (NoTree log)) sent s took saved = absurd s
     answered_log Budget None sent s took saved = absurd s
     answered_log Infeasible (Some (Found tree primal dual expanded searches log scale)) sent s took saved = absurd s
+    answered_log Infeasible (Some (Directed tree primal dual expanded log scale)) sent s took saved = absurd s
     answered_log Infeasible None sent s took saved = absurd s
     answered_log RefusedFile (Some _) sent s took saved = absurd s
     answered_log RefusedLog (Some _) sent s took saved = absurd s
@@ -298,29 +308,29 @@ long_log w stp bytes outcome texts taken now long = record {
 
 -- how a run ends decides how a file and a log are answered, where nothing fails
 pub resumes_log : (w : ResumeWords) (stp bytes : List ℕ) (old new : Texts) (status : Status) (outcome : Option Outcome) (taken now : Option (List ℕ)) (sent : List ℕ)
-    → RefusedExactly stp → LogsAreExact → old w.file ≡ Some stp → old w.log_name ≡ Some bytes → (status ≡ ReadFault → ⊥) → (status ≡ NoMemory → ⊥)
+    → FilesAreExact stp → LogsAreExact → old w.file ≡ Some stp → old w.log_name ≡ Some bytes → (status ≡ ReadFault → ⊥) → (status ≡ NoMemory → ⊥)
     → EndsWith (Some (resume w)) old status outcome sent → now ≡ append_known taken sent → IsSaved (Some (resume w)) new outcome → ResumesLog w stp bytes status outcome new taken now
-resumes_log w stp bytes old new status outcome taken now sent law logs known known' read memory (inl h) took saved =
+resumes_log w stp bytes old new status outcome taken now sent files logs known known' read memory (inl h) took saved =
     let same = known_loaded (old w.file) h.0 stp known h.2 in
     let same' = known_loaded (old w.log_name) h.1 bytes known' h.3 in
-    answered_log stp bytes law logs w new taken now (record { file = same.1; log = same'.1 }) status outcome sent
+    answered_log stp bytes files logs w new taken now (record { file = same.1; log = same'.1 }) status outcome sent
     (subst (λ l. ResumeAnswer w stp l status outcome sent) same'.0 (subst (λ b. ResumeAnswer w b h.1 status outcome sent) same.0 h.4)) took saved
-resumes_log w stp bytes old new TooLong outcome taken now sent law logs known known' read memory (inr h) took saved = elim h.0 [
+resumes_log w stp bytes old new TooLong outcome taken now sent files logs known known' read memory (inr h) took saved = elim h.0 [
   | inl long ↦ long_log w stp bytes outcome new taken now (inl (subst (λ o. IfSome o (λ text. 2 ^ 34 < length text)) known long))
   | inr rest ↦ elim rest [
     | inl long ↦ long_log w stp bytes outcome new taken now (inr (subst (λ o. IfSome o (λ text. 2 ^ 34 < length text)) known' long))
     | inr none ↦ absurd none
   ]
 ]
-resumes_log w stp bytes old new ReadFault outcome taken now sent law logs known known' read memory (inr h) took saved = absurd (read refl)
-resumes_log w stp bytes old new NoMemory outcome taken now sent law logs known known' read memory (inr h) took saved = absurd (memory refl)
-resumes_log w stp bytes old new Optimal outcome taken now sent law logs known known' read memory (inr h) took saved = absurd h.0
-resumes_log w stp bytes old new Usage outcome taken now sent law logs known known' read memory (inr h) took saved = absurd h.0
-resumes_log w stp bytes old new Budget outcome taken now sent law logs known known' read memory (inr h) took saved = absurd h.0
-resumes_log w stp bytes old new Infeasible outcome taken now sent law logs known known' read memory (inr h) took saved = absurd h.0
-resumes_log w stp bytes old new RefusedFile outcome taken now sent law logs known known' read memory (inr h) took saved = absurd h.0
-resumes_log w stp bytes old new RefusedLog outcome taken now sent law logs known known' read memory (inr h) took saved = absurd h.0
-resumes_log w stp bytes old new WriteFault outcome taken now sent law logs known known' read memory (inr h) took saved = absurd h.0
-resumes_log w stp bytes old new NotFew outcome taken now sent law logs known known' read memory (inr h) took saved = absurd h.0
-resumes_log w stp bytes old new NotTree outcome taken now sent law logs known known' read memory (inr h) took saved = absurd h.0
-resumes_log w stp bytes old new RefusedSolution outcome taken now sent law logs known known' read memory (inr h) took saved = absurd h.0
+resumes_log w stp bytes old new ReadFault outcome taken now sent files logs known known' read memory (inr h) took saved = absurd (read refl)
+resumes_log w stp bytes old new NoMemory outcome taken now sent files logs known known' read memory (inr h) took saved = absurd (memory refl)
+resumes_log w stp bytes old new Optimal outcome taken now sent files logs known known' read memory (inr h) took saved = absurd h.0
+resumes_log w stp bytes old new Usage outcome taken now sent files logs known known' read memory (inr h) took saved = absurd h.0
+resumes_log w stp bytes old new Budget outcome taken now sent files logs known known' read memory (inr h) took saved = absurd h.0
+resumes_log w stp bytes old new Infeasible outcome taken now sent files logs known known' read memory (inr h) took saved = absurd h.0
+resumes_log w stp bytes old new RefusedFile outcome taken now sent files logs known known' read memory (inr h) took saved = absurd h.0
+resumes_log w stp bytes old new RefusedLog outcome taken now sent files logs known known' read memory (inr h) took saved = absurd h.0
+resumes_log w stp bytes old new WriteFault outcome taken now sent files logs known known' read memory (inr h) took saved = absurd h.0
+resumes_log w stp bytes old new NotFew outcome taken now sent files logs known known' read memory (inr h) took saved = absurd h.0
+resumes_log w stp bytes old new NotTree outcome taken now sent files logs known known' read memory (inr h) took saved = absurd h.0
+resumes_log w stp bytes old new RefusedSolution outcome taken now sent files logs known known' read memory (inr h) took saved = absurd h.0

@@ -18,7 +18,7 @@ use Rattle.command_line.specs.declared.cmd.TrialWords.{TrialWords as Trial}
 use Rattle.command_line.specs.Seen.{trial_words}
 use Rattle.command_line.specs.Words.{TrialWords}
 use Rattle.steiner_top.specs.declared.outcome.Outcome.{Outcome}
-use Rattle.steiner_top.specs.declared.outcome.Outcome.TheVariants.{Found, NoTree}
+use Rattle.steiner_top.specs.declared.outcome.Outcome.TheVariants.{Found, Directed, NoTree}
 use Rattle.steiner_top.specs.declared.status.Status.{Status}
 use Rattle.steiner_top.specs.declared.status.Status.TheVariants.{Optimal, Budget}
 use Rattle.steiner_top.specs.Answer.{status_of_outcome}
@@ -41,6 +41,7 @@ no_wall I wall connected h = by_case (has wall 1) refl
 -- so solving it gives a tree
 has_tree : (nodes : ℕ) (plain links : Bool) (I : Network) (scale : Scale) (outcome : Outcome) → IsConnected I → IsOutcome nodes plain links I scale outcome → HasTree outcome
 has_tree nodes plain links I unit (Found tree primal dual expanded searches log scale) connected h = tt
+has_tree nodes plain links I unit (Directed tree primal dual expanded log scale) connected h = absurd h
 has_tree nodes plain links I unit (NoTree log) connected h = no_wall I h.wall connected (subst (AcceptsClaim I) h.claims h.accepted)
 
 -- a tree whose cost is a bound is a best one
@@ -90,6 +91,7 @@ tried w (Found tree primal dual expanded searches log scale) text h is = subst (
     by_case : (b : Bool) → eqb dual primal ≡ b → IsTried w (cond b Optimal Budget) (Some (Found tree primal dual expanded searches log Whole)) text
     by_case true same = tried_found w Optimal tree primal dual expanded searches log text h.0 is (inl (refl, grind (arith, nat_tests)))
     by_case false apart = let below = h.0.is_below in tried_found w Budget tree primal dual expanded searches log text h.0 is (inr (refl, grind (arith, nat_tests)))
+tried w (Directed tree primal dual expanded log scale) text h is = absurd is
 tried w (NoTree log) text h is = absurd is
 
 -- the numbers of the words are in their ranges

@@ -4,7 +4,7 @@ use Rattle.std.specs.Io.KnownBytes.{append_known}
 use Rattle.cert_checker.specs.declared.fault.CheckFault.{CheckFault}
 use Rattle.cert_checker.specs.declared.fault.CheckFault.TheVariants.{NoMemory}
 use Rattle.cert_checker.specs.declared.verdict.Checked.{Checked}
-use Rattle.cert_checker.specs.Checking.{IsAnswer}
+use Rattle.cert_checker.specs.Checking.{IsFileAnswer}
 use Rattle.command_line.specs.Words.{Command, CheckWords, check}
 use Rattle.steiner_top.specs.declared.status.Status.{Status}
 use Rattle.steiner_top.specs.Answer.{IsLineOf}
@@ -16,8 +16,8 @@ Gives status taken now answer = (line : List ℕ) × IsLineOf answer status line
 
 -- an answer was given that is right of the file and the log, and each that is right is the one that was given
 pub record ChecksExactly (stp log : List ℕ) (status : Status) (taken now : Option (List ℕ)) : Type 0 where
-  pub some : (answer : Result Checked CheckFault) × IsAnswer stp log answer × Gives status taken now answer
-  pub each : (answer : Result Checked CheckFault) → IsAnswer stp log answer → answer ≢ Err NoMemory → Gives status taken now answer
+  pub some : (answer : Result Checked CheckFault) × IsFileAnswer stp log answer × Gives status taken now answer
+  pub each : (answer : Result Checked CheckFault) → IsFileAnswer stp log answer → answer ≢ Err NoMemory → Gives status taken now answer
 
 -- so it is where the words ask for it and both texts are known, short enough and loaded
 abbrev pub ChecksBothWays : Option Command → Texts → Status → Option (List ℕ) → Option (List ℕ) → Type 0

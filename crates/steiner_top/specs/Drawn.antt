@@ -10,7 +10,7 @@ use Rattle.log_format.specs.declared.log.Log.{Log}
 use Rattle.search_core.specs.declared.gathered.Searched.{Searched}
 use Rattle.command_line.specs.Words.{DrawWords, GenWords, TrialWords}
 use Rattle.steiner_top.specs.declared.outcome.Outcome.{Outcome}
-use Rattle.steiner_top.specs.declared.outcome.Outcome.TheVariants.{Found, NoTree}
+use Rattle.steiner_top.specs.declared.outcome.Outcome.TheVariants.{Found, Directed, NoTree}
 use Rattle.steiner_top.specs.declared.status.Status.{Status}
 use Rattle.steiner_top.specs.declared.status.Status.TheVariants.{Optimal, Budget}
 use Rattle.steiner_top.specs.Outcome.{IsFound}
@@ -33,11 +33,13 @@ tried_instance w = drawn_instance w.drawn false
 -- a tree was found
 abbrev pub HasTree : Outcome → Type 0
 HasTree (Found tree primal dual expanded searches log scale) = Unit {0}
+HasTree (Directed tree primal dual expanded log scale) = ⊥
 HasTree (NoTree log) = ⊥
 
 -- the summary of a tree that was found
 abbrev pub IsSummary : Outcome → List ℕ → Type 0
 IsSummary (Found tree primal dual expanded searches log scale) text = text ≡ summary primal dual
+IsSummary (Directed tree primal dual expanded log scale) text = ⊥
 IsSummary (NoTree log) text = ⊥
 
 -- how `trial` is answered: by the cost of a tree and a bound, which are equal unless the whole budget was spent

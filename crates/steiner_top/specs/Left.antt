@@ -58,6 +58,7 @@ IsClaimOf (NoTree wall) tree primal dual = ⊥
 abbrev pub IsShownBy : ℕ → List Searched → Log → Scale → Outcome → Type 0
 IsShownBy worked done log unit (outcome.Found tree primal dual expanded searches certificate scale) =
     IsClaimOf log.claim tree primal dual × (expanded ≡ worked) × (searches ≡ done) × (certificate ≡ log) × (scale ≡ unit)
+IsShownBy worked done log unit (outcome.Directed tree primal dual expanded certificate scale) = ⊥
 IsShownBy worked done log unit (outcome.NoTree certificate) = ⊥
 
 -- a detour's inner vertices can be counted

@@ -1,16 +1,18 @@
--- What solving a file gives: a tree and a bound with their certificate, or a certificate that there is no tree.
+-- What solving a file of either kind gives: a tree and a bound with their certificate, or a certificate that there is no tree.
 use Rattle.std.specs.Prelude.{◌≡◌, ℕ, ◌+◌, ◌^◌, ◌<◌, ◌≤◌, Bool, true, false, IsFalse, if◌then◌else◌, List, [], ◌∷◌, All, Result, Ok, Err}
 use Rattle.amounts.specs.declared.scale.Scale.{Scale}
 use Rattle.st_model.specs.declared.tree.Tree.{Tree}
 use Rattle.st_model.specs.Linked.{linked_pairs}
 use Rattle.st_model.specs.Lists.{sum_to}
 use Rattle.st_model.specs.Network.{Network, is_required}
-use Rattle.st_model.specs.Arborescence.{IsTree, IsBound, cost}
+use Rattle.st_model.specs.Arborescence.{IsTree, IsTreeIn, IsBound, cost}
 use Rattle.st_model.specs.Terminals.{NobodyPays}
+use Rattle.arborescence.specs.DiNetwork.{DiNetwork}
+use Rattle.arborescence.specs.Problem as problem
 use Rattle.twice_tree.specs.Twice.{IsWithinTwice}
 use Rattle.stp_reader.specs.declared.fault.ReadError.{ReadError}
 use Rattle.stp_reader.specs.declared.fault.ReadError.TheVariants.{Fault, NoMemory as NoMemoryToRead}
-use Rattle.stp_reader.specs.Reads.{Reads, Refused}
+use Rattle.stp_reader.specs.Reads.{ReadsFile, RefusedFile}
 use Rattle.lift_back.specs.declared.step.Step.{Step}
 use Rattle.lift_back.specs.State.{State, IsTreeOf, whole}
 use Rattle.lift_back.specs.Steps.{Applies}
@@ -18,15 +20,16 @@ use Rattle.log_format.specs.declared.log.Log.{Log}
 use Rattle.log_format.specs.declared.log.Version.TheVariants.{Two}
 use Rattle.log_format.specs.declared.log.Claim.TheVariants as claim
 use Rattle.log_format.specs.declared.proof_line.ProofLine.{ProofLine}
-use Rattle.log_format.specs.Accepts.{Accepts, ProvesAfter, left_of, left_over}
+use Rattle.log_format.specs.Accepts.{Accepts, AcceptsIn, ProvesAfter, left_of, left_over}
 use Rattle.log_format.specs.Text.{IsLog}
 use Rattle.search_core.specs.declared.gathered.Searched.{Searched}
 use Rattle.reductions.specs.Results.{HasNoVertexStep}
 use Rattle.search_core.specs.Complete.{IsAtVertex, IsComplete, IsFinished, records}
+use Rattle.directed_search.specs.Found.{IsDiFound}
 use Rattle.certificate_log.specs.Assembled.{IsAssembled}
 use Rattle.certificate_log.specs.Spent.{IsSpent}
 use Rattle.steiner_top.specs.declared.outcome.Outcome.{Outcome}
-use Rattle.steiner_top.specs.declared.outcome.Outcome.TheVariants.{Found, NoTree}
+use Rattle.steiner_top.specs.declared.outcome.Outcome.TheVariants.{Found, Directed, NoTree}
 use Rattle.steiner_top.specs.declared.outcome.SolveFault.{SolveFault}
 use Rattle.steiner_top.specs.declared.outcome.SolveFault.TheVariants.{Stp, NoMemory}
 
@@ -94,29 +97,42 @@ pub record IsFound (nodes : ℕ) (plain links : Bool) (I : Network) (tree : Tree
   -- and one that is, wherever nodes are split
   pub enough_with_links : 2 ^ (free_vertices I + linked_pairs I + 1) ≤ nodes → dual ≡ primal
 
--- the instance has no tree, and the log says why
-pub record IsWithoutTree (I : Network) (log : Log) : Type 0 where
+-- the problem has no tree, and the log says why
+pub record IsWithoutTree (p : problem.Problem) (log : Log) : Type 0 where
   pub wall : List ℕ
-  pub none : (t : Tree) → IsTree I t → ⊥
+  pub none : (t : Tree) → IsTreeIn (problem.ground_of p) t → ⊥
   pub version : log.version ≡ Two
   pub claims : log.claim ≡ claim.NoTree wall
   pub is_log : IsLog log
-  pub accepted : Accepts I log
+  pub accepted : AcceptsIn p log
 
 -- what is right of an instance whose costs count units of this scale, where so many nodes may be expanded, it is to be plain or not, and nodes may be split at links or not
 abbrev pub IsOutcome : ℕ → Bool → Bool → Network → Scale → Outcome → Type 0
 IsOutcome nodes plain links I unit (Found tree primal dual expanded searches log scale) = IsFound nodes plain links I tree primal dual expanded searches log × (scale ≡ unit)
-IsOutcome nodes plain links I unit (NoTree log) = IsWithoutTree I log
+IsOutcome nodes plain links I unit (Directed tree primal dual expanded log scale) = ⊥
+IsOutcome nodes plain links I unit (NoTree log) = IsWithoutTree (problem.plain I) log
+
+-- the same of a directed instance, of which no step is taken and no node is split at a link
+abbrev pub IsDirectedOutcome : ℕ → DiNetwork → Scale → Outcome → Type 0
+IsDirectedOutcome nodes D unit (Found tree primal dual expanded searches log scale) = ⊥
+IsDirectedOutcome nodes D unit (Directed tree primal dual expanded log scale) = IsDiFound nodes D tree primal dual expanded log × (scale ≡ unit)
+IsDirectedOutcome nodes D unit (NoTree log) = IsWithoutTree (problem.directed D) log
+
+-- the same of a problem
+abbrev pub IsOutcomeOf : ℕ → Bool → Bool → problem.Problem → Scale → Outcome → Type 0
+IsOutcomeOf nodes plain links (problem.plain I) unit outcome = IsOutcome nodes plain links I unit outcome
+IsOutcomeOf nodes plain links (problem.directed D) unit outcome = IsDirectedOutcome nodes D unit outcome
 
 -- the certificate of an outcome
 abbrev pub certificate_of : Outcome → Log
 certificate_of (Found tree primal dual expanded searches log scale) = log
+certificate_of (Directed tree primal dual expanded log scale) = log
 certificate_of (NoTree log) = log
 
--- what the bytes of a file give: an outcome of their instance, or the line at which they are refused
+-- what the bytes of a file give: an outcome of their problem, or the line at which they are refused
 abbrev pub Solves : ℕ → Bool → Bool → List ℕ → Result Outcome SolveFault → Type 0
-Solves nodes plain links bytes (Ok outcome) = (I : Network) × (scale : Scale) × Reads bytes I scale × IsOutcome nodes plain links I scale outcome
-Solves nodes plain links bytes (Err (Stp f)) = Refused bytes f.line f.reason
+Solves nodes plain links bytes (Ok outcome) = (p : problem.Problem) × (scale : Scale) × ReadsFile bytes p scale × IsOutcomeOf nodes plain links p scale outcome
+Solves nodes plain links bytes (Err (Stp f)) = RefusedFile bytes f.line f.reason
 Solves nodes plain links bytes (Err NoMemory) = Unit {0}
 
 -- the fault of a file that isn't read

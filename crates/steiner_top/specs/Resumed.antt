@@ -9,20 +9,18 @@ use Rattle.stp_reader.specs.declared.reason.Reason.{Reason}
 use Rattle.stp_reader.specs.Reads.{Reads, Refused}
 use Rattle.log_format.specs.declared.kind.Kind.{Kind}
 use Rattle.log_format.specs.declared.log.Log.{Log}
-use Rattle.log_format.specs.declared.log.Claim.{Claim}
 use Rattle.log_format.specs.declared.log.Claim.TheVariants as claim
 use Rattle.log_format.specs.Accepts.{Accepts}
 use Rattle.log_format.specs.Text.{IsLog, log_text}
 use Rattle.search_core.specs.declared.gathered.Searched.{Searched}
 use Rattle.dimacs_writer.specs.Solution.{IsSolutionText}
 use Rattle.cert_checker.specs.declared.fault.CheckFault.{CheckFault}
-use Rattle.cert_checker.specs.declared.verdict.Checked.{Checked}
 use Rattle.cert_checker.specs.declared.verdict.Verdict.TheVariants as verdict
-use Rattle.cert_checker.specs.Checking.{IsAnswer, IsTextOf, IsWrongText}
+use Rattle.cert_checker.specs.Checking.{IsAnswer, IsFileAnswer, IsTextOf, IsWrongText}
 use Rattle.resuming.specs.Resumed.{ClaimsTree, IsResumed, dual_of, expanded_by, primal_of}
 use Rattle.command_line.specs.Words.{ResumeWords}
 use Rattle.steiner_top.specs.declared.outcome.Outcome.{Outcome}
-use Rattle.steiner_top.specs.declared.outcome.Outcome.TheVariants.{Found, NoTree}
+use Rattle.steiner_top.specs.declared.outcome.Outcome.TheVariants.{Found, Directed, NoTree}
 use Rattle.steiner_top.specs.declared.status.Status.{Status}
 use Rattle.steiner_top.specs.declared.status.Status.TheVariants.{Optimal, Budget, Infeasible, RefusedFile, RefusedLog, TooLong}
 use Rattle.steiner_top.specs.Answer.{IsRefusal}
@@ -63,6 +61,7 @@ pub record IsKept (I : Network) (old log : Log) : Type 0 where
 -- what is right of an instance and of a log that is accepted of it
 abbrev pub IsResumption : ℕ → Network → Scale → Log → Outcome → Type 0
 IsResumption nodes I unit old (Found tree primal dual expanded searches log scale) = ClaimsTree old.claim × IsContinued nodes I old tree primal dual expanded searches log × (scale ≡ unit)
+IsResumption nodes I unit old (Directed tree primal dual expanded log scale) = ⊥
 IsResumption nodes I unit old (NoTree log) = IsKept I old log
 
 -- what the bytes of a file and of a log give: an outcome, or the fault that a check finds
@@ -130,7 +129,7 @@ pub record SendsContinuation (w : ResumeWords) (stp : List ℕ) (I : Network) (s
   pub text : IsSolutionText w.file w.workers tree dual primal scale sent
   pub took : now ≡ append_known taken sent
   pub ends : ((status ≡ Optimal) × (dual ≡ primal)) ⊎ ((status ≡ Budget) × (dual < primal))
-  pub checks : IsAnswer stp (log_text certificate) (Ok (record { verdict = if dual == primal then verdict.Optimal primal else verdict.Bound dual primal; scale = scale }))
+  pub checks : IsFileAnswer stp (log_text certificate) (Ok (record { verdict = if dual == primal then verdict.Optimal primal else verdict.Bound dual primal; scale = scale }))
   pub log : IfSome w.save_name (λ name. IfSome (texts name) (λ text. text ≡ log_text certificate))
 
 -- the line that there is no tree was sent, and the log stands under its new name as it was

@@ -9,7 +9,7 @@ use crate::Status;
 use crate::answer::Answer;
 use crate::lines::{refused_log, refused_stp, verdict};
 use crate::loading::load;
-use cert_checker::{CheckFault, Checked, check};
+use cert_checker::{CheckFault, Checked, check_file};
 use command_line::CheckWords;
 use st_edge::Shelf;
 use std::alloc::{AllocError, Global};
@@ -38,7 +38,7 @@ fn answer_bytes(alloc: Global, stp: &[u8], log: &[u8]) -> Result<Answer, AllocEr
     ensures answer { IfOk result (λ a. CheckAnswer stp.now log.now a.status a.text.items) }
     ensures outcome { IfOk result (λ a. a.outcome ≡ None) }
 {
-    answer_to(alloc, check(alloc, stp, log))
+    answer_to(alloc, check_file(alloc, stp, log))
 }
 
 /// Loads the file and the log, and checks the log: what there is to send then, or how the run ends

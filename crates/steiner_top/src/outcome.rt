@@ -23,6 +23,15 @@ pub enum Outcome {
         certificate: Log,
         scale: Scale,
     },
+    /// The same of a directed file, whose search is by one worker.
+    Directed {
+        tree: Tree,
+        primal: u64,
+        dual: u64,
+        expanded: u64,
+        certificate: Log,
+        scale: Scale,
+    },
     /// There is no tree.
     NoTree {
         certificate: Log,
@@ -35,7 +44,9 @@ impl Outcome {
         ensures { result.now ≡ certificate_of self.now }
     {
         match self {
-            Outcome::Found { certificate, .. } | Outcome::NoTree { certificate } => certificate,
+            Outcome::Found { certificate, .. }
+            | Outcome::Directed { certificate, .. }
+            | Outcome::NoTree { certificate } => certificate,
         }
     }
 }

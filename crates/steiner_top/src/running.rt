@@ -47,10 +47,13 @@ pub fn run<R: Threads + Wait + Sync, F: Shelf, K: Sink, G: Gate>(
 ) -> Ended
     // Where no device and no memory fails, the words and the texts decide how it ends.
     ensures headline { Headline (command_of (map string_bytes words.now)) (F.text shelf.old) (F.text shelf.new)
-        (F.read_faults shelf.old) (F.read_faults shelf.new) (F.write_faults shelf.old) (F.write_faults shelf.new)
-        (K.faults out.old) (K.faults out.new) result.status result.outcome (K.taken out.old) (K.taken out.new) }
-    ensures checks { NothingFails (F.read_faults shelf.old) (F.read_faults shelf.new)
-        (F.write_faults shelf.old) (F.write_faults shelf.new) (K.faults out.old) (K.faults out.new) result.status
+        (record { reads = F.read_faults shelf.old; saves = F.write_faults shelf.old; writes = K.faults out.old })
+        (record { reads = F.read_faults shelf.new; saves = F.write_faults shelf.new; writes = K.faults out.new })
+        result.status result.outcome (K.taken out.old) (K.taken out.new) }
+    ensures checks { NothingFails
+        (record { reads = F.read_faults shelf.old; saves = F.write_faults shelf.old; writes = K.faults out.old })
+        (record { reads = F.read_faults shelf.new; saves = F.write_faults shelf.new; writes = K.faults out.new })
+        result.status
         → ChecksBothWays (command_of (map string_bytes words.now)) (F.text shelf.old) result.status
         (K.taken out.old) (K.taken out.new) }
     // Why each status came, and what was sent.
@@ -80,6 +83,8 @@ pub fn run<R: Threads + Wait + Sync, F: Shelf, K: Sink, G: Gate>(
     ensures counts { (F.write_faults shelf.old ≤ F.write_faults shelf.new) × (K.faults out.old ≤ K.faults out.new) }
 {
     stp_reader::refused_exactly();
+    stp_reader::file_refused_exactly();
+    stp_reader::reads_alike();
     solution_reader::solutions_refused_exactly();
     log_format::one_spelling();
     log_format::refused_exactly();

@@ -33,6 +33,13 @@ pub fn outcome_text(
             scale,
             ..
         } => solution_text(alloc, file, workers, tree, *dual, *primal, *scale, false),
+        Outcome::Directed {
+            tree,
+            primal,
+            dual,
+            scale,
+            ..
+        } => solution_text(alloc, file, workers, tree, *dual, *primal, *scale, true),
         Outcome::NoTree { .. } => Ok(infeasible(alloc)?.into_bytes()),
     }
 }
@@ -43,7 +50,8 @@ pub fn outcome_status(outcome: &Outcome) -> Status
 {
     match outcome {
         Outcome::Found { primal, dual, .. } if dual == primal => Status::Optimal,
-        Outcome::Found { .. } => Status::Budget,
+        Outcome::Directed { primal, dual, .. } if dual == primal => Status::Optimal,
+        Outcome::Found { .. } | Outcome::Directed { .. } => Status::Budget,
         Outcome::NoTree { .. } => Status::Infeasible,
     }
 }

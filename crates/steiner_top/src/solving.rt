@@ -4,14 +4,14 @@ ghost use Rattle.st_model.specs.declared.tree.Tree.{Tree as Grown};
 ghost use Rattle.st_model.specs.Arborescence.{IsTree};
 ghost use Rattle.st_model.specs.Wall.{IsWall};
 ghost use Rattle.stp_reader.specs.declared.reason.Reason.{Reason};
-ghost use Rattle.stp_reader.specs.Reads.{Refused};
+ghost use Rattle.stp_reader.specs.Reads.{RefusedFile};
 ghost use Rattle.lift_back.specs.State.{IsState};
 ghost use Rattle.log_format.specs.Accepts.{left_over};
 ghost use Rattle.log_format.specs.Text.{IsWritableSet};
 ghost use Rattle.resuming.specs.Resumed.{ClaimsTree};
 ghost use Rattle.steiner_top.specs.declared.outcome.SolveFault.TheVariants.{Stp, NoMemory};
 ghost use Rattle.steiner_top.specs.Left.{HasSomeTree, IsBestOf, IsClaimOf, IsLeftOf, IsShownBy};
-ghost use Rattle.steiner_top.specs.Outcome.{IsOutcome, Solves};
+ghost use Rattle.steiner_top.specs.Outcome.{IsDirectedOutcome, IsOutcome, Solves};
 
 use crate::best::{Best, cheapest};
 use crate::left::Left;
@@ -21,7 +21,9 @@ use crate::reducing::{count_steps, left_of, left_over};
 use crate::start::wall_of;
 use crate::wanted::Wanted;
 use amounts::Scale;
+use arborescence::DiInstance;
 use certificate_log::assemble;
+use directed_search::{DiOutcome, solve_directed};
 use graph_store::Whole;
 use lift_back::Reduced;
 use log_format::{Claim, Log, Version};
@@ -30,14 +32,14 @@ use st_model::{Instance, Listed, Sides, Tree, tree_cost};
 use std::alloc::{AllocError, Global};
 use std::sync::Wait;
 use std::thread::Threads;
-use stp_reader::{Reading, read_stp};
+use stp_reader::{File, Reading, read_file};
 use worker_loop::{Gate, Limits, run_all};
 
-/// Solves an STP file, all of the bytes, expanding so many nodes at most: a tree and a bound with
-/// a certificate, the bound being the tree's cost unless the budget was spent; or a certificate
-/// that there is no tree. Unless it is to be plain, the search is over what a reduction leaves, and
-/// it splits nodes at vertices alone unless links are allowed. The gate learns of each node that is
-/// worked on.
+/// Solves an STP file of either kind, all of the bytes, expanding so many nodes at most: a tree and a
+/// bound with a certificate, the bound being the tree's cost unless the budget was spent; or a
+/// certificate that there is no tree. Unless it is to be plain, the search is over what a reduction
+/// leaves, and it splits nodes at vertices alone unless links are allowed. The gate learns of each node
+/// that is worked on. A directed file is searched by one worker, as it is, and the gate learns nothing.
 pub fn solve_bytes<R: Threads + Wait + Sync, G: Gate>(
     rt: &R,
     alloc: Global,
@@ -48,14 +50,14 @@ pub fn solve_bytes<R: Threads + Wait + Sync, G: Gate>(
     // Each answer has its reason.
     ensures exact { Solves wanted.nodes wanted.plain wanted.links stp.now result }
     // Bytes that are refused are answered with that line and reason, unless memory runs out.
-    ensures refused { (line : ℕ) (reason : Reason) → Refused stp.now line reason
+    ensures refused { (line : ℕ) (reason : Reason) → RefusedFile stp.now line reason
         → (result ≡ Err (Stp (record { line = line; reason = reason }))) ⊎ (result ≡ Err NoMemory) }
 {
-    stp_reader::refused_exactly();
+    stp_reader::file_refused_exactly();
     solve(rt, alloc, stp, wanted, gate)
 }
 
-// Reads the file and solves its instance.
+// Reads the file and solves its problem.
 fn solve<R: Threads + Wait + Sync, G: Gate>(
     rt: &R,
     alloc: Global,
@@ -65,9 +67,45 @@ fn solve<R: Threads + Wait + Sync, G: Gate>(
 ) -> Result<Outcome, SolveFault>
     ensures { Solves wanted.nodes wanted.plain wanted.links stp.now result }
 {
-    let reading = read_stp(alloc, stp)?;
-    let outcome = solve_reading(rt, alloc, &reading, wanted, gate)?;
-    Ok(outcome)
+    match read_file(alloc, stp)? {
+        File::Plain(reading) => {
+            let outcome = solve_reading(rt, alloc, &reading, wanted, gate)?;
+            Ok(outcome)
+        }
+        File::Directed { instance, scale } => {
+            let outcome = solve_arcs(alloc, &instance, scale, wanted.nodes)?;
+            Ok(outcome)
+        }
+    }
+}
+
+// Solves a directed instance, expanding so many nodes at most.
+fn solve_arcs(
+    alloc: Global,
+    instance: &DiInstance,
+    scale: Scale,
+    nodes: u64,
+) -> Result<Outcome, AllocError>
+    ensures { IfOk result (IsDirectedOutcome nodes instance.now scale) }
+{
+    let found = solve_directed(alloc, instance, nodes)?;
+    match found {
+        DiOutcome::Found {
+            tree,
+            primal,
+            dual,
+            expanded,
+            certificate,
+        } => Ok(Outcome::Directed {
+            tree,
+            primal,
+            dual,
+            expanded,
+            certificate,
+            scale,
+        }),
+        DiOutcome::NoTree { certificate } => Ok(Outcome::NoTree { certificate }),
+    }
 }
 
 /// Solves an instance that was read, expanding so many nodes at most.

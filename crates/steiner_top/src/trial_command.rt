@@ -41,7 +41,7 @@ fn summary_of(alloc: Global, outcome: &Outcome) -> Result<Vec<u8>, AllocError>
 {
     match outcome {
         Outcome::Found { primal, dual, .. } => Ok(summary(alloc, *primal, *dual)?.into_bytes()),
-        Outcome::NoTree { .. } => unreachable!(),
+        Outcome::Directed { .. } | Outcome::NoTree { .. } => unreachable!(),
     }
 }
 

@@ -1,10 +1,9 @@
-use Rattle.std.proofs.Common.{◌≡◌, ◌^◌, ◌<◌, List, sym, subst, arith}
+use Rattle.std.proofs.Common.{◌^◌, ◌<◌, List, sym, subst, arith}
 use Rattle.log_format.specs.Accepts.{left_over}
 use Rattle.search_core.specs.declared.gathered.Searched.{Searched}
 use Rattle.log_resume.specs.Closes.{closes_of}
 use Rattle.resuming.specs.Resumed.{expanded_by}
 use Rattle.resuming.proofs.Falling.{within_budget}
-use Rattle.steiner_top.proofs.Resuming.{kept_log, resumption_shown}
 use Rattle.steiner_top.proofs.continuing.go_on.Goals as goal
 
 pub expanded_by-expanded-requires : goal.expanded_by-expanded-requires

@@ -1,6 +1,5 @@
 use Rattle.std.proofs.Common.{rules}
 use Rattle.cert_checker.specs.declared.fault.CheckFault.TheVariants.{Stp, Log as OfLog}
-use Rattle.steiner_top.specs.Resumed.{IsGoodLog}
 use Rattle.steiner_top.proofs.Resuming.{good_so, no_fault, same_fault}
 use Rattle.steiner_top.proofs.continuing.resume_bytes.Goals as goal
 

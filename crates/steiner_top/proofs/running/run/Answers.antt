@@ -6,21 +6,21 @@ use Rattle.steiner_top.proofs.Reasons.{answer_cut_short, lost_outcome, never_sto
 use Rattle.steiner_top.proofs.running.run.Goals as goal
 
 pub returns-in-Ok-clause-headline : goal.returns-in-Ok-clause-headline
-returns-in-Ok-clause-headline g c = decides (command_of (map string_bytes c.args.words.now)) (g.F.Shelf.text c.args.shelf.now) (g.F.Shelf.text c.answer.new.shelf) _ _ _ _ _ _ c.send.result.status c.send.result.outcome (g.K.Sink.taken c.args.out.now) (g.K.Sink.taken c.send.new.out)
-    c.refused_exactly.ensures c.solutions_refused_exactly.ensures (record { spelling = c.one_spelling.ensures; refused = c.refused_exactly-2.ensures; rejected = c.rejected_exactly.ensures }) (search rules) (search rules) (λ read. absurd (never_stopped (command_of (map string_bytes c.args.words.now)) (g.F.Shelf.text c.args.shelf.now) c.in-Ok.answer.status c.send.result.status c.in-Ok.answer.outcome c.in-Ok.answer.text.items c.in-Ok.ensures.answered (λ fine. (c.send.ensures.sent fine).0) (inl read)))
+returns-in-Ok-clause-headline g c = decides (command_of (map string_bytes c.args.words.now)) (g.F.Shelf.text c.args.shelf.now) (g.F.Shelf.text c.answer.new.shelf) _ _ c.send.result.status c.send.result.outcome (g.K.Sink.taken c.args.out.now) (g.K.Sink.taken c.send.new.out)
+    (λ bytes. record { of_links = c.refused_exactly.ensures bytes; of_both = c.file_refused_exactly.ensures bytes; alike = c.reads_alike.ensures bytes }) c.solutions_refused_exactly.ensures (record { spelling = c.one_spelling.ensures; refused = c.refused_exactly-2.ensures; rejected = c.rejected_exactly.ensures }) (search rules) (search rules) (λ read. absurd (never_stopped (command_of (map string_bytes c.args.words.now)) (g.F.Shelf.text c.args.shelf.now) c.in-Ok.answer.status c.send.result.status c.in-Ok.answer.outcome c.in-Ok.answer.text.items c.in-Ok.ensures.answered (λ fine. (c.send.ensures.sent fine).0) (inl read)))
     (λ failed. inr (c.send.ensures.cause.rose (failed, never_unwritten (command_of (map string_bytes c.args.words.now)) (g.F.Shelf.text c.args.shelf.now) c.in-Ok.answer.status c.in-Ok.answer.outcome c.in-Ok.answer.text.items c.in-Ok.ensures.answered)))
 
 pub returns-in-Err-clause-headline : goal.returns-in-Err-clause-headline
-returns-in-Err-clause-headline g c = decides (command_of (map string_bytes c.args.words.now)) (g.F.Shelf.text c.args.shelf.now) (g.F.Shelf.text c.answer.new.shelf) _ _ _ _ _ _ c.send-in-Err.result.status c.send-in-Err.result.outcome (g.K.Sink.taken c.args.out.now) (g.K.Sink.taken c.send-in-Err.new.out)
-    c.refused_exactly.ensures c.solutions_refused_exactly.ensures (record { spelling = c.one_spelling.ensures; refused = c.refused_exactly-2.ensures; rejected = c.rejected_exactly.ensures }) (search rules) (search rules) (search rules) (search rules)
+returns-in-Err-clause-headline g c = decides (command_of (map string_bytes c.args.words.now)) (g.F.Shelf.text c.args.shelf.now) (g.F.Shelf.text c.answer.new.shelf) _ _ c.send-in-Err.result.status c.send-in-Err.result.outcome (g.K.Sink.taken c.args.out.now) (g.K.Sink.taken c.send-in-Err.new.out)
+    (λ bytes. record { of_links = c.refused_exactly.ensures bytes; of_both = c.file_refused_exactly.ensures bytes; alike = c.reads_alike.ensures bytes }) c.solutions_refused_exactly.ensures (record { spelling = c.one_spelling.ensures; refused = c.refused_exactly-2.ensures; rejected = c.rejected_exactly.ensures }) (search rules) (search rules) (search rules) (search rules)
 
 pub returns-in-Ok-clause-checks : goal.returns-in-Ok-clause-checks
-returns-in-Ok-clause-checks g c = decides_checks (command_of (map string_bytes c.args.words.now)) (g.F.Shelf.text c.args.shelf.now) _ _ _ _ _ _ c.send.result.status c.send.result.outcome (g.K.Sink.taken c.args.out.now) (g.K.Sink.taken c.send.new.out)
+returns-in-Ok-clause-checks g c = decides_checks (command_of (map string_bytes c.args.words.now)) (g.F.Shelf.text c.args.shelf.now) _ _ c.send.result.status c.send.result.outcome (g.K.Sink.taken c.args.out.now) (g.K.Sink.taken c.send.new.out)
     (search rules) (λ read. absurd (never_stopped (command_of (map string_bytes c.args.words.now)) (g.F.Shelf.text c.args.shelf.now) c.in-Ok.answer.status c.send.result.status c.in-Ok.answer.outcome c.in-Ok.answer.text.items c.in-Ok.ensures.answered (λ fine. (c.send.ensures.sent fine).0) (inl read)))
     (λ failed. inr (c.send.ensures.cause.rose (failed, never_unwritten (command_of (map string_bytes c.args.words.now)) (g.F.Shelf.text c.args.shelf.now) c.in-Ok.answer.status c.in-Ok.answer.outcome c.in-Ok.answer.text.items c.in-Ok.ensures.answered)))
 
 pub returns-in-Err-clause-checks : goal.returns-in-Err-clause-checks
-returns-in-Err-clause-checks g c = decides_checks (command_of (map string_bytes c.args.words.now)) (g.F.Shelf.text c.args.shelf.now) _ _ _ _ _ _ c.send-in-Err.result.status c.send-in-Err.result.outcome (g.K.Sink.taken c.args.out.now) (g.K.Sink.taken c.send-in-Err.new.out)
+returns-in-Err-clause-checks g c = decides_checks (command_of (map string_bytes c.args.words.now)) (g.F.Shelf.text c.args.shelf.now) _ _ c.send-in-Err.result.status c.send-in-Err.result.outcome (g.K.Sink.taken c.args.out.now) (g.K.Sink.taken c.send-in-Err.new.out)
     (search rules) (search rules) (search rules)
 
 pub returns-in-Err-clause-cut_short : goal.returns-in-Err-clause-cut_short
