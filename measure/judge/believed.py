@@ -2,11 +2,11 @@
 
     python3 measure/judge/believed.py [check | verify | solve | headline | CRATE/FILE:NAME ..]
 
-follows the words and operators of each definition from those that are named, as cert_checker/Verdict:Concludes, and tells
+follows the words and operators of each definition from those that are named, as cert_checker/Verdict:ConcludesIn, and tells
 of each file of specs/ how many lines it has without imports and blank lines, and how many of these are the
 definitions that are reached, with the comments above them; then the types of src/, and the words of the standard library
 and of the kit's crates that are reached. `check`, which is what it does without words, begins at the clause `concludes`
-of cert_checker's check; `verify` at the clause `tree` of solution_reader's verify; `headline` at the first clause of
+of cert_checker's check_file; `verify` at the clause `tree` of solution_reader's verify; `headline` at the first clause of
 steiner_top's run, and `solve` at what that says of the command of this name.
 """
 import os
@@ -15,7 +15,7 @@ import sys
 
 CRATES = os.path.join(os.path.dirname(os.path.abspath(__file__)), "..", "..", "crates")
 STARTS = {
-    "check": ["cert_checker/Verdict:Concludes", "stp_reader/Reads:Reads"],
+    "check": ["cert_checker/Verdict:ConcludesIn", "stp_reader/Reads:ReadsFile"],
     "verify": ["solution_reader/Stated:IsStated", "solution_reader/Reads:ReadsSolution", "stp_reader/Reads:Reads"],
     "solve": ["steiner_top/Headline:SolvesFile", "command_line/Words:command_of"],
     "headline": ["steiner_top/Headline:Headline", "command_line/Words:command_of"],
